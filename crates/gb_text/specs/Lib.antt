@@ -1,0 +1,4 @@
+pub mod Decimal
+pub mod Digits
+pub mod Folder
+pub mod Rules

@@ -1,0 +1,138 @@
+//! Folder words, cut into parts, and the paths of files below a folder.
+ghost use Rattle.std.specs.Prelude.{◌≡◌, ◌++◌, IfOk, OnOk, IsErrOf, map, true, false, filter, string_bytes, codes, if◌then◌else◌};
+ghost use Rattle.std.specs.List.{join_with_byte};
+ghost use Rattle.std.specs.Str.{bytes_eq};
+ghost use Rattle.gb_text.specs.Folder.{joined, parts_of, counts, goes_up, folder_text, is_bad_folder};
+
+use crate::{Memory, Text, is_line};
+use std::alloc::{AllocError, Global};
+use std::marker::Model;
+
+/// A normalised folder, which contracts see as its text: the parts with a slash between each
+/// two, behind a slash where the folder is rooted. Folders are compared by their words alone, so
+/// a link, or an absolute word beside a relative one, isn't seen as the same folder.
+#[derive(Debug, Drop)]
+pub struct Folder {
+    text: Text,
+}
+
+impl Model for Folder {
+    ghost use Rattle.std.specs.Prelude.{List, ℕ};
+
+    ghost Value = { List ℕ };
+
+    ghost view = { λ f. f.text };
+}
+
+/// Why a word gives no folder.
+#[derive(Clone, Copy, Debug, PartialEq, Eq)]
+pub enum FolderFault {
+    Memory,
+    /// The word is empty, or has a part `..` or a control character.
+    BadFolder,
+}
+
+impl From<AllocError> for FolderFault {
+    ghost use Rattle.std.specs.Prelude.{◌≡◌};
+    ghost use Rattle.gb_text.specs.declared.folder.FolderFault.TheVariants as fault;
+
+    ghost from_gives = { λ _ e. e ≡ fault.Memory };
+
+    fn from(_: AllocError) -> Self {
+        FolderFault::Memory
+    }
+}
+
+impl Folder {
+    ghost use Rattle.gb_text.specs.Folder.{folder_of, FolderAnswers};
+
+    /// Reads a folder word: cut at `/`, with empty parts and parts `.` dropped and a leading `/`
+    /// kept.
+    pub fn read(alloc: Global, word: &str) -> Result<Folder, FolderFault>
+        ensures { FolderAnswers (folder_of word.now) result }
+    {
+        if is_bad(word) {
+            return Err(FolderFault::BadFolder);
+        }
+        let parts = split_word(alloc, word)?;
+        let root = if word.as_bytes()[0] == b'/' { "/" } else { "" };
+        let text = join_parts(alloc, root, &parts)?;
+        Ok(Folder {
+            text: Text::from_string(text),
+        })
+    }
+
+    /// The path of a file below the folder: the folder's text, a slash where that text is neither
+    /// empty nor `/`, and the rest as it stands.
+    pub fn join(&self, alloc: Global, rest: &str) -> Result<Text, Memory>
+        ensures { IfOk result (λ path. path ≡ joined self.now rest.now) }
+    {
+        let mut path = String::from_str(alloc, self.text.as_str())?;
+        if !path.is_empty() && path.as_str() != "/" {
+            path.push_str("/")?;
+        }
+        path.push_str(rest)?;
+        Ok(Text::from_string(path))
+    }
+
+    /// The folder's text, without a slash at its end but in `/`.
+    pub fn as_str(&self) -> &str
+        ensures { result.now ≡ self.now }
+    {
+        self.text.as_str()
+    }
+}
+
+// Whether the word names no folder.
+fn is_bad(word: &str) -> bool
+    ensures { result ≡ is_bad_folder word.now }
+{
+    word.is_empty() || !is_line(word) || goes_up(word)
+}
+
+// Whether some part is `..`.
+fn goes_up(word: &str) -> bool
+    ensures { result ≡ goes_up (parts_of word.now) }
+{
+    word.split('/').any(|part| part == "..")
+}
+
+// The parts between slashes.
+fn split_word<'a>(alloc: Global, word: &'a str) -> Result<Vec<&'a str>, AllocError>
+    ensures { IfOk result (λ parts. map (λ part. part.now) parts.items ≡ parts_of word.now) }
+{
+    word.split('/').collect(alloc)
+}
+
+// The parts that count, with slashes between, behind a root.
+fn join_parts(alloc: Global, root: &str, parts: &[&str]) -> Result<String, AllocError>
+    ensures { IfOk result (λ text. string_bytes text ≡ root.now ++ join_with_byte 47 (filter counts (map (λ part. part.now) parts.now))) }
+{
+    let mut text = String::from_str(alloc, root)?;
+    let mut is_first = true;
+    for part in parts {
+        if !counts(part) {
+            continue;
+        }
+        push_part(&mut text, is_first, part)?;
+        is_first = false;
+    }
+    Ok(text)
+}
+
+// Adds a part, behind a slash unless it is the first.
+fn push_part(text: &mut String, is_first: bool, part: &str) -> Result<(), AllocError>
+    ensures { OnOk result (string_bytes text.new ≡ string_bytes text.old ++ (if is_first then part.now else codes "/" ++ part.now)) }
+{
+    if !is_first {
+        text.push_str("/")?;
+    }
+    text.push_str(part)?;
+    Ok(())
+}
+
+fn counts(part: &str) -> bool
+    ensures { result ≡ counts part.now }
+{
+    !(part.is_empty() || part == ".")
+}
