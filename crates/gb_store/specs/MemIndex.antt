@@ -1,0 +1,45 @@
+-- The index by path of a list of writes.
+use Rattle.std.specs.Prelude.{◌≡◌, ◌<◌, ◌==◌, ℕ, List, [], ◌∷◌, ◌++◌, length, reverse, Option, Some, None, is_some, slice_get, String, string_bytes, if◌then◌else◌}
+use Rattle.std.specs.List.{list_any}
+use Rattle.std.specs.Option.{option_and_then, option_to_list}
+use Rattle.std.specs.BTreeMap.{BTreeMap, get_by_text}
+use Rattle.std.specs.declared.alloc.Global.{Global}
+use Rattle.gb_store.specs.Files.{file_at}
+use Rattle.gb_store.specs.declared.store.Change.{Change}
+
+-- what follows a prefix of a list; none where the list does not begin with it
+abbrev pub after_prefix : List ℕ → List ℕ → Option (List ℕ)
+after_prefix [] text = Some text
+after_prefix (c ∷ cs) [] = None
+after_prefix (c ∷ cs) (d ∷ ds) = if c == d then after_prefix cs ds else None
+
+-- a name, which has no slash
+abbrev pub name_only : Option (List ℕ) → Option (List ℕ)
+name_only None = None
+name_only (Some name) = if list_any (λ c. c == 47) name then None else Some name
+
+-- the name of a path that is right in a folder
+abbrev pub name_of : List ℕ → List ℕ → Option (List ℕ)
+name_of dir path = name_only (after_prefix (dir ++ 47 ∷ []) path)
+
+-- the bytes of the write at an index
+abbrev pub bytes_at : List Change → ℕ → Option (List ℕ)
+bytes_at changes at = option_and_then (λ (change : Change). change.bytes) (slice_get changes at)
+
+-- the write of a path that counts is at this index, or there is none
+abbrev pub IsNewest : List Change → List ℕ → Option ℕ → Type 0
+IsNewest changes path None = file_at (reverse changes) path ≡ None
+IsNewest changes path (Some at) = (at < length changes) × (file_at (reverse changes) path ≡ bytes_at changes at)
+
+-- the index tells the write of each path that counts, of writes with the oldest first
+abbrev pub IsIndex : BTreeMap (String Global) ℕ → List Change → Type 0
+IsIndex latest changes = (path : List ℕ) → IsNewest changes path (get_by_text latest path)
+
+-- the name of an entry of the index that is right in a folder, and whose file stands
+abbrev pub entry_name : List Change → List ℕ → String Global × ℕ → Option (List ℕ)
+entry_name changes dir entry = if is_some (bytes_at changes entry.1) then name_of dir (string_bytes entry.0) else None
+
+-- the names of such entries
+abbrev pub listed : List Change → List ℕ → List (String Global × ℕ) → List (List ℕ)
+listed changes dir [] = []
+listed changes dir (entry ∷ entries) = option_to_list (entry_name changes dir entry) ++ listed changes dir entries

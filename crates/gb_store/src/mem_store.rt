@@ -1,0 +1,379 @@
+//! A store in memory: a list of writes, and an index of it by path.
+ghost use Rattle.std.specs.Prelude.{◌≡◌, ◌≤◌, is_some, ◌∷◌, ◌++◌, [], reverse, length, string_bytes, option_copied, IfOk, OnOk, OnErr, IsErrOf, IsSome, ◌==◌};
+ghost use Rattle.gb_store.specs.Files.{file_at, files_of, TellsFile, IsListing};
+ghost use Rattle.gb_store.specs.ObjectPath.{is_object_path};
+ghost use Rattle.gb_store.specs.Fails.{fail_at};
+ghost use Rattle.gb_store.specs.Counts.{raised};
+ghost use Rattle.gb_store.specs.Faults.{KeepsFaults};
+ghost use Rattle.gb_store.specs.MemIndex.{IsIndex, bytes_at, name_of};
+
+use crate::{Change, Content, Store, StoreFault};
+use gb_text::{Bytes, List, Memory, Text};
+use std::alloc::Global;
+use std::collections::BTreeMap;
+use std::marker::Model;
+
+/// A call that fails, counted from 0, with its write made or not.
+#[derive(Clone, Copy, Debug, PartialEq, Eq)]
+pub struct Fail {
+    pub call: u64,
+    pub after: bool,
+}
+
+#[derive(Drop)]
+pub struct MemStore {
+    // the oldest first
+    changes: Vec<Change>,
+    // where in `changes` the last write of each path is
+    latest: BTreeMap<String, usize>,
+    fails: List<Fail>,
+    calls: u64,
+    faults: u64,
+    reads: u64,
+}
+
+impl Model for MemStore {
+    ghost use Rattle.std.specs.Prelude.{reverse};
+    ghost use Rattle.gb_store.specs.Mem.{MemState};
+
+    ghost Value = { MemState };
+
+    ghost use Rattle.gb_store.specs.MemIndex.{IsIndex};
+
+    ghost view = { λ s. record { history = reverse s.changes.items; fails = s.fails; calls = s.calls; faults = s.faults; reads = s.reads } };
+
+    ghost invariant = { λ s. IsIndex s.latest s.changes.items };
+}
+
+impl MemStore {
+    ghost use Rattle.gb_store.specs.Mem.{fresh, begun, cut_to, has_no_fails, fault_count};
+
+    /// An empty store, whose listed calls fail.
+    pub fn new(alloc: Global, fails: List<Fail>) -> MemStore
+        ensures { result ≡ fresh fails }
+    {
+        MemStore {
+            changes: Vec::new(alloc),
+            latest: BTreeMap::new(alloc),
+            fails,
+            calls: 0,
+            faults: 0,
+            reads: 0,
+        }
+    }
+
+    pub fn faults(&self) -> u64
+        ensures { result ≡ self.now.faults }
+    {
+        self.faults
+    }
+
+    pub fn reads(&self) -> u64
+        ensures { result ≡ self.now.reads }
+    {
+        self.reads
+    }
+
+    pub fn writes(&self) -> u64
+        ensures { result ≡ length self.now.history }
+    {
+        self.changes.len() as u64
+    }
+
+    /// Keeps the first `count` writes.
+    pub fn cut(&mut self, alloc: Global, count: u64) -> Result<(), Memory>
+        ensures ok { OnOk result (self.new ≡ cut_to count self.old) }
+        ensures err { OnErr result (self.new ≡ self.old) }
+    {
+        let count = count as usize;
+        if count >= self.changes.len() {
+            return Ok(());
+        }
+        let latest = index_of(alloc, &self.changes[..count])?;
+        self.changes.truncate(count);
+        self.latest = latest;
+        Ok(())
+    }
+
+    // Counts a call, and a fault if it is listed.
+    fn begin(&mut self) -> Option<bool>
+        ensures fail { result ≡ fail_at self.old.calls self.old.fails }
+        ensures state { self.new ≡ begun self.old }
+        ensures caused { KeepsFaults has_no_fails fault_count (IsSome result) self.old self.new }
+    {
+        let call = self.calls;
+        let faults = self.faults;
+        let fail = find_fail(self.fails.as_slice(), call);
+        self.calls = call.saturating_add(1);
+        if fail.is_some() {
+            self.faults = faults.saturating_add(1);
+        }
+        fail
+    }
+
+    // What stands at a path.
+    fn content(&self, alloc: Global, path: &str, limit: u64) -> Result<Content, Memory>
+        ensures { IfOk result (TellsFile (file_at self.now.history path.now) limit) }
+    {
+        find(alloc, &self.changes, &self.latest, path, limit)
+    }
+
+    // The names right in a folder.
+    fn listing(&self, alloc: Global, dir: &str) -> Result<Vec<Text>, Memory>
+        ensures { IfOk result (λ names. IsListing (files_of self.now.history) dir.now names.items) }
+    {
+        names(alloc, &self.changes, &self.latest, dir)
+    }
+
+    // Counts an object read.
+    fn count_read(&mut self)
+        ensures { self.new ≡ record self.old { reads = raised self.old.reads } }
+    {
+        self.reads = self.reads.saturating_add(1);
+    }
+
+    // Adds a write.
+    fn add(&mut self, alloc: Global, path: &str, bytes: Option<Bytes>) -> Result<(), Memory>
+        ensures ok { OnOk result (self.new ≡ record self.old { history = record { path = path.now; bytes = bytes } ∷ self.old.history }) }
+        ensures err { OnErr result (self.new ≡ self.old) }
+    {
+        let key = String::from_str(alloc, path)?;
+        let change = Change {
+            path: Text::from_str(alloc, path)?,
+            bytes,
+        };
+        append(&mut self.changes, &mut self.latest, key, change)
+    }
+}
+
+impl Store for MemStore {
+    ghost use Rattle.std.specs.Prelude.{true, ◌==◌, length};
+    ghost use Rattle.gb_store.specs.Files.{IsWithin, Put, Removed};
+    ghost use Rattle.gb_store.specs.Mem.{begun, after_read, ReadAnswers, WriteAnswers, has_no_fails, fault_count};
+
+    ghost tells = { true };
+
+    ghost history = { λ s. s.history };
+
+    ghost faults = { fault_count };
+
+    ghost object_reads = { λ s. s.reads };
+
+    ghost never_fails = { has_no_fails };
+
+    fn read(&mut self, alloc: Global, path: &str, limit: u64) -> Result<Content, StoreFault>
+        ensures state { self.new ≡ after_read path.now self.old }
+        ensures answer { ReadAnswers self.old result (λ content. TellsFile (file_at self.old.history path.now) limit content) }
+        ensures within { IfOk result (IsWithin limit) }
+        ensures caused { KeepsFaults has_no_fails fault_count (IsErrOf result StoreFault.Failed) self.old self.new }
+    {
+        if is_object_path(path) {
+            self.count_read();
+        }
+        if self.begin().is_some() {
+            return Err(StoreFault::Failed);
+        }
+        Ok(self.content(alloc, path, limit)?)
+    }
+
+    fn list(&mut self, alloc: Global, dir: &str) -> Result<List<Text>, StoreFault>
+        ensures state { self.new ≡ begun self.old }
+        ensures answer { ReadAnswers self.old result (λ names. IsListing (files_of self.old.history) dir.now names) }
+        ensures caused { KeepsFaults has_no_fails fault_count (IsErrOf result StoreFault.Failed) self.old self.new }
+    {
+        if self.begin().is_some() {
+            return Err(StoreFault::Failed);
+        }
+        Ok(List::from_vec(self.listing(alloc, dir)?))
+    }
+
+    fn put(&mut self, alloc: Global, path: &str, bytes: &[u8]) -> Result<(), StoreFault>
+        ensures exact { WriteAnswers (Put path.now bytes.now) self.old self.new result }
+        ensures caused { KeepsFaults has_no_fails fault_count (IsErrOf result StoreFault.Failed) self.old self.new }
+    {
+        let fail = self.begin();
+        if fail == Some(false) {
+            return Err(StoreFault::Failed);
+        }
+        let bytes = Bytes::from_slice(alloc, bytes)?;
+        self.add(alloc, path, Some(bytes))?;
+        if fail.is_some() {
+            return Err(StoreFault::Failed);
+        }
+        Ok(())
+    }
+
+    fn remove(&mut self, alloc: Global, path: &str) -> Result<(), StoreFault>
+        ensures exact { WriteAnswers (Removed path.now) self.old self.new result }
+        ensures caused { KeepsFaults has_no_fails fault_count (IsErrOf result StoreFault.Failed) self.old self.new }
+    {
+        let fail = self.begin();
+        if fail == Some(false) {
+            return Err(StoreFault::Failed);
+        }
+        self.add(alloc, path, None)?;
+        if fail.is_some() {
+            return Err(StoreFault::Failed);
+        }
+        Ok(())
+    }
+}
+
+// The names of the files that stand right in a folder.
+fn names(
+    alloc: Global,
+    changes: &[Change],
+    latest: &BTreeMap<String, usize>,
+    dir: &str,
+) -> Result<Vec<Text>, Memory>
+    requires { IsIndex latest.now changes.now }
+    ensures { IfOk result (λ names. IsListing (files_of (reverse changes.now)) dir.now names.items) }
+{
+    let mut names = Vec::new(alloc);
+    let _ = latest.len();
+    for (path, at) in latest {
+        let Some(name) = name_in(dir, path.as_str()) else {
+            continue;
+        };
+        if stands(changes, *at) {
+            names.push(Text::from_str(alloc, name)?)?;
+        }
+    }
+    Ok(names)
+}
+
+// Whether the write at an index left a file.
+fn stands(changes: &[Change], at: usize) -> bool
+    ensures { result ≡ is_some (bytes_at changes.now at) }
+{
+    match changes.get(at) {
+        None => false,
+        Some(change) => change.bytes.is_some(),
+    }
+}
+
+// The name of a path that is right in a folder.
+fn name_in<'a>(dir: &str, path: &'a str) -> Option<&'a str>
+    ensures { option_copied result ≡ name_of dir.now path.now }
+{
+    let name = path.strip_prefix(dir)?.strip_prefix('/')?;
+    if name.as_bytes().contains(&b'/') {
+        return None;
+    }
+    Some(name)
+}
+
+// What the first entry for a call says.
+fn find_fail(fails: &[Fail], call: u64) -> Option<bool>
+    ensures { result ≡ fail_at call fails.now }
+{
+    let found = fails.iter().find(|f| f.call == call)?;
+    Some(found.after)
+}
+
+// Adds a write, and sets the index of its path. At want of memory nothing has changed.
+fn append(
+    changes: &mut Vec<Change>,
+    latest: &mut BTreeMap<String, usize>,
+    key: String,
+    change: Change,
+) -> Result<(), Memory>
+    requires index { IsIndex latest.old changes.old.items }
+    requires key { string_bytes key ≡ change.path }
+    ensures ok { OnOk result (changes.new.items ≡ changes.old.items ++ change ∷ []) }
+    ensures err { OnErr result (changes.new.items ≡ changes.old.items) }
+    ensures index { IsIndex latest.new changes.new.items }
+{
+    let at = changes.len();
+    changes.push(change)?;
+    if let Err(_) = latest.insert(key, at) {
+        let _ = changes.pop();
+        return Err(Memory);
+    }
+    Ok(())
+}
+
+// The index of a list of writes.
+fn index_of(alloc: Global, changes: &[Change]) -> Result<BTreeMap<String, usize>, Memory>
+    ensures { IfOk result (λ latest. IsIndex latest changes.now) }
+{
+    let mut latest = BTreeMap::new(alloc);
+    for (at, change) in changes.iter().enumerate() {
+        let key = String::from_str(alloc, change.path.as_str())?;
+        latest.insert(key, at)?;
+    }
+    Ok(latest)
+}
+
+// What the last write of a path left.
+fn find(
+    alloc: Global,
+    changes: &[Change],
+    latest: &BTreeMap<String, usize>,
+    path: &str,
+    limit: u64,
+) -> Result<Content, Memory>
+    requires { IsIndex latest.now changes.now }
+    ensures { IfOk result (TellsFile (file_at (reverse changes.now) path.now) limit) }
+{
+    let Some(bytes) = newest(changes, latest, path) else {
+        return Ok(Content::Absent);
+    };
+    let bytes = bytes.as_slice();
+    if bytes.len() as u64 <= limit {
+        Ok(Content::Whole(Bytes::from_slice(alloc, bytes)?))
+    } else {
+        Ok(Content::Long)
+    }
+}
+
+// The bytes that the last write of a path left there.
+fn newest<'a>(
+    changes: &'a [Change],
+    latest: &BTreeMap<String, usize>,
+    path: &str,
+) -> Option<&'a Bytes>
+    requires { IsIndex latest.now changes.now }
+    ensures { option_copied result ≡ file_at (reverse changes.now) path.now }
+{
+    let at = *latest.get(path)?;
+    let change = &changes[at];
+    change.bytes.as_ref()
+}
+
+/// Whether a path is that of an object.
+pub fn is_object_path(path: &str) -> bool
+    ensures { result ≡ is_object_path path.now }
+{
+    let path = path.as_bytes();
+    if path.len() < 49 {
+        return false;
+    }
+    let at = path.len() - 49;
+    if at > 0 && path[at - 1] != b'/' {
+        return false;
+    }
+    is_object_tail(&path[at..])
+}
+
+ghost use Rattle.gb_store.specs.ObjectPath.{is_object_tail};
+
+fn is_object_tail(tail: &[u8]) -> bool
+    requires { length tail.now ≡ 49 }
+    ensures { result ≡ is_object_tail tail.now }
+{
+    &tail[..8] == b"objects/".as_slice()
+        && are_digits(&tail[8..10])
+        && tail[10] == b'/'
+        && are_digits(&tail[11..])
+}
+
+ghost use Rattle.std.specs.List.{list_all};
+ghost use Rattle.hex.specs.Hex.{is_hex_digit};
+
+fn are_digits(text: &[u8]) -> bool
+    ensures { result ≡ list_all is_hex_digit text.now }
+{
+    text.iter()
+        .all(|b| matches!(*b, b'0'..=b'9' | b'a'..=b'f' | b'A'..=b'F'))
+}
