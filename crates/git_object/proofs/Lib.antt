@@ -1,0 +1,10 @@
+pub mod CutLaws
+pub mod LineLaws
+pub mod RepeatLaws
+pub mod ReadLaws
+pub mod CommitLaws
+pub mod DistinctLaws
+pub mod EntryLaws
+pub mod TreeLaws
+pub mod FrameLaws
+pub mod ObjectLaws
