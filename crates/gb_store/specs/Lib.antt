@@ -7,4 +7,5 @@ pub mod MemIndex
 pub mod MemSinkState
 pub mod Moments
 pub mod ObjectPath
+pub mod ObjectTail
 pub mod Writer

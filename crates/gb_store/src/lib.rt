@@ -4,6 +4,7 @@
 mod fault;
 mod mem_sink;
 mod mem_store;
+mod object_path;
 mod sink;
 mod store;
 mod write_sink;
@@ -11,6 +12,7 @@ mod write_sink;
 pub use fault::{SinkFault, StoreFault};
 pub use mem_sink::MemSink;
 pub use mem_store::{Fail, MemStore};
+pub use object_path::is_object_path;
 pub use sink::{Sink, write_whole};
 pub use store::{Change, Content, Store};
 pub use write_sink::WriteSink;

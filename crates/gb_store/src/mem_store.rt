@@ -1,12 +1,12 @@
 //! A store in memory: a list of writes, and an index of it by path.
 ghost use Rattle.std.specs.Prelude.{◌≡◌, ◌≤◌, is_some, ◌∷◌, ◌++◌, [], reverse, length, string_bytes, option_copied, IfOk, OnOk, OnErr, IsErrOf, IsSome, ◌==◌};
 ghost use Rattle.gb_store.specs.Files.{file_at, files_of, TellsFile, IsListing};
-ghost use Rattle.gb_store.specs.ObjectPath.{is_object_path};
 ghost use Rattle.gb_store.specs.Fails.{fail_at};
 ghost use Rattle.gb_store.specs.Counts.{raised};
 ghost use Rattle.gb_store.specs.Faults.{KeepsFaults};
 ghost use Rattle.gb_store.specs.MemIndex.{IsIndex, bytes_at, name_of};
 
+use crate::object_path::is_object_path;
 use crate::{Change, Content, Store, StoreFault};
 use gb_text::{Bytes, List, Memory, Text};
 use std::alloc::Global;
@@ -339,41 +339,4 @@ fn newest<'a>(
     let at = *latest.get(path)?;
     let change = &changes[at];
     change.bytes.as_ref()
-}
-
-/// Whether a path is that of an object.
-pub fn is_object_path(path: &str) -> bool
-    ensures { result ≡ is_object_path path.now }
-{
-    let path = path.as_bytes();
-    if path.len() < 49 {
-        return false;
-    }
-    let at = path.len() - 49;
-    if at > 0 && path[at - 1] != b'/' {
-        return false;
-    }
-    is_object_tail(&path[at..])
-}
-
-ghost use Rattle.gb_store.specs.ObjectPath.{is_object_tail};
-
-fn is_object_tail(tail: &[u8]) -> bool
-    requires { length tail.now ≡ 49 }
-    ensures { result ≡ is_object_tail tail.now }
-{
-    &tail[..8] == b"objects/".as_slice()
-        && are_digits(&tail[8..10])
-        && tail[10] == b'/'
-        && are_digits(&tail[11..])
-}
-
-ghost use Rattle.std.specs.List.{list_all};
-ghost use Rattle.hex.specs.Hex.{is_hex_digit};
-
-fn are_digits(text: &[u8]) -> bool
-    ensures { result ≡ list_all is_hex_digit text.now }
-{
-    text.iter()
-        .all(|b| matches!(*b, b'0'..=b'9' | b'a'..=b'f' | b'A'..=b'F'))
 }
