@@ -20,7 +20,7 @@ use Rattle.gb_store.specs.declared.store.Change.{Change}
 use Rattle.gb_store.specs.Files.{file_at, files_of, IsListing}
 use Rattle.gb_store.specs.MemIndex.{IsIndex, bytes_at, name_of, entry_name, listed}
 use Rattle.gb_store.proofs.NameLemmas.{name_of-is, name_of-at_slash}
-use Rattle.gb_store.proofs.MemLemmas.{IsNewest-some, IsNewest-none}
+use Rattle.gb_store.proofs.MemLemmas.{newest_is, absent_is}
 
 -- ---- order
 
@@ -119,17 +119,17 @@ IsListing-listed latest changes dir ordered index = record {
         let has = entry_name-is changes dir place.1 name place.3 in
         let form = name_of-is dir (string_bytes place.1.0) name has.1 in
         let got = btree_map_get_place string_cmp_total latest place.0 place.1.0 place.1.1 ordered place.2 in
-        let newest = IsNewest-some changes (string_bytes place.1.0) (get_by_text latest (string_bytes place.1.0)) place.1.1 (index (string_bytes place.1.0)) got in
+        let newest = newest_is latest changes index (string_bytes place.1.0) place.1.1 got in
         (form.1, ap is_some (ap (file_at (reverse changes)) (sym form.0) ∙ newest.1) ∙ has.0)
 
     found : (name : List ℕ) → list_any (λ c. c == 47) name ≡ false → IsSome (file_at (reverse changes) (dir ++ 47 ∷ name))
         → (o : Option ℕ) → get_by_text latest (dir ++ 47 ∷ name) ≡ o → Contains (listed changes dir latest.entries) name
     found name plain stands None e =
-        let none = IsNewest-none changes (dir ++ 47 ∷ name) (get_by_text latest (dir ++ 47 ∷ name)) (index (dir ++ 47 ∷ name)) e in
+        let none = absent_is latest changes index (dir ++ 47 ∷ name) e in
         let no : false ≡ true = sym (ap is_some none) ∙ stands in
         absurd (cc)
     found name plain stands (Some at) e =
-        let newest = IsNewest-some changes (dir ++ 47 ∷ name) (get_by_text latest (dir ++ 47 ∷ name)) at (index (dir ++ 47 ∷ name)) e in
+        let newest = newest_is latest changes index (dir ++ 47 ∷ name) at e in
         let place = place_from_lookup (λ k. is_eq (slice_cmp nat_cmp (dir ++ 47 ∷ name) (string_bytes k))) latest.entries at e in
         let same : dir ++ 47 ∷ name ≡ string_bytes place.1 = (bytes_eq-Decides (dir ++ 47 ∷ name) (string_bytes place.1)).0 (sym (is_eq-slice_cmp (dir ++ 47 ∷ name) (string_bytes place.1)) ∙ place.3) in
         listed-holds changes dir latest.entries place.0 (place.1, at) name place.2

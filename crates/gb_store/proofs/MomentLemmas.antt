@@ -1,8 +1,10 @@
 -- How a list of writes grows, and what holds at each of its moments.
-use Rattle.std.proofs.Common.{◌≡◌, ◌⊎◌, Bool, IsTrue, List, [], ◌∷◌, ◌++◌, length, sym, ◌∙◌, ap, subst, inl, inr, append_assoc, arith, length-append, refl}
+use Rattle.std.proofs.Common.{◌≡◌, ◌⊎◌, Bool, IsTrue, List, [], ◌∷◌, ◌++◌, length, sym, ◌∙◌, ap, subst, inl, inr, append_assoc, arith, length-append, refl, ℕ, ◌-◌, ◌≤◌, take, drop, reverse}
+use Rattle.std.proofs.lemmas.List.{append_cancel_right, drop-append-le, take-append-drop, reverse-append}
+use Rattle.std.proofs.Math.Seq.{drop-append_seam}
 use Rattle.gb_store.specs.declared.store.Change.{Change}
-use Rattle.gb_store.specs.Files.{History, Files, files_of}
-use Rattle.gb_store.specs.Moments.{MaybeWrote, EachWrite, Wrote, WroteIf, IsMoment, AllMoments}
+use Rattle.gb_store.specs.Files.{History, Files, files_of, written}
+use Rattle.gb_store.specs.Moments.{MaybeWrote, EachWrite, Wrote, WroteIf, WroteSome, IsMoment, AllMoments, first_writes}
 
 module _ (May : Files → Change → Type 0) where
   -- writes after writes
@@ -72,3 +74,76 @@ WroteIf_one tells May change old new may made = record { wrote = λ t. Wrote-one
 -- one call after another, in such a store
 pub WroteIf_then : (tells : Bool) (May : Files → Change → Type 0) (old mid new : History) → WroteIf tells May old mid → WroteIf tells May mid new → WroteIf tells May old new
 WroteIf_then tells May old mid new first then = record { wrote = λ t. Wrote-then May old mid new (first.wrote t) (then.wrote t) }
+
+-- ---- moments
+
+-- the writes before a moment
+pub Wrote-before : (May : Files → Change → Type 0) (old new moment : History) → Wrote May old new → IsMoment old new moment → Wrote May old moment
+Wrote-before May old new moment wrote at =
+    let whole : wrote.writes ++ old ≡ (at.later ++ at.done) ++ old = sym wrote.grew ∙ at.after ∙ ap (λ (h : History). at.later ++ h) at.before ∙ sym (append_assoc at.later at.done old) in
+    let writes : wrote.writes ≡ at.later ++ at.done = append_cancel_right wrote.writes (at.later ++ at.done) old whole in
+    record {
+      writes = at.done;
+      grew = at.before;
+      each = EachWrite-early May old at.done at.later (subst (λ (ws : List Change). EachWrite May old ws) writes wrote.each);
+    }
+
+-- the writes after a moment
+pub Wrote-after : (May : Files → Change → Type 0) (old new moment : History) → Wrote May old new → IsMoment old new moment → Wrote May moment new
+Wrote-after May old new moment wrote at =
+    let whole : wrote.writes ++ old ≡ (at.later ++ at.done) ++ old = sym wrote.grew ∙ at.after ∙ ap (λ (h : History). at.later ++ h) at.before ∙ sym (append_assoc at.later at.done old) in
+    let writes : wrote.writes ≡ at.later ++ at.done = append_cancel_right wrote.writes (at.later ++ at.done) old whole in
+    record {
+      writes = at.later;
+      grew = at.after;
+      each = subst (λ (h : History). EachWrite May h at.later) (sym at.before)
+          (EachWrite-late May old at.done at.later (subst (λ (ws : List Change). EachWrite May old ws) writes wrote.each));
+    }
+
+-- what each allowed write keeps holds at each moment
+pub AllMoments-from_Wrote : (May : Files → Change → Type 0) (Good : Files → Type 0)
+    → ((files : Files) (change : Change) → Good files → May files change → Good (written files change))
+    → (old new : History) → Good (files_of old) → Wrote May old new → AllMoments Good old new
+AllMoments-from_Wrote May Good keeps old new good wrote = record {
+  grew = record { later = wrote.writes; done = []; before = refl; after = wrote.grew };
+  each = λ moment at.
+      let first = Wrote-before May old new moment wrote at in
+      subst (λ (h : History). Good (files_of h)) (sym first.grew)
+          (EachWrite-keeps May Good (λ (ws : History) (change : Change). keeps (files_of ws) change) old first.writes good first.each);
+}
+
+-- a cut is a moment
+pub IsMoment-first_writes : (old new : History) (count : ℕ) → IsMoment old new old → length old ≤ count → count ≤ length new → IsMoment old new (first_writes count new)
+IsMoment-first_writes old new count at low high = record {
+  later = take (length new - count) new;
+  done = drop (length new - count) at.later;
+  before = ap (drop (length new - count)) at.after ∙ drop-append-le (length new - count) at.later old (omega (arith, ap length at.after, length-append at.later old));
+  after = sym (take-append-drop (length new - count) new);
+}
+
+-- a moment is a cut
+pub IsMoment-is : (old new moment : History) → IsMoment old new moment → moment ≡ first_writes (length moment) new
+IsMoment-is old new moment at =
+    let count : length new - length moment ≡ length at.later = omega (arith, ap length at.after, length-append at.later moment) in
+    sym (ap (λ (k : ℕ). drop k new) count ∙ ap (drop (length at.later)) at.after ∙ drop-append_seam at.later moment)
+
+-- ---- writes in order
+
+pub WroteSome-there : (writes : List Change) (old new : History) → WroteSome writes old new
+    → (done : List Change) × (later : List Change) × (writes ≡ done ++ later) × (new ≡ reverse done ++ old)
+WroteSome-there [] old new same = ([], [], refl, same)
+WroteSome-there (change ∷ rest) old new (inl same) = ([], change ∷ rest, refl, same)
+WroteSome-there (change ∷ rest) old new (inr some) =
+    let ih = WroteSome-there rest (change ∷ old) new some in
+    (change ∷ ih.0, ih.1, ap (λ (ws : List Change). change ∷ ws) ih.2,
+     ih.3 ∙ sym (ap (λ (ws : List Change). ws ++ old) (reverse-append (change ∷ []) ih.0) ∙ append_assoc (reverse ih.0) (change ∷ []) old))
+
+pub WroteSome-back : (writes : List Change) (old new : History) (done later : List Change) → writes ≡ done ++ later → new ≡ reverse done ++ old → WroteSome writes old new
+WroteSome-back [] old new [] later e grew = grew
+WroteSome-back [] old new (x ∷ done) later e grew = absurd (cc)
+WroteSome-back (change ∷ rest) old new [] later e grew = inl grew
+WroteSome-back (change ∷ rest) old new (x ∷ done) later e grew =
+    let same : change ≡ x = cc in
+    let tail : rest ≡ done ++ later = cc in
+    inr (WroteSome-back rest (change ∷ old) new done later tail
+         (grew ∙ ap (λ (ws : List Change). ws ++ old) (reverse-append (x ∷ []) done) ∙ append_assoc (reverse done) (x ∷ []) old ∙ ap (λ (c : Change). reverse done ++ c ∷ old) (sym same)))

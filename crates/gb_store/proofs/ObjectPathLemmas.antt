@@ -1,6 +1,6 @@
 -- Paths of objects, by their parts, by their form and by their last bytes.
 use Rattle.std.proofs.Common.{◌≡◌, ◌⊎◌, ℕ, ◌+◌, ◌*◌, ◌-◌, ◌<◌, ◌≤◌, ◌==◌, zero, suc, Bool, true, false, ◌&&◌, ◌||◌, cond, List, [], ◌∷◌, ◌++◌, length, take, drop, reverse, refl, sym, ◌∙◌, ap, subst, inl, inr, append-nil, append_assoc, arith, length-append, length-drop, drop-cons, get_or}
-use Rattle.std.specs.Prelude.{codes, slice_index, nat_le}
+use Rattle.std.specs.Prelude.{codes, slice_index, nat_le, is_some, ◌/◌, ◌%◌}
 use Rattle.std.proofs.Common.{eqb-true}
 use Rattle.std.proofs.lemmas.Grind.{common_steps}
 use Rattle.std.proofs.lemmas.List.{take-append-drop, take_more, reverse-append, reverse-reverse, length-take-le, drop-drop}
@@ -10,10 +10,14 @@ use Rattle.std.proofs.lemmas.Slice.Eq.{bytes_eq-Decides}
 use Rattle.std.proofs.Math.Seq.{drop-append_seam}
 use Rattle.std.specs.List.{list_all, slice_split, onto_first, join_with_byte}
 use Rattle.std.specs.Str.{bytes_eq}
-use Rattle.hex.specs.Hex.{is_hex_digit}
-use Rattle.gb_text.specs.Folder.{parts_of}
+use Rattle.std.proofs.lemmas.List.Folds.{list_all-append}
+use Rattle.hex.specs.Hex.{IsBytes, encode_lower, encode_with, is_hex_digit, lower_digits}
+use Rattle.hex.proofs.HexLemmas.{IsDigits-lower_digits, length-encode_with}
+use Rattle.gb_text.specs.Digits.{IsName}
+use Rattle.gb_text.specs.declared.id.Name.{Name}
+use Rattle.gb_text.specs.Folder.{parts_of, joint, joined}
 use Rattle.gb_text.proofs.FolderLemmas.{join_with_byte-first, join_with_byte-more}
-use Rattle.gb_store.specs.ObjectPath.{is_digits, ends_as_object, is_object_path, IsFront, IsObjectPath}
+use Rattle.gb_store.specs.ObjectPath.{is_digits, ends_as_object, is_object_path, IsFront, IsObjectPath, object_place}
 use Rattle.gb_store.specs.ObjectTail.{is_object_tail, has_object_tail}
 
 -- ---- parts
@@ -258,3 +262,49 @@ same_answer false false there back = refl
 pub has_object_tail-is : (path : List ℕ) → has_object_tail path ≡ is_object_path path
 has_object_tail-is path =
     same_answer (has_object_tail path) (is_object_path path) (λ has. is_object_path-form path (form_of_tail path has)) (λ is. has_object_tail-form path (form_of_parts path is))
+
+-- ---- the place of an object
+
+lower_digit_is_digit : (d : ℕ) → d < 16 → is_hex_digit (slice_index lower_digits d) ≡ true
+lower_digit_is_digit d lt = ap is_some (IsDigits-lower_digits d lt)
+
+encode_lower-digits : (bytes : List ℕ) → IsBytes bytes → list_all is_hex_digit (encode_lower bytes) ≡ true
+unfolding encode_with
+encode_lower-digits [] are = refl
+encode_lower-digits (b ∷ rest) are =
+    let fits : b < 256 = are 0 in
+    let high : b / 16 < 16 = omega arith in
+    let low : b % 16 < 16 = omega arith in
+    three (is_hex_digit (slice_index lower_digits (b / 16))) (is_hex_digit (slice_index lower_digits (b % 16))) (list_all is_hex_digit (encode_lower rest))
+    (lower_digit_is_digit (b / 16) high) (lower_digit_is_digit (b % 16) low) (encode_lower-digits rest (λ k. are (suc k)))
+
+front_joint : (folder : List ℕ) → IsFront (folder ++ joint folder)
+front_joint folder = each (bytes_eq folder (codes "")) refl (bytes_eq folder (codes "/")) refl
+  where
+    each : (a : Bool) → bytes_eq folder (codes "") ≡ a → (b : Bool) → bytes_eq folder (codes "/") ≡ b → IsFront (folder ++ joint folder)
+    each true e b f =
+        let none : folder ≡ [] = (bytes_eq-Decides folder (codes "")).0 e in
+        inl (ap (λ (t : List ℕ). t ++ joint t) none)
+    each false e true f =
+        let root : folder ≡ codes "/" = (bytes_eq-Decides folder (codes "/")).0 f in
+        inr ([], ap (λ (t : List ℕ). t ++ joint t) root)
+    each false e false f = inr (folder, rw (e, f) refl)
+
+-- what stands below a folder at the place of an object
+pub object_place-form : (folder : List ℕ) (name : Name) → IsName name → IsObjectPath (joined folder (object_place name))
+object_place-form folder name is =
+    let text = encode_lower name.bytes in
+    let digits : list_all is_hex_digit text ≡ true = encode_lower-digits name.bytes is.bytes in
+    let size : length text ≡ 40 = length-encode_with lower_digits name.bytes ∙ ap (λ (n : ℕ). 2 * n) is.sized in
+    let parts = both (list_all is_hex_digit (take 2 text)) (list_all is_hex_digit (drop 2 text)) (sym (list_all-append is_hex_digit (take 2 text) (drop 2 text)) ∙ ap (list_all is_hex_digit) (take-append-drop 2 text) ∙ digits) in
+    let fan : length (take 2 text) ≡ 2 = length-take-le 2 text (omega arith) in
+    let rest : length (drop 2 text) ≡ 38 = omega (arith, length-drop 2 text) in
+    record {
+      front = folder ++ joint folder;
+      fan = take 2 text;
+      rest = drop 2 text;
+      begins = front_joint folder;
+      fan_digits = ap (λ (n : ℕ). (n == 2) && list_all is_hex_digit (take 2 text)) fan ∙ parts.0;
+      rest_digits = ap (λ (n : ℕ). (n == 38) && list_all is_hex_digit (drop 2 text)) rest ∙ parts.1;
+      is = simp append_assoc;
+    }

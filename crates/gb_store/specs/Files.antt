@@ -34,6 +34,10 @@ file_at (change ∷ earlier) path = if bytes_eq change.path path then change.byt
 abbrev pub files_of : History → Files
 files_of history = λ path. file_at history path
 
+-- these files after a write
+abbrev pub written : Files → Change → Files
+written files change = λ path. if bytes_eq change.path path then change.bytes else files path
+
 -- the answer to a read of a file, or of none
 abbrev pub TellsFile : Option (List ℕ) → ℕ → Content → Type 0
 TellsFile file limit Absent = file ≡ None

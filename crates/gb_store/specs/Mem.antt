@@ -6,6 +6,7 @@ use Rattle.gb_store.specs.declared.fault.StoreFault.TheVariants as store
 use Rattle.gb_store.specs.Counts.{raised}
 use Rattle.gb_store.specs.Fails.{fail_at}
 use Rattle.gb_store.specs.Files.{History}
+use Rattle.gb_store.specs.Moments.{first_writes}
 use Rattle.gb_store.specs.ObjectPath.{reads_after}
 use Rattle.gb_store.specs.declared.mem_store.Fail.{Fail}
 
@@ -42,7 +43,7 @@ added change s = record s { history = change ∷ s.history }
 
 -- the first writes alone, as many as the count says
 abbrev pub cut_to : ℕ → MemState → MemState
-cut_to count s = record s { history = drop (length s.history - count) s.history }
+cut_to count s = record s { history = first_writes count s.history }
 
 -- a call that only reads fails exactly where it is listed
 abbrev pub ReadAnswers : {T : Type 0} → MemState → Result T StoreFault → (T → Type 0) → Type 0

@@ -4,7 +4,7 @@ use Rattle.std.specs.List.{list_any}
 use Rattle.std.specs.Option.{option_and_then, option_to_list}
 use Rattle.std.specs.BTreeMap.{BTreeMap, get_by_text}
 use Rattle.std.specs.declared.alloc.Global.{Global}
-use Rattle.gb_store.specs.Files.{file_at}
+use Rattle.std.specs.Str.{bytes_eq}
 use Rattle.gb_store.specs.declared.store.Change.{Change}
 
 -- what follows a prefix of a list; none where the list does not begin with it
@@ -26,14 +26,14 @@ name_of dir path = name_only (after_prefix (dir ++ 47 ∷ []) path)
 abbrev pub bytes_at : List Change → ℕ → Option (List ℕ)
 bytes_at changes at = option_and_then (λ (change : Change). change.bytes) (slice_get changes at)
 
--- the write of a path that counts is at this index, or there is none
-abbrev pub IsNewest : List Change → List ℕ → Option ℕ → Type 0
-IsNewest changes path None = file_at (reverse changes) path ≡ None
-IsNewest changes path (Some at) = (at < length changes) × (file_at (reverse changes) path ≡ bytes_at changes at)
+-- where the last write of a path is, counted from the oldest; none where no write is of it
+abbrev pub newest_in : List Change → List ℕ → Option ℕ
+newest_in [] path = None
+newest_in (change ∷ earlier) path = if bytes_eq change.path path then Some (length earlier) else newest_in earlier path
 
--- the index tells the write of each path that counts, of writes with the oldest first
+-- the index tells where the last write of each path is, of writes with the oldest first
 abbrev pub IsIndex : BTreeMap (String Global) ℕ → List Change → Type 0
-IsIndex latest changes = (path : List ℕ) → IsNewest changes path (get_by_text latest path)
+IsIndex latest changes = (path : List ℕ) → get_by_text latest path ≡ newest_in (reverse changes) path
 
 -- the name of an entry of the index that is right in a folder, and whose file stands
 abbrev pub entry_name : List Change → List ℕ → String Global × ℕ → Option (List ℕ)

@@ -1,5 +1,5 @@
 -- The writes of a call, and the moments between them.
-use Rattle.std.specs.Prelude.{◌≡◌, ◌⊎◌, Bool, IsTrue, List, [], ◌∷◌, ◌++◌, ⊤}
+use Rattle.std.specs.Prelude.{◌≡◌, ◌⊎◌, Bool, IsTrue, List, [], ◌∷◌, ◌++◌, length, drop, ◌-◌, ℕ, ⊤}
 use Rattle.gb_store.specs.declared.store.Change.{Change}
 use Rattle.gb_store.specs.Files.{History, Files, files_of}
 
@@ -26,6 +26,10 @@ pub record WroteIf (tells : Bool) (May : Files → Change → Type 0) (old new :
 abbrev pub WroteSome : List Change → History → History → Type 0
 WroteSome [] old new = new ≡ old
 WroteSome (change ∷ later) old new = (new ≡ old) ⊎ WroteSome later (change ∷ old) new
+
+-- the first writes alone, as many as the count says; all of them where there are fewer
+abbrev pub first_writes : ℕ → History → History
+first_writes count history = drop (length history - count) history
 
 -- a moment of a call: the first of its writes were made, and the later ones not
 pub record IsMoment (old new moment : History) : Type 0 where
