@@ -1,0 +1,70 @@
+-- The log of a bug: a line for each commit of its chain, from the root to the head.
+use Rattle.std.specs.Prelude.{◌≡◌, ◌≤◌, ◌⊎◌, ⊤, ℕ, List, [], ◌∷◌, ◌++◌, length, map, codes, decimal, Option, Some, None, IsSome, Result, Ok, Err, option_and_then}
+use Rattle.std.specs.List.{flat_map}
+use Rattle.std.specs.List.Sorted.{IsStrictlyIncreasing}
+use Rattle.hex.specs.Hex.{encode_lower}
+use Rattle.gb_text.specs.declared.id.Name.{Name}
+use Rattle.gb_text.specs.Digits.{id_of}
+use Rattle.gb_text.specs.Folder.{joined}
+use Rattle.gb_store.specs.Files.{Files}
+use Rattle.object_store.specs.Held.{Objects, objects_in}
+use Rattle.ref_store.specs.Refs.{Head, Absent, Bad, ref_at}
+use Rattle.bug_run.specs.Objects.{tree_at}
+use Rattle.bug_run.specs.Clocks.{edit_clock_of}
+use Rattle.bug_run.specs.Walk.{Walked, MeetsMerge, FaultHolds}
+use Rattle.bug_run.specs.declared.walk.Met.{Met}
+use Rattle.bug_run.specs.declared.log.Step.{Step}
+use Rattle.bug_run.specs.declared.fault.WalkFault.{WalkFault}
+use Rattle.bug_run.specs.declared.status.Refusal.TheVariants as refusal
+use Rattle.bug_run.specs.declared.status.Stop.{Stop}
+use Rattle.bug_run.specs.declared.status.Stop.TheVariants as stop
+
+-- the steps are these commits, each with the edit clock of its tree
+abbrev pub Clocked : Objects → List Met → List Step → Type 0
+Clocked objects [] [] = ⊤
+Clocked objects [] (step ∷ steps) = ⊥
+Clocked objects (met ∷ mets) [] = ⊥
+Clocked objects (met ∷ mets) (step ∷ steps) =
+    (step.name ≡ met.name) × (option_and_then edit_clock_of (tree_at objects met.tree) ≡ Some step.clock) × Clocked objects mets steps
+
+-- the commits of a chain with their edit clocks, from the root to the head: at most 65,536, each clock above the one before
+pub record IsLog (objects : Objects) (head : Name) (steps : List Step) : Type 0 where
+  pub walk : List Met
+  pub walked : Walked objects head walk
+  pub count : length walk ≤ 65536
+  pub clocked : Clocked objects walk steps
+  pub rising : IsStrictlyIncreasing (map (λ step. step.clock) steps)
+
+-- the line of a commit: its edit clock, a space, its name
+abbrev pub log_line : Step → List ℕ
+log_line step = decimal step.clock ++ codes " " ++ encode_lower step.name.bytes ++ codes "\n"
+
+-- the lines
+abbrev pub log_text_of : List Step → List ℕ
+log_text_of steps = flat_map log_line steps
+
+-- where the ref of a bug stands below its folder
+abbrev pub bug_ref : List ℕ → List ℕ
+bug_ref bug = codes "refs/bugs/" ++ bug
+
+-- why the log of a bug is damaged: its file is no ref text, or the walk from its head meets no merge and has a fault
+abbrev pub IsDamagedBug : Files → List ℕ → List ℕ → Type 0
+IsDamagedBug files folder bug =
+    (ref_at files folder (bug_ref bug) ≡ Bad)
+    ⊎ ((head : Name) × (ref_at files folder (bug_ref bug) ≡ Head head)
+        × ((name : Name) → MeetsMerge (objects_in files folder) head name → ⊥)
+        × (fault : WalkFault) × FaultHolds (objects_in files folder) head fault)
+
+-- the answer to `log`, each with what is so of the files; want of memory and faults of the disk have no cause here
+abbrev pub LogAnswers : Files → List ℕ → List ℕ → Result (List ℕ) Stop → Type 0
+LogAnswers files folder bug (Ok text) =
+    IsSome (id_of bug) × (head : Name) × (ref_at files folder (bug_ref bug) ≡ Head head)
+    × (steps : List Step) × IsLog (objects_in files folder) head steps × (text ≡ log_text_of steps)
+LogAnswers files folder bug (Err stop.Memory) = ⊤
+LogAnswers files folder bug (Err stop.Disk) = ⊤
+LogAnswers files folder bug (Err (stop.Refused refusal.BadFolder)) = ⊥
+LogAnswers files folder bug (Err (stop.Refused refusal.NotFound)) = (id_of bug ≡ None) ⊎ (ref_at files folder (bug_ref bug) ≡ Absent)
+LogAnswers files folder bug (Err (stop.Refused (refusal.MergeCommit name))) =
+    IsSome (id_of bug) × (head : Name) × (ref_at files folder (bug_ref bug) ≡ Head head) × MeetsMerge (objects_in files folder) head name
+LogAnswers files folder bug (Err (stop.Refused (refusal.Damaged path))) =
+    IsSome (id_of bug) × (path ≡ joined folder (bug_ref bug)) × IsDamagedBug files folder bug

@@ -1,0 +1,63 @@
+//! What may be wrong on the walk of a bug's commits, and why the walk stopped.
+use gb_text::{Memory, Name};
+use object_store::ObjFault;
+use std::alloc::{AllocError, AllocFailed};
+
+/// What is wrong with a bug's commits.
+#[derive(Clone, Copy, Debug, PartialEq, Eq)]
+pub enum WalkFault {
+    /// No file stands under this name of a commit or of its tree.
+    Missing(Name),
+    /// The file under this name is no object text with that SHA-1.
+    Damaged(Name),
+    /// The file under this name has more than 4,194,304 bytes.
+    Large(Name),
+    /// The head or a parent names this object, which is no commit.
+    NotCommit(Name),
+    /// The tree of this commit is no tree.
+    BadTree(Name),
+    /// The tree of this commit has not just one good edit clock.
+    BadClock(Name),
+    /// The clock of this commit is not above that of its parent.
+    ClockOrder(Name, Name),
+    /// There are more than 65,536 commits.
+    TooLong,
+}
+
+/// Why the walk of a bug's commits gave none.
+#[derive(Clone, Copy, Debug, PartialEq, Eq)]
+pub enum WalkStop {
+    Memory,
+    Disk,
+    /// The walk met this commit, which has two parents or more.
+    Merge(Name),
+    Fault(WalkFault),
+}
+
+impl From<ObjFault> for WalkStop {
+    ghost use Rattle.std.specs.Prelude.{◌≡◌};
+    ghost use Rattle.bug_run.specs.Stops.{stop_of};
+
+    ghost from_gives = { λ fault e. e ≡ stop_of fault };
+
+    fn from(fault: ObjFault) -> Self {
+        match fault {
+            ObjFault::Memory => WalkStop::Memory,
+            ObjFault::Disk => WalkStop::Disk,
+            ObjFault::Missing(name) => WalkStop::Fault(WalkFault::Missing(name)),
+            ObjFault::Damaged(name) => WalkStop::Fault(WalkFault::Damaged(name)),
+            ObjFault::Large(name) => WalkStop::Fault(WalkFault::Large(name)),
+        }
+    }
+}
+
+impl<T: Drop> From<AllocFailed<T>> for WalkStop {
+    ghost use Rattle.std.specs.Prelude.{◌≡◌};
+    ghost use Rattle.bug_run.specs.declared.fault.WalkStop.TheVariants as stop;
+
+    ghost from_gives = { λ _ e. e ≡ stop.Memory };
+
+    fn from(_: AllocFailed<T>) -> Self {
+        WalkStop::Memory
+    }
+}
