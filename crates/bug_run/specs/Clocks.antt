@@ -1,13 +1,14 @@
 -- The edit clock that a tree's entries give.
-use Rattle.std.specs.Prelude.{ℕ, ◌^◌, ◌-◌, ◌&&◌, nat_le, nat_eq, if◌then◌else◌, List, [], ◌∷◌, length, drop, codes, Option, Some, None}
-use Rattle.std.specs.List.{filter_map, starts_with}
+use Rattle.std.specs.Prelude.{ℕ, ◌^◌, ◌-◌, ◌&&◌, nat_le, if◌then◌else◌, List, [], ◌∷◌, length, take, drop, codes, Option, Some, None}
+use Rattle.std.specs.List.{filter_map}
+use Rattle.std.specs.Str.{bytes_eq}
 use Rattle.gb_text.specs.Decimal.{decimal_of}
 use Rattle.git_object.specs.declared.entry.Entry.{Entry}
 use Rattle.git_object.specs.declared.tree.Tree.{Tree}
 
 -- what follows a front in an entry's name, if the name begins so
 abbrev pub rest_after : List ℕ → Entry → Option (List ℕ)
-rest_after front e = if starts_with nat_eq e.name front then Some (drop (length front) e.name) else None
+rest_after front e = if bytes_eq (take (length front) e.name) front then Some (drop (length front) e.name) else None
 
 -- what follows a front in each of the names that begin so
 abbrev pub rests_after : List ℕ → List Entry → List (List ℕ)
