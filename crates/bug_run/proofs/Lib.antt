@@ -1,3 +1,5 @@
+pub mod AnswerLemmas
 pub mod ClockLemmas
+pub mod LogLemmas
 pub mod StepLemmas
 pub mod WalkLemmas

@@ -1,5 +1,5 @@
 -- The answers to the parts of the walk, each with what is so of the objects.
-use Rattle.std.specs.Prelude.{◌≡◌, ◌≤◌, ⊤, ℕ, List, [], ◌∷◌, length, Vec, Option, Some, None, Result, Ok, Err, option_and_then}
+use Rattle.std.specs.Prelude.{◌≡◌, ◌<◌, ◌≤◌, ◌+◌, ⊤, ℕ, Contains, slice_index_or, List, [], ◌∷◌, length, Vec, Option, Some, None, Result, Ok, Err, option_and_then}
 use Rattle.std.specs.declared.alloc.Global.{Global}
 use Rattle.gb_text.specs.declared.id.Name.{Name}
 use Rattle.git_object.specs.declared.commit.Commit.{Commit}
@@ -8,6 +8,7 @@ use Rattle.git_object.specs.declared.object.Object.{Object}
 use Rattle.object_store.specs.Held.{Objects, object_at, IsDamaged, IsLarge}
 use Rattle.bug_run.specs.Objects.{as_commit, as_tree, commit_at, tree_at}
 use Rattle.bug_run.specs.Clocks.{edit_clock_of}
+use Rattle.bug_run.specs.Log.{Clocked, Rises, IsLog}
 use Rattle.bug_run.specs.Walk.{IsCommit, Walked, MeetsMerge, FaultHolds}
 use Rattle.bug_run.specs.declared.walk.Met.{Met}
 use Rattle.bug_run.specs.declared.log.Step.{Step}
@@ -87,3 +88,31 @@ ClockAnswers objects met (Err stop.Memory) = ⊤
 ClockAnswers objects met (Err stop.Disk) = ⊤
 ClockAnswers objects met (Err (stop.Merge n)) = ⊥
 ClockAnswers objects met (Err (stop.Fault f)) = HasNoClock objects met f
+
+-- a commit among these has no edit clock
+abbrev pub SomeHasNoClock : Objects → List Met → WalkFault → Type 0
+SomeHasNoClock objects walk f = (met : Met) × Contains walk met × HasNoClock objects met f
+
+abbrev pub ClocksAnswers : Objects → List Met → Result (Vec Step Global) WalkStop → Type 0
+ClocksAnswers objects walk (Ok steps) = Clocked objects walk steps.items
+ClocksAnswers objects walk (Err stop.Memory) = ⊤
+ClocksAnswers objects walk (Err stop.Disk) = ⊤
+ClocksAnswers objects walk (Err (stop.Merge n)) = ⊥
+ClocksAnswers objects walk (Err (stop.Fault f)) = SomeHasNoClock objects walk f
+
+-- a commit whose clock is not above that of the one before it
+abbrev pub Falls : List Step → WalkFault → Type 0
+Falls steps f =
+    (k : ℕ) × (d : Step) × (k + 1 < length steps) × (f ≡ fault.ClockOrder (slice_index_or steps (k + 1) d).name (slice_index_or steps k d).name)
+    × ((slice_index_or steps (k + 1) d).clock ≤ (slice_index_or steps k d).clock)
+
+abbrev pub RisingAnswers : List Step → Result Unit WalkStop → Type 0
+RisingAnswers steps (Ok _) = Rises steps
+RisingAnswers steps (Err stop.Memory) = ⊥
+RisingAnswers steps (Err stop.Disk) = ⊥
+RisingAnswers steps (Err (stop.Merge n)) = ⊥
+RisingAnswers steps (Err (stop.Fault f)) = Falls steps f
+
+abbrev pub StepsAnswers : Objects → Name → Result (Vec Step Global) WalkStop → Type 0
+StepsAnswers objects head (Ok steps) = IsLog objects head steps.items
+StepsAnswers objects head (Err s) = WalkRefused objects head s

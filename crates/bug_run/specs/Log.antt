@@ -1,7 +1,6 @@
 -- The log of a bug: a line for each commit of its chain, from the root to the head.
-use Rattle.std.specs.Prelude.{◌≡◌, ◌≤◌, ◌⊎◌, ⊤, ℕ, List, [], ◌∷◌, ◌++◌, length, map, codes, decimal, Option, Some, None, IsSome, Result, Ok, Err, option_and_then}
-use Rattle.std.specs.List.{flat_map}
-use Rattle.std.specs.List.Sorted.{IsStrictlyIncreasing}
+use Rattle.std.specs.Prelude.{◌≡◌, ◌<◌, ◌≤◌, ◌⊎◌, ⊤, ℕ, List, [], ◌∷◌, ◌++◌, length, codes, decimal, Option, Some, None, IsSome, Result, Ok, Err, option_and_then}
+use Rattle.std.specs.List.{flat_map, AllAdjacentBelow}
 use Rattle.hex.specs.Hex.{encode_lower}
 use Rattle.gb_text.specs.declared.id.Name.{Name}
 use Rattle.gb_text.specs.Digits.{id_of}
@@ -27,13 +26,17 @@ Clocked objects (met ∷ mets) [] = ⊥
 Clocked objects (met ∷ mets) (step ∷ steps) =
     (step.name ≡ met.name) × (option_and_then edit_clock_of (tree_at objects met.tree) ≡ Some step.clock) × Clocked objects mets steps
 
+-- each clock is below the next
+abbrev pub Rises : List Step → Type 0
+Rises steps = AllAdjacentBelow (λ below above. below.clock < above.clock) steps (length steps)
+
 -- the commits of a chain with their edit clocks, from the root to the head: at most 65,536, each clock above the one before
 pub record IsLog (objects : Objects) (head : Name) (steps : List Step) : Type 0 where
   pub walk : List Met
   pub walked : Walked objects head walk
   pub count : length walk ≤ 65536
   pub clocked : Clocked objects walk steps
-  pub rising : IsStrictlyIncreasing (map (λ step. step.clock) steps)
+  pub rising : Rises steps
 
 -- the line of a commit: its edit clock, a space, its name
 abbrev pub log_line : Step → List ℕ
@@ -54,6 +57,18 @@ IsDamagedBug files folder bug =
     ⊎ ((head : Name) × (ref_at files folder (bug_ref bug) ≡ Head head)
         × ((name : Name) → MeetsMerge (objects_in files folder) head name → ⊥)
         × (fault : WalkFault) × FaultHolds (objects_in files folder) head fault)
+
+-- the log of the bug whose ref stands at a place and names this head, or why there is none
+abbrev pub WalkTold : Files → List ℕ → List ℕ → Name → Result (List ℕ) Stop → Type 0
+WalkTold files folder place head (Ok text) = (steps : List Step) × IsLog (objects_in files folder) head steps × (text ≡ log_text_of steps)
+WalkTold files folder place head (Err stop.Memory) = ⊤
+WalkTold files folder place head (Err stop.Disk) = ⊤
+WalkTold files folder place head (Err (stop.Refused refusal.BadFolder)) = ⊥
+WalkTold files folder place head (Err (stop.Refused refusal.NotFound)) = ⊥
+WalkTold files folder place head (Err (stop.Refused (refusal.MergeCommit name))) = MeetsMerge (objects_in files folder) head name
+WalkTold files folder place head (Err (stop.Refused (refusal.Damaged path))) =
+    (path ≡ joined folder place) × ((name : Name) → MeetsMerge (objects_in files folder) head name → ⊥)
+    × (fault : WalkFault) × FaultHolds (objects_in files folder) head fault
 
 -- the answer to `log`, each with what is so of the files; want of memory and faults of the disk have no cause here
 abbrev pub LogAnswers : Files → List ℕ → List ℕ → Result (List ℕ) Stop → Type 0

@@ -4,6 +4,7 @@
 mod clock;
 mod fault;
 mod log;
+mod name;
 mod status;
 mod walk;
 
