@@ -1,6 +1,9 @@
 -- The command that words give.
 use Rattle.std.specs.Prelude.{ℕ, if◌then◌else◌, List, [], ◌∷◌, codes, Option, Some, None}
 use Rattle.std.specs.Str.{bytes_eq}
+use Rattle.bug_run.specs.declared.words.Command.{Command as Read}
+use Rattle.bug_run.specs.declared.words.Command.TheVariants as read
+use Rattle.bug_run.specs.declared.words.Request.{Request as ReadRequest}
 
 -- a command, with its arguments
 pub data Command : Type 0 where
@@ -25,3 +28,11 @@ for_folder folder None = None
 abbrev pub request_of : List (List ℕ) → Option Request
 request_of (folder ∷ name ∷ arguments) = for_folder folder (command_of name arguments)
 request_of _ = None
+
+-- a command that was read, by the texts of its arguments
+abbrev pub command_asked : Read → Command
+command_asked (read.Log bug) = Log bug.now
+
+-- a request that was read, by its texts
+abbrev pub asked : ReadRequest → Request
+asked request = record { folder = request.folder.now; command = command_asked request.command }

@@ -5,8 +5,17 @@ mod clock;
 mod fault;
 mod log;
 mod name;
+mod print;
+mod refusal;
+
 mod status;
+mod top;
 mod walk;
+mod words;
 
 pub use fault::WalkFault;
+pub use top::run;
 pub use status::{Refusal, Status, Stop};
+
+#[cfg(test)]
+mod tests;

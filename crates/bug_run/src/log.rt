@@ -34,6 +34,7 @@ pub fn log<S: Store>(
     bug: &str,
 ) -> Result<Text, Stop>
     ensures answers { IsTrue S.tells → LogAnswers (files_of (S.history disk.old)) folder.now bug.now result }
+    ensures folder { IsErrOf result (Stop.Refused Refusal.BadFolder) → ⊥ }
     ensures unwritten { IsTrue S.tells → S.history disk.new ≡ S.history disk.old }
     ensures caused { KeepsFaults S.never_fails S.faults (IsErrOf result Stop.Disk) disk.old disk.new }
 {
@@ -68,6 +69,7 @@ fn log_from<S: Store>(
     head: &Name,
 ) -> Result<Text, Stop>
     ensures answers { IsTrue S.tells → WalkTold (files_of (S.history disk.old)) folder.now place.now head.now result }
+    ensures folder { IsErrOf result (Stop.Refused Refusal.BadFolder) → ⊥ }
     ensures unwritten { IsTrue S.tells → S.history disk.new ≡ S.history disk.old }
     ensures caused { KeepsFaults S.never_fails S.faults (IsErrOf result Stop.Disk) disk.old disk.new }
 {
