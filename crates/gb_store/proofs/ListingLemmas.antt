@@ -11,7 +11,10 @@ use Rattle.std.specs.Cmp.Lexicographic.{slice_cmp}
 use Rattle.std.specs.List.{list_any, slice_get, AllByRecursion}
 use Rattle.std.specs.List.Sorted.{IsStrictlySortedBy}
 use Rattle.std.specs.Option.{option_to_list}
-use Rattle.std.specs.Ordering.{nat_cmp, is_eq, ordering_then}
+use Rattle.std.specs.BTreeMap.Range.{entries_between, range_contains}
+use Rattle.std.specs.Ordering.{nat_cmp, is_eq, is_gt, is_le, ordering_then}
+use Rattle.std.specs.declared.ops.Bound.{Bound}
+use Rattle.std.specs.declared.ops.Bound.TheVariants.{Included, Excluded}
 use Rattle.std.specs.String.{string_cmp, string_cmp_total}
 use Rattle.std.specs.declared.alloc.Global.{Global}
 use Rattle.std.specs.declared.cmp.Ordering.{Ordering}
@@ -137,3 +140,46 @@ IsListing-listed latest changes dir ordered index = record {
 
     back : (name : List ℕ) → (list_any (λ c. c == 47) name ≡ false) × IsSome (file_at (reverse changes) (dir ++ 47 ∷ name)) → Contains (listed changes dir latest.entries) name
     back name h = found name h.0 h.1 (get_by_text latest (dir ++ 47 ∷ name)) refl
+
+-- ---- the part of the index that lies below a folder
+
+slice_cmp-longer : (name : List ℕ) → is_le (slice_cmp nat_cmp [] name) ≡ true
+slice_cmp-longer [] = refl
+slice_cmp-longer (c ∷ cs) = refl
+
+-- a path right in a folder lies between the folder's path with a slash and with the byte after it
+between_bounds : (dir name : List ℕ) (start end path : String Global) → string_bytes start ≡ dir ++ 47 ∷ [] → string_bytes end ≡ dir ++ 48 ∷ []
+    → string_bytes path ≡ dir ++ 47 ∷ name → range_contains string_cmp (Included start) (Excluded end) path ≡ true
+between_bounds dir name start end path s e p =
+    let low : is_le (string_cmp start path) ≡ true =
+    ap is_le (ap (λ (t : List ℕ). slice_cmp nat_cmp t (string_bytes path)) s ∙ ap (λ (t : List ℕ). slice_cmp nat_cmp (dir ++ 47 ∷ []) t) p ∙ slice_cmp-append dir (47 ∷ []) (47 ∷ name)) ∙ slice_cmp-longer name in
+    let high : is_le (string_cmp end path) ≡ false =
+    ap is_le (ap (λ (t : List ℕ). slice_cmp nat_cmp t (string_bytes path)) e ∙ ap (λ (t : List ℕ). slice_cmp nat_cmp (dir ++ 48 ∷ []) t) p ∙ slice_cmp-append dir (48 ∷ []) (47 ∷ name)) in
+    rw (low, high) refl
+
+-- what lies elsewhere in the index is not listed
+pub listed-between : (changes : List Change) (dir : List ℕ) (start end : String Global) → string_bytes start ≡ dir ++ 47 ∷ [] → string_bytes end ≡ dir ++ 48 ∷ []
+    → (es : List (String Global × ℕ)) → listed changes dir (entries_between string_cmp (Included start) (Excluded end) es) ≡ listed changes dir es
+listed-between changes dir start end s e [] = refl
+listed-between changes dir start end s e (entry ∷ es) =
+    each (range_contains string_cmp (Included start) (Excluded end) entry.0) refl (listed-between changes dir start end s e es)
+  where
+    unlisted : range_contains string_cmp (Included start) (Excluded end) entry.0 ≡ false → (o : Option (List ℕ)) → entry_name changes dir entry ≡ o → entry_name changes dir entry ≡ None
+    unlisted out None h = h
+    unlisted out (Some name) h =
+        let path = (name_of-is dir (string_bytes entry.0) name (entry_name-is changes dir entry name h).1).0 in
+        let no : false ≡ true = sym out ∙ between_bounds dir name start end entry.0 s e path in
+        absurd (cc)
+
+    each : (b : Bool) → range_contains string_cmp (Included start) (Excluded end) entry.0 ≡ b
+        → listed changes dir (entries_between string_cmp (Included start) (Excluded end) es) ≡ listed changes dir es
+        → listed changes dir (cond b (entry ∷ entries_between string_cmp (Included start) (Excluded end) es) (entries_between string_cmp (Included start) (Excluded end) es))
+        ≡ option_to_list (entry_name changes dir entry) ++ listed changes dir es
+    each true h later = ap (λ (l : List (List ℕ)). option_to_list (entry_name changes dir entry) ++ l) later
+    each false h later = later ∙ ap (λ (o : Option (List ℕ)). option_to_list o ++ listed changes dir es) (sym (unlisted h (entry_name changes dir entry) refl))
+
+-- the one bound is below the other
+pub bounds_in_order : (dir : List ℕ) (start end : String Global) → string_bytes start ≡ dir ++ 47 ∷ [] → string_bytes end ≡ dir ++ 48 ∷ []
+    → is_gt (string_cmp start end) ≡ false
+bounds_in_order dir start end s e =
+    ap is_gt (ap (λ (t : List ℕ). slice_cmp nat_cmp t (string_bytes end)) s ∙ ap (λ (t : List ℕ). slice_cmp nat_cmp (dir ++ 47 ∷ []) t) e ∙ slice_cmp-append dir (47 ∷ []) (48 ∷ []))

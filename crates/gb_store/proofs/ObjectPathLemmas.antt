@@ -148,7 +148,6 @@ either true b e = inl refl
 either false b e = inr e
 
 two_digits : (fan rest : List ℕ) → is_digits 2 fan ≡ true → list_all is_hex_digit rest ≡ true → is_object_tail (tail_of fan rest) ≡ true
-unfolding tail_of
 two_digits [] rest f r = absurd (cc f)
 two_digits (a ∷ []) rest f r = absurd (cc f)
 two_digits (a ∷ b ∷ []) rest f r = rw (f, r) refl
@@ -157,7 +156,6 @@ two_digits (a ∷ b ∷ c ∷ cs) rest f r =
     absurd (omega arith)
 
 length-tail_of : (fan rest : List ℕ) → length fan ≡ 2 → length rest ≡ 38 → length (tail_of fan rest) ≡ 49
-unfolding tail_of
 length-tail_of fan rest f r = omega (arith, length-append fan (47 ∷ rest))
 
 index-at : (above rest : List ℕ) → slice_index (above ++ 47 ∷ rest) (length above) ≡ 47

@@ -1,5 +1,5 @@
 //! A store in memory: a list of writes, and an index of it by path.
-ghost use Rattle.std.specs.Prelude.{◌≡◌, ◌≤◌, is_some, ◌∷◌, ◌++◌, [], reverse, length, string_bytes, option_copied, IfOk, OnOk, OnErr, IsErrOf, IsSome, ◌==◌};
+ghost use Rattle.std.specs.Prelude.{◌≡◌, ◌<◌, is_some, ◌∷◌, ◌++◌, [], reverse, length, string_bytes, option_copied, IfOk, OnOk, OnErr, IsErrOf, IsSome, ◌==◌};
 ghost use Rattle.gb_store.specs.Files.{file_at, files_of, TellsFile, IsListing};
 ghost use Rattle.gb_store.specs.Fails.{fail_at};
 ghost use Rattle.gb_store.specs.Counts.{raised};
@@ -230,8 +230,10 @@ fn names(
     ensures { IfOk result (λ names. IsListing (files_of (reverse changes.now)) dir.now names.items) }
 {
     let mut names = Vec::new(alloc);
-    let _ = latest.len();
-    for (path, at) in latest {
+    // What is below the folder lies between these, since `0` is the byte after `/`.
+    let start = followed_by(alloc, dir, '/')?;
+    let end = followed_by(alloc, dir, '0')?;
+    for (path, at) in latest.range(start..end) {
         let Some(name) = name_in(dir, path.as_str()) else {
             continue;
         };
@@ -240,6 +242,16 @@ fn names(
         }
     }
     Ok(names)
+}
+
+// A text and one byte more.
+fn followed_by(alloc: Global, text: &str, byte: char) -> Result<String, Memory>
+    requires { byte < 128 }
+    ensures { IfOk result (λ longer. string_bytes longer ≡ text.now ++ byte ∷ []) }
+{
+    let mut longer = String::from_str(alloc, text)?;
+    longer.push(byte)?;
+    Ok(longer)
 }
 
 // Whether the write at an index left a file.
