@@ -208,8 +208,7 @@ tail_parts tail long good =
     let fan : length (take 2 (drop 8 tail)) ≡ 2 = length-take-le 2 (drop 8 tail) (omega arith) in
     let rest : length (drop 11 tail) ≡ 38 = omega (arith, length-drop 11 tail) in
     let ten : drop 2 (drop 8 tail) ≡ 47 ∷ drop 11 tail = drop-drop 2 8 tail ∙ drop-cons tail 10 0 (omega arith) ∙ ap (λ (c : ℕ). c ∷ drop 11 tail) slash in
-    let cut : drop 8 tail ≡ take 2 (drop 8 tail) ++ 47 ∷ drop 11 tail = sym (take-append-drop 2 (drop 8 tail)) ∙ ap (λ (t : List ℕ). take 2 (drop 8 tail) ++ t) ten in
-    (
+    let cut : drop 8 tail ≡ take 2 (drop 8 tail) ++ 47 ∷ drop 11 tail = sym (take-append-drop 2 (drop 8 tail)) ∙ ap (λ (t : List ℕ). take 2 (drop 8 tail) ++ t) ten in (
       sym (take-append-drop 8 tail) ∙ ap (λ (t : List ℕ). t ++ drop 8 tail) word ∙ ap (λ (t : List ℕ). codes "objects/" ++ t) cut,
       ap (λ (n : ℕ). (n == 2) && list_all is_hex_digit (take 2 (drop 8 tail))) fan ∙ second.0,
       ap (λ (n : ℕ). (n == 38) && list_all is_hex_digit (drop 11 tail)) rest ∙ third.1,

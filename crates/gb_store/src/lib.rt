@@ -3,6 +3,7 @@
 
 mod fault;
 mod laws;
+mod mem_index;
 mod mem_sink;
 mod mem_store;
 mod object_path;
@@ -12,9 +13,9 @@ mod write_sink;
 
 pub use fault::{SinkFault, StoreFault};
 pub use laws::{
-    Property, Rule, counts_rise_in_part, cuts_are_moments, each_part_is_allowed, faults_compose, kept_at_each_moment,
-    object_paths_by_form, objects_have_object_paths, some_are_the_first, wrote_composes, wrote_nothing, wrote_one,
-    wrote_weakens, writes_change_their_path,
+    Property, Rule, counts_rise_in_part, cuts_are_moments, each_part_is_allowed, faults_compose,
+    kept_at_each_moment, object_paths_by_form, objects_have_object_paths, some_are_the_first,
+    writes_change_their_path, wrote_composes, wrote_nothing, wrote_one, wrote_weakens,
 };
 pub use mem_sink::MemSink;
 pub use mem_store::{Fail, MemStore};

@@ -19,7 +19,7 @@ pub struct MemSink {
 
 impl Model for MemSink {
     ghost use Rattle.std.specs.Prelude.{◌≤◌};
-    ghost use Rattle.gb_store.specs.MemSinkState.{SinkState};
+    ghost use Rattle.gb_store.specs.MemSink.{SinkState};
 
     ghost Value = { SinkState };
 
@@ -29,7 +29,7 @@ impl Model for MemSink {
 }
 
 impl MemSink {
-    ghost use Rattle.gb_store.specs.MemSinkState.{empty_sink, is_listed, counted, has_no_fails, fault_count};
+    ghost use Rattle.gb_store.specs.MemSink.{empty_sink, is_listed, counted, has_no_fails, fault_count};
 
     /// An empty sink, which takes at most `step` bytes a write. Its writes are numbered from 0, and those listed fail.
     /// Takes no memory.
@@ -72,7 +72,7 @@ impl MemSink {
 
 impl Sink for MemSink {
     ghost use Rattle.std.specs.Prelude.{true, length, ◌==◌};
-    ghost use Rattle.gb_store.specs.MemSinkState.{SinkAnswers, has_no_fails, fault_count};
+    ghost use Rattle.gb_store.specs.MemSink.{SinkAnswers, has_no_fails, fault_count};
 
     ghost tells = { true };
 

@@ -1,11 +1,12 @@
 //! A store in memory: a list of writes, and an index of it by path.
 ghost use Rattle.std.specs.Prelude.{◌≡◌, ◌<◌, is_some, ◌∷◌, ◌++◌, [], reverse, length, string_bytes, option_copied, IfOk, OnOk, OnErr, IsErrOf, IsSome, ◌==◌};
 ghost use Rattle.gb_store.specs.Files.{file_at, files_of, TellsFile, IsListing};
-ghost use Rattle.gb_store.specs.Fails.{fail_at};
+ghost use Rattle.gb_store.specs.MemStore.{fail_at};
 ghost use Rattle.gb_store.specs.Counts.{raised};
 ghost use Rattle.gb_store.specs.Faults.{KeepsFaults};
 ghost use Rattle.gb_store.specs.MemIndex.{IsIndex, bytes_at, name_of};
 
+use crate::mem_index::{append, find, index_of, names};
 use crate::object_path::is_object_path;
 use crate::{Change, Content, Store, StoreFault};
 use gb_text::{Bytes, List, Memory, Text};
@@ -34,7 +35,7 @@ pub struct MemStore {
 
 impl Model for MemStore {
     ghost use Rattle.std.specs.Prelude.{reverse};
-    ghost use Rattle.gb_store.specs.Mem.{MemState};
+    ghost use Rattle.gb_store.specs.MemStore.{MemState};
 
     ghost Value = { MemState };
 
@@ -46,11 +47,11 @@ impl Model for MemStore {
 }
 
 impl MemStore {
-    ghost use Rattle.gb_store.specs.Mem.{fresh, begun, cut_to, has_no_fails, fault_count};
+    ghost use Rattle.gb_store.specs.MemStore.{empty_store, next_fail, after_call, cut_to, has_no_fails, fault_count};
 
     /// An empty store, whose listed calls fail.
     pub fn new(alloc: Global, fails: List<Fail>) -> MemStore
-        ensures { result ≡ fresh fails }
+        ensures { result ≡ empty_store fails }
     {
         MemStore {
             changes: Vec::new(alloc),
@@ -97,8 +98,8 @@ impl MemStore {
 
     // Counts a call, and a fault if it is listed.
     fn begin(&mut self) -> Option<bool>
-        ensures fail { result ≡ fail_at self.old.calls self.old.fails }
-        ensures state { self.new ≡ begun self.old }
+        ensures fail { result ≡ next_fail self.old }
+        ensures state { self.new ≡ after_call self.old }
         ensures caused { KeepsFaults has_no_fails fault_count (IsSome result) self.old self.new }
     {
         let call = self.calls;
@@ -149,7 +150,7 @@ impl MemStore {
 impl Store for MemStore {
     ghost use Rattle.std.specs.Prelude.{true, ◌==◌, length};
     ghost use Rattle.gb_store.specs.Files.{IsWithin, Put, Removed};
-    ghost use Rattle.gb_store.specs.Mem.{begun, after_read, ReadAnswers, WriteAnswers, has_no_fails, fault_count};
+    ghost use Rattle.gb_store.specs.MemStore.{after_call, after_read, ReadAnswers, WriteAnswers, has_no_fails, fault_count};
 
     ghost tells = { true };
 
@@ -177,7 +178,7 @@ impl Store for MemStore {
     }
 
     fn list(&mut self, alloc: Global, dir: &str) -> Result<List<Text>, StoreFault>
-        ensures state { self.new ≡ begun self.old }
+        ensures state { self.new ≡ after_call self.old }
         ensures answer { ReadAnswers self.old result (λ names. IsListing (files_of self.old.history) dir.now names) }
         ensures caused { KeepsFaults has_no_fails fault_count (IsErrOf result StoreFault.Failed) self.old self.new }
     {
@@ -219,136 +220,10 @@ impl Store for MemStore {
     }
 }
 
-// The names of the files that stand right in a folder.
-fn names(
-    alloc: Global,
-    changes: &[Change],
-    latest: &BTreeMap<String, usize>,
-    dir: &str,
-) -> Result<Vec<Text>, Memory>
-    requires { IsIndex latest.now changes.now }
-    ensures { IfOk result (λ names. IsListing (files_of (reverse changes.now)) dir.now names.items) }
-{
-    let mut names = Vec::new(alloc);
-    // What is below the folder lies between these, since `0` is the byte after `/`.
-    let start = followed_by(alloc, dir, '/')?;
-    let end = followed_by(alloc, dir, '0')?;
-    for (path, at) in latest.range(start..end) {
-        let Some(name) = name_in(dir, path.as_str()) else {
-            continue;
-        };
-        if stands(changes, *at) {
-            names.push(Text::from_str(alloc, name)?)?;
-        }
-    }
-    Ok(names)
-}
-
-// A text and one byte more.
-fn followed_by(alloc: Global, text: &str, byte: char) -> Result<String, Memory>
-    requires { byte < 128 }
-    ensures { IfOk result (λ longer. string_bytes longer ≡ text.now ++ byte ∷ []) }
-{
-    let mut longer = String::from_str(alloc, text)?;
-    longer.push(byte)?;
-    Ok(longer)
-}
-
-// Whether the write at an index left a file.
-fn stands(changes: &[Change], at: usize) -> bool
-    ensures { result ≡ is_some (bytes_at changes.now at) }
-{
-    match changes.get(at) {
-        None => false,
-        Some(change) => change.bytes.is_some(),
-    }
-}
-
-// The name of a path that is right in a folder.
-fn name_in<'a>(dir: &str, path: &'a str) -> Option<&'a str>
-    ensures { option_copied result ≡ name_of dir.now path.now }
-{
-    let name = path.strip_prefix(dir)?.strip_prefix('/')?;
-    if name.as_bytes().contains(&b'/') {
-        return None;
-    }
-    Some(name)
-}
-
 // What the first entry for a call says.
 fn find_fail(fails: &[Fail], call: u64) -> Option<bool>
     ensures { result ≡ fail_at call fails.now }
 {
     let found = fails.iter().find(|f| f.call == call)?;
     Some(found.after)
-}
-
-// Adds a write, and sets the index of its path. At want of memory nothing has changed.
-fn append(
-    changes: &mut Vec<Change>,
-    latest: &mut BTreeMap<String, usize>,
-    key: String,
-    change: Change,
-) -> Result<(), Memory>
-    requires index { IsIndex latest.old changes.old.items }
-    requires key { string_bytes key ≡ change.path }
-    ensures ok { OnOk result (changes.new.items ≡ changes.old.items ++ change ∷ []) }
-    ensures err { OnErr result (changes.new.items ≡ changes.old.items) }
-    ensures index { IsIndex latest.new changes.new.items }
-{
-    let at = changes.len();
-    changes.push(change)?;
-    if let Err(_) = latest.insert(key, at) {
-        let _ = changes.pop();
-        return Err(Memory);
-    }
-    Ok(())
-}
-
-// The index of a list of writes.
-fn index_of(alloc: Global, changes: &[Change]) -> Result<BTreeMap<String, usize>, Memory>
-    ensures { IfOk result (λ latest. IsIndex latest changes.now) }
-{
-    let mut latest = BTreeMap::new(alloc);
-    for (at, change) in changes.iter().enumerate() {
-        let key = String::from_str(alloc, change.path.as_str())?;
-        latest.insert(key, at)?;
-    }
-    Ok(latest)
-}
-
-// What the last write of a path left.
-fn find(
-    alloc: Global,
-    changes: &[Change],
-    latest: &BTreeMap<String, usize>,
-    path: &str,
-    limit: u64,
-) -> Result<Content, Memory>
-    requires { IsIndex latest.now changes.now }
-    ensures { IfOk result (TellsFile (file_at (reverse changes.now) path.now) limit) }
-{
-    let Some(bytes) = newest(changes, latest, path) else {
-        return Ok(Content::Absent);
-    };
-    let bytes = bytes.as_slice();
-    if bytes.len() as u64 <= limit {
-        Ok(Content::Whole(Bytes::from_slice(alloc, bytes)?))
-    } else {
-        Ok(Content::Long)
-    }
-}
-
-// The bytes that the last write of a path left there.
-fn newest<'a>(
-    changes: &'a [Change],
-    latest: &BTreeMap<String, usize>,
-    path: &str,
-) -> Option<&'a Bytes>
-    requires { IsIndex latest.now changes.now }
-    ensures { option_copied result ≡ file_at (reverse changes.now) path.now }
-{
-    let at = *latest.get(path)?;
-    let change = &changes[at];
-    change.bytes.as_ref()
 }

@@ -15,7 +15,7 @@ pub struct WriteSink<W: Write + Drop> {
 }
 
 impl<W: Write + Drop> Model for WriteSink<W> {
-    ghost use Rattle.gb_store.specs.Writer.{WriterState};
+    ghost use Rattle.gb_store.specs.WriteSink.{WriterState};
 
     ghost Value = { WriterState W };
 
@@ -33,7 +33,7 @@ impl<W: Write + Drop> WriteSink<W> {
 
 impl<W: Write + Drop> Sink for WriteSink<W> {
     ghost use Rattle.std.specs.Prelude.{[], false};
-    ghost use Rattle.gb_store.specs.Writer.{WriterAnswers};
+    ghost use Rattle.gb_store.specs.WriteSink.{WriterAnswers};
 
     ghost tells = { false };
 

@@ -2,7 +2,7 @@ use Rattle.std.proofs.Common.{◌≡◌, sym, ◌∙◌, ap, subst, append-nil, 
 use Rattle.gb_store.specs.Files.{IsListing, files_of}
 use Rattle.gb_store.specs.MemIndex.{listed}
 use Rattle.gb_store.proofs.ListingLemmas.{IsListing-listed, listed-between, bounds_in_order}
-use Rattle.gb_store.proofs.mem_store.names.Goals as goal
+use Rattle.gb_store.proofs.mem_index.names.Goals as goal
 
 pub range-path-items-requires : goal.range-path-items-requires
 range-path-items-requires c = bounds_in_order c.args.dir.now c.in_ok-start.start c.in_ok-end.end c.in_ok-start.ensures c.in_ok-end.ensures
