@@ -14,13 +14,14 @@ use std::alloc::Global;
 use std::collections::BTreeMap;
 use std::marker::Model;
 
-/// A call that fails, counted from 0, with its write made or not.
+/// A call that fails: its number, counted from 0 over calls of all four kinds, and whether its write is made first.
 #[derive(Clone, Copy, Debug, PartialEq, Eq)]
 pub struct Fail {
     pub call: u64,
     pub after: bool,
 }
 
+/// A store that keeps its writes in memory, and fails at the calls that it is told to. Its numbers stand still at 2^64 - 1.
 #[derive(Drop)]
 pub struct MemStore {
     // the oldest first
@@ -47,9 +48,9 @@ impl Model for MemStore {
 }
 
 impl MemStore {
-    ghost use Rattle.gb_store.specs.MemStore.{empty_store, next_fail, after_call, cut_to, has_no_fails, fault_count};
+    ghost use Rattle.gb_store.specs.MemStore.{empty_store, next_fail, after_call, with_write, cut_to, has_no_fails, fault_count};
 
-    /// An empty store, whose listed calls fail.
+    /// An empty store, whose listed calls fail; of two entries for one call the first decides. Takes no memory.
     pub fn new(alloc: Global, fails: List<Fail>) -> MemStore
         ensures { result ≡ empty_store fails }
     {
@@ -63,25 +64,28 @@ impl MemStore {
         }
     }
 
+    /// How many calls were listed.
     pub fn faults(&self) -> u64
         ensures { result ≡ self.now.faults }
     {
         self.faults
     }
 
+    /// How many calls of `read` had the path of an object.
     pub fn reads(&self) -> u64
         ensures { result ≡ self.now.reads }
     {
         self.reads
     }
 
+    /// How many writes there are.
     pub fn writes(&self) -> u64
         ensures { result ≡ length self.now.history }
     {
         self.changes.len() as u64
     }
 
-    /// Keeps the first `count` writes.
+    /// Keeps the first `count` writes, all where there are fewer, and the counts. At want of memory nothing has changed.
     pub fn cut(&mut self, alloc: Global, count: u64) -> Result<(), Memory>
         ensures ok { OnOk result (self.new ≡ cut_to count self.old) }
         ensures err { OnErr result (self.new ≡ self.old) }
@@ -96,7 +100,7 @@ impl MemStore {
         Ok(())
     }
 
-    // Counts a call, and a fault if it is listed.
+    // Counts a call, and a fault if it is listed. Answers whether its write is to be made, if it is.
     fn begin(&mut self) -> Option<bool>
         ensures fail { result ≡ next_fail self.old }
         ensures state { self.new ≡ after_call self.old }
@@ -135,7 +139,7 @@ impl MemStore {
 
     // Adds a write.
     fn add(&mut self, alloc: Global, path: &str, bytes: Option<Bytes>) -> Result<(), Memory>
-        ensures ok { OnOk result (self.new ≡ record self.old { history = record { path = path.now; bytes = bytes } ∷ self.old.history }) }
+        ensures ok { OnOk result (self.new ≡ with_write (record { path = path.now; bytes = bytes }) self.old) }
         ensures err { OnErr result (self.new ≡ self.old) }
     {
         let key = String::from_str(alloc, path)?;
