@@ -13,7 +13,6 @@ use Rattle.std.specs.List.Sorted.{IsStrictlySortedBy}
 use Rattle.std.specs.Option.{option_to_list}
 use Rattle.std.specs.BTreeMap.Range.{entries_between, range_contains}
 use Rattle.std.specs.Ordering.{nat_cmp, is_eq, is_gt, is_le, ordering_then}
-use Rattle.std.specs.declared.ops.Bound.{Bound}
 use Rattle.std.specs.declared.ops.Bound.TheVariants.{Included, Excluded}
 use Rattle.std.specs.String.{string_cmp, string_cmp_total}
 use Rattle.std.specs.declared.alloc.Global.{Global}

@@ -1,5 +1,5 @@
 -- How a list of writes grows, and what holds at each of its moments.
-use Rattle.std.proofs.Common.{◌≡◌, ◌⊎◌, Bool, IsTrue, List, [], ◌∷◌, ◌++◌, length, sym, ◌∙◌, ap, subst, inl, inr, append_assoc, arith, length-append, refl, ℕ, ◌-◌, ◌≤◌, take, drop, reverse}
+use Rattle.std.proofs.Common.{◌≡◌, Bool, IsTrue, List, [], ◌∷◌, ◌++◌, length, sym, ◌∙◌, ap, subst, inl, inr, append_assoc, arith, length-append, refl, ℕ, ◌-◌, ◌≤◌, take, drop, reverse}
 use Rattle.std.proofs.lemmas.List.{append_cancel_right, drop-append-le, take-append-drop, reverse-append}
 use Rattle.std.proofs.Math.Seq.{drop-append_seam}
 use Rattle.gb_store.specs.declared.store.Change.{Change}

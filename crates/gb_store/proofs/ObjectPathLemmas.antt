@@ -1,11 +1,10 @@
 -- Paths of objects, by their parts, by their form and by their last bytes.
-use Rattle.std.proofs.Common.{◌≡◌, ◌⊎◌, ℕ, ◌+◌, ◌*◌, ◌-◌, ◌<◌, ◌≤◌, ◌==◌, zero, suc, Bool, true, false, ◌&&◌, ◌||◌, cond, List, [], ◌∷◌, ◌++◌, length, take, drop, reverse, refl, sym, ◌∙◌, ap, subst, inl, inr, append-nil, append_assoc, arith, length-append, length-drop, drop-cons, get_or}
+use Rattle.std.proofs.Common.{◌≡◌, ◌⊎◌, ℕ, ◌+◌, ◌*◌, ◌-◌, ◌<◌, ◌≤◌, ◌==◌, suc, Bool, true, false, ◌&&◌, ◌||◌, cond, List, [], ◌∷◌, ◌++◌, length, take, drop, reverse, refl, sym, ◌∙◌, ap, inl, inr, append_assoc, arith, length-append, length-drop, drop-cons}
 use Rattle.std.specs.Prelude.{codes, slice_index, nat_le, is_some, ◌/◌, ◌%◌}
 use Rattle.std.proofs.Common.{eqb-true}
-use Rattle.std.proofs.lemmas.Grind.{common_steps}
 use Rattle.std.proofs.lemmas.List.{take-append-drop, take_more, reverse-append, reverse-reverse, length-take-le, drop-drop}
 use Rattle.std.proofs.lemmas.Bool.Decides.{nat_tests}
-use Rattle.std.proofs.lemmas.List.Splits.{join_with_byte-slice_split, slice_split-cons_yes, slice_split-cons_no}
+use Rattle.std.proofs.lemmas.List.Splits.{join_with_byte-slice_split, slice_split-cons_no}
 use Rattle.std.proofs.lemmas.Slice.Eq.{bytes_eq-Decides}
 use Rattle.std.proofs.Math.Seq.{drop-append_seam}
 use Rattle.std.specs.List.{list_all, slice_split, onto_first, join_with_byte}
@@ -16,7 +15,6 @@ use Rattle.hex.proofs.HexLemmas.{IsDigits-lower_digits, length-encode_with}
 use Rattle.gb_text.specs.Digits.{IsName}
 use Rattle.gb_text.specs.declared.id.Name.{Name}
 use Rattle.gb_text.specs.Folder.{parts_of, joint, joined}
-use Rattle.gb_text.proofs.FolderLemmas.{join_with_byte-first, join_with_byte-more}
 use Rattle.gb_store.specs.ObjectPath.{is_digits, ends_as_object, is_object_path, IsFront, IsObjectPath, object_place}
 use Rattle.gb_store.specs.ObjectTail.{is_object_tail, has_object_tail}
 

@@ -10,7 +10,8 @@ use Rattle.gb_store.specs.Files.{History}
 use Rattle.gb_store.specs.Moments.{first_writes}
 use Rattle.gb_store.specs.ObjectPath.{reads_after}
 
--- its writes, the calls that fail, the number of the next call, how many have failed and how many read an object's path
+-- its writes, the calls that fail, the number of the next call, how many have failed and how many
+-- read an object's path
 pub record MemState : Type 0 where
   pub history : History
   pub fails : List Fail
@@ -54,14 +55,16 @@ with_write change s = record s { history = change ∷ s.history }
 abbrev pub cut_to : ℕ → MemState → MemState
 cut_to count s = record s { history = first_writes count s.history }
 
--- A call that only reads fails exactly where it is listed. Want of memory comes only where it is not.
+-- A call that only reads fails exactly where it is listed. Want of memory comes only where it is
+-- not.
 abbrev pub ReadAnswers : {T : Type 0} → MemState → Result T StoreFault → (T → Type 0) → Type 0
 ReadAnswers old (Ok value) Tells = (next_fail old ≡ None) × Tells value
 ReadAnswers old (Err Failed) Tells = next_fail old ≢ None
 ReadAnswers old (Err Memory) Tells = next_fail old ≡ None
 
--- A write fails only where its call is listed, and is then made or not as the first entry for it says. Want of memory
--- makes no write, and comes in a listed call only where its write was to be made.
+-- A write fails only where its call is listed, and is then made or not as the first entry for it
+-- says. Want of memory makes no write, and comes in a listed call only where its write was to be
+-- made.
 abbrev pub WriteAnswers : Change → MemState → MemState → Result Unit StoreFault → Type 0
 WriteAnswers change old new (Ok _) = (next_fail old ≡ None) × (new ≡ with_write change (after_call old))
 WriteAnswers change old new (Err Failed) =

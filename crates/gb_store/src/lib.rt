@@ -1,4 +1,5 @@
-//! A store of files and a sink of bytes, each a trait with a written meaning, and the ones in memory.
+//! A store of files and a sink of bytes, each a trait with a written meaning, and the ones in
+//! memory.
 #![tactic(auto)]
 
 mod fault;

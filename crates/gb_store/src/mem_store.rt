@@ -1,10 +1,10 @@
 //! A store in memory: a list of writes, and an index of it by path.
-ghost use Rattle.std.specs.Prelude.{◌≡◌, ◌<◌, is_some, ◌∷◌, ◌++◌, [], reverse, length, string_bytes, option_copied, IfOk, OnOk, OnErr, IsErrOf, IsSome, ◌==◌};
-ghost use Rattle.gb_store.specs.Files.{file_at, files_of, TellsFile, IsListing};
-ghost use Rattle.gb_store.specs.MemStore.{fail_at};
+ghost use Rattle.std.specs.Prelude.{◌≡◌, length, IfOk, OnOk, OnErr, IsErrOf, IsSome};
+ghost use Rattle.std.specs.Option.{option_copied};
 ghost use Rattle.gb_store.specs.Counts.{raised};
 ghost use Rattle.gb_store.specs.Faults.{KeepsFaults};
-ghost use Rattle.gb_store.specs.MemIndex.{IsIndex, bytes_at, name_of};
+ghost use Rattle.gb_store.specs.Files.{file_at, files_of, TellsFile, IsListing};
+ghost use Rattle.gb_store.specs.MemStore.{fail_at};
 
 use crate::mem_index::{append, find, index_of, names};
 use crate::object_path::is_object_path;
@@ -14,14 +14,16 @@ use std::alloc::Global;
 use std::collections::BTreeMap;
 use std::marker::Model;
 
-/// A call that fails: its number, counted from 0 over calls of all four kinds, and whether its write is made first.
+/// A call that fails: its number, counted from 0 over calls of all four kinds, and whether its
+/// write is made first.
 #[derive(Clone, Copy, Debug, PartialEq, Eq)]
 pub struct Fail {
     pub call: u64,
     pub after: bool,
 }
 
-/// A store that keeps its writes in memory, and fails at the calls that it is told to. Its numbers stand still at 2^64 - 1.
+/// A store that keeps its writes in memory, and fails at the calls that it is told to. Its numbers
+/// stand still at 2^64 - 1.
 #[derive(Drop)]
 pub struct MemStore {
     // the oldest first
@@ -48,9 +50,10 @@ impl Model for MemStore {
 }
 
 impl MemStore {
-    ghost use Rattle.gb_store.specs.MemStore.{empty_store, next_fail, after_call, with_write, cut_to, has_no_fails, fault_count};
+    ghost use Rattle.gb_store.specs.MemStore.{WriteAnswers, empty_store, next_fail, after_call, with_write, cut_to, has_no_fails, fault_count};
 
-    /// An empty store, whose listed calls fail; of two entries for one call the first decides. Takes no memory.
+    /// An empty store, whose listed calls fail; of two entries for one call the first decides.
+    /// Takes no memory.
     pub fn new(alloc: Global, fails: List<Fail>) -> MemStore
         ensures { result ≡ empty_store fails }
     {
@@ -85,7 +88,8 @@ impl MemStore {
         self.changes.len() as u64
     }
 
-    /// Keeps the first `count` writes, all where there are fewer, and the counts. At want of memory nothing has changed.
+    /// Keeps the first `count` writes, all where there are fewer, and the counts. At want of memory
+    /// nothing has changed.
     pub fn cut(&mut self, alloc: Global, count: u64) -> Result<(), Memory>
         ensures ok { OnOk result (self.new ≡ cut_to count self.old) }
         ensures err { OnErr result (self.new ≡ self.old) }
@@ -100,7 +104,8 @@ impl MemStore {
         Ok(())
     }
 
-    // Counts a call, and a fault if it is listed. Answers whether its write is to be made, if it is.
+    // Counts a call, and a fault if it is listed. Answers whether its write is to be made, if it
+    // is.
     fn begin(&mut self) -> Option<bool>
         ensures fail { result ≡ next_fail self.old }
         ensures state { self.new ≡ after_call self.old }
@@ -137,22 +142,41 @@ impl MemStore {
         self.reads = self.reads.saturating_add(1);
     }
 
+    // Counts a call and makes its write, as the list of failures has it.
+    fn write(&mut self, alloc: Global, path: &str, bytes: Option<&[u8]>) -> Result<(), StoreFault>
+        ensures exact { WriteAnswers (record { path = path.now; bytes = option_copied bytes.entry })
+            self.old self.new result }
+        ensures caused { KeepsFaults has_no_fails fault_count (IsErrOf result StoreFault.Failed)
+            self.old self.new }
+    {
+        let fail = self.begin();
+        if fail == Some(false) {
+            return Err(StoreFault::Failed);
+        }
+        self.add(alloc, path, bytes)?;
+        match fail {
+            Some(_) => Err(StoreFault::Failed),
+            None => Ok(()),
+        }
+    }
+
     // Adds a write.
-    fn add(&mut self, alloc: Global, path: &str, bytes: Option<Bytes>) -> Result<(), Memory>
-        ensures ok { OnOk result (self.new ≡ with_write (record { path = path.now; bytes = bytes }) self.old) }
+    fn add(&mut self, alloc: Global, path: &str, bytes: Option<&[u8]>) -> Result<(), Memory>
+        ensures ok { OnOk result (self.new
+            ≡ with_write (record { path = path.now; bytes = option_copied bytes.entry }) self.old) }
         ensures err { OnErr result (self.new ≡ self.old) }
     {
         let key = String::from_str(alloc, path)?;
         let change = Change {
             path: Text::from_str(alloc, path)?,
-            bytes,
+            bytes: copied(alloc, bytes)?,
         };
         append(&mut self.changes, &mut self.latest, key, change)
     }
 }
 
 impl Store for MemStore {
-    ghost use Rattle.std.specs.Prelude.{true, ◌==◌, length};
+    ghost use Rattle.std.specs.Prelude.{true};
     ghost use Rattle.gb_store.specs.Files.{IsWithin, Put, Removed};
     ghost use Rattle.gb_store.specs.MemStore.{after_call, after_read, ReadAnswers, WriteAnswers, has_no_fails, fault_count};
 
@@ -170,7 +194,8 @@ impl Store for MemStore {
         ensures state { self.new ≡ after_read path.now self.old }
         ensures answer { ReadAnswers self.old result (λ content. TellsFile (file_at self.old.history path.now) limit content) }
         ensures within { IfOk result (IsWithin limit) }
-        ensures caused { KeepsFaults has_no_fails fault_count (IsErrOf result StoreFault.Failed) self.old self.new }
+        ensures caused { KeepsFaults has_no_fails fault_count (IsErrOf result StoreFault.Failed)
+            self.old self.new }
     {
         if is_object_path(path) {
             self.count_read();
@@ -184,7 +209,8 @@ impl Store for MemStore {
     fn list(&mut self, alloc: Global, dir: &str) -> Result<List<Text>, StoreFault>
         ensures state { self.new ≡ after_call self.old }
         ensures answer { ReadAnswers self.old result (λ names. IsListing (files_of self.old.history) dir.now names) }
-        ensures caused { KeepsFaults has_no_fails fault_count (IsErrOf result StoreFault.Failed) self.old self.new }
+        ensures caused { KeepsFaults has_no_fails fault_count (IsErrOf result StoreFault.Failed)
+            self.old self.new }
     {
         if self.begin().is_some() {
             return Err(StoreFault::Failed);
@@ -194,33 +220,18 @@ impl Store for MemStore {
 
     fn put(&mut self, alloc: Global, path: &str, bytes: &[u8]) -> Result<(), StoreFault>
         ensures exact { WriteAnswers (Put path.now bytes.now) self.old self.new result }
-        ensures caused { KeepsFaults has_no_fails fault_count (IsErrOf result StoreFault.Failed) self.old self.new }
+        ensures caused { KeepsFaults has_no_fails fault_count (IsErrOf result StoreFault.Failed)
+            self.old self.new }
     {
-        let fail = self.begin();
-        if fail == Some(false) {
-            return Err(StoreFault::Failed);
-        }
-        let bytes = Bytes::from_slice(alloc, bytes)?;
-        self.add(alloc, path, Some(bytes))?;
-        if fail.is_some() {
-            return Err(StoreFault::Failed);
-        }
-        Ok(())
+        self.write(alloc, path, Some(bytes))
     }
 
     fn remove(&mut self, alloc: Global, path: &str) -> Result<(), StoreFault>
         ensures exact { WriteAnswers (Removed path.now) self.old self.new result }
-        ensures caused { KeepsFaults has_no_fails fault_count (IsErrOf result StoreFault.Failed) self.old self.new }
+        ensures caused { KeepsFaults has_no_fails fault_count (IsErrOf result StoreFault.Failed)
+            self.old self.new }
     {
-        let fail = self.begin();
-        if fail == Some(false) {
-            return Err(StoreFault::Failed);
-        }
-        self.add(alloc, path, None)?;
-        if fail.is_some() {
-            return Err(StoreFault::Failed);
-        }
-        Ok(())
+        self.write(alloc, path, None)
     }
 }
 
@@ -230,4 +241,14 @@ fn find_fail(fails: &[Fail], call: u64) -> Option<bool>
 {
     let found = fails.iter().find(|f| f.call == call)?;
     Some(found.after)
+}
+
+// A copy of some bytes, if there are any.
+fn copied(alloc: Global, bytes: Option<&[u8]>) -> Result<Option<Bytes>, Memory>
+    ensures { IfOk result (λ copy. copy ≡ option_copied bytes.entry) }
+{
+    match bytes {
+        Some(bytes) => Ok(Some(Bytes::from_slice(alloc, bytes)?)),
+        None => Ok(None),
+    }
 }

@@ -39,8 +39,10 @@ fn read_put_read<S: Store>(
     path: &str,
     bytes: &[u8],
 ) -> Result<Content, ReadFault>
-    ensures reads { IfOk result (λ _. S.object_reads disk.new ≡ reads_after path.now (reads_after path.now (S.object_reads disk.old))) }
-    ensures caused { KeepsFaults S.never_fails S.faults (IsErrOf result ReadFault.Disk) disk.old disk.new }
+    ensures reads { IfOk result (λ _. S.object_reads disk.new
+        ≡ reads_after path.now (reads_after path.now (S.object_reads disk.old))) }
+    ensures caused { KeepsFaults S.never_fails S.faults
+        (IsErrOf result ReadFault.Disk) disk.old disk.new }
 {
     match disk.read(alloc, path, 10)? {
         Content::Absent => return Err(ReadFault::Missing),
@@ -59,9 +61,11 @@ fn put_two<S: Store>(
     second: &str,
     two: &[u8],
 ) -> Result<(), StoreFault>
-    ensures done { IsTrue S.tells → OnOk result (S.history disk.new ≡ Put second.now two.now ∷ Put first.now one.now ∷ S.history disk.old) }
+    ensures done { IsTrue S.tells → OnOk result (S.history disk.new ≡ Put second.now two.now
+        ∷ Put first.now one.now ∷ S.history disk.old) }
     ensures some { IsTrue S.tells → WroteSome (Put first.now one.now ∷ Put second.now two.now ∷ []) (S.history disk.old) (S.history disk.new) }
-    ensures caused { KeepsFaults S.never_fails S.faults (IsErrOf result StoreFault.Failed) disk.old disk.new }
+    ensures caused { KeepsFaults S.never_fails S.faults
+        (IsErrOf result StoreFault.Failed) disk.old disk.new }
 {
     disk.put(alloc, first, one)?;
     disk.put(alloc, second, two)?;
