@@ -1,7 +1,7 @@
 //! A list of writes, the oldest first, and its index by path: where the last write of each path is.
 ghost use Rattle.std.specs.Prelude.{◌≡◌, ◌<◌, is_some, ◌∷◌, ◌++◌, [], reverse, string_bytes, option_copied, IfOk, OnOk, OnErr};
 ghost use Rattle.gb_store.specs.Files.{file_at, files_of, TellsFile, IsListing};
-ghost use Rattle.gb_store.specs.MemIndex.{IsIndex, bytes_at, name_of};
+ghost use Rattle.gb_store.specs.MemIndex.{IsIndex, bytes_at, name_below};
 
 use crate::{Change, Content};
 use gb_text::{Bytes, Memory, Text};
@@ -55,7 +55,7 @@ fn stands(changes: &[Change], at: usize) -> bool
 
 // The name of a path that is right in a folder.
 fn name_in<'a>(dir: &str, path: &'a str) -> Option<&'a str>
-    ensures { option_copied result ≡ name_of dir.now path.now }
+    ensures { option_copied result ≡ name_below dir.now path.now }
 {
     let name = path.strip_prefix(dir)?.strip_prefix('/')?;
     if name.as_bytes().contains(&b'/') {

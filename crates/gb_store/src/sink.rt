@@ -19,7 +19,7 @@ pub trait Sink {
     /// How often it has failed, up to the last number of its type.
     ghost faults: { Self → ℕ };
 
-    /// Whether no call of it will ever fail.
+    /// Whether no call of it will ever answer `Failed`.
     ghost never_fails: { Self → Bool };
 
     /// Takes some first bytes of a piece, at least one where there is one, and answers how many. A

@@ -38,7 +38,7 @@ pub trait Store {
     /// How often a path of an object was read, up to the last number of its type.
     ghost object_reads: { Self → ℕ };
 
-    /// Whether no call of it will ever fail.
+    /// Whether no call of it will ever answer `Failed`.
     ghost never_fails: { Self → Bool };
 
     /// What stands at the path: nothing, a file of at most `limit` bytes, or one that has more.
