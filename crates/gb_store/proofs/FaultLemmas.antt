@@ -1,5 +1,5 @@
 -- The count of faults over calls, one after the other.
-use Rattle.std.proofs.Common.{◌≡◌, ◌≤◌, ℕ, Bool, arith, ◌∙◌}
+use Rattle.std.proofs.Common.{ℕ, Bool, arith, ◌∙◌}
 use Rattle.gb_store.specs.Faults.{KeepsFaults}
 
 -- A call that did not fail, and one after it. What the whole fails by is a failure of the second.

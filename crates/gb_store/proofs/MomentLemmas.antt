@@ -1,5 +1,5 @@
 -- How a list of writes grows, and what holds at each of its moments.
-use Rattle.std.proofs.Common.{◌≡◌, ◌⊎◌, Bool, IsTrue, List, [], ◌∷◌, ◌++◌, length, sym, ◌∙◌, ap, subst, inl, inr, append_assoc, arith, length-append, refl, ℕ, ◌-◌, ◌≤◌, take, drop, reverse}
+use Rattle.std.proofs.Common.{◌≡◌, Bool, IsTrue, List, [], ◌∷◌, ◌++◌, length, sym, ◌∙◌, ap, subst, inl, inr, append_assoc, arith, length-append, refl, ℕ, ◌-◌, ◌≤◌, take, drop, reverse}
 use Rattle.std.proofs.lemmas.List.{append_cancel_right, drop-append-le, take-append-drop, reverse-append}
 use Rattle.std.proofs.Math.Seq.{drop-append_seam}
 use Rattle.gb_store.specs.declared.store.Change.{Change}
@@ -109,7 +109,7 @@ AllMoments-from_Wrote May Good keeps old new good wrote = record {
   each = λ moment at.
       let first = Wrote-before May old new moment wrote at in
       subst (λ (h : History). Good (files_of h)) (sym first.grew)
-          (EachWrite-keeps May Good (λ (ws : History) (change : Change). keeps (files_of ws) change) old first.writes good first.each);
+      (EachWrite-keeps May Good (λ (ws : History) (change : Change). keeps (files_of ws) change) old first.writes good first.each);
 }
 
 -- a cut is a moment
@@ -134,9 +134,12 @@ pub WroteSome-there : (writes : List Change) (old new : History) → WroteSome w
 WroteSome-there [] old new same = ([], [], refl, same)
 WroteSome-there (change ∷ rest) old new (inl same) = ([], change ∷ rest, refl, same)
 WroteSome-there (change ∷ rest) old new (inr some) =
-    let ih = WroteSome-there rest (change ∷ old) new some in
-    (change ∷ ih.0, ih.1, ap (λ (ws : List Change). change ∷ ws) ih.2,
-     ih.3 ∙ sym (ap (λ (ws : List Change). ws ++ old) (reverse-append (change ∷ []) ih.0) ∙ append_assoc (reverse ih.0) (change ∷ []) old))
+    let ih = WroteSome-there rest (change ∷ old) new some in (
+      change ∷ ih.0,
+      ih.1,
+      ap (λ (ws : List Change). change ∷ ws) ih.2,
+      ih.3 ∙ sym (ap (λ (ws : List Change). ws ++ old) (reverse-append (change ∷ []) ih.0) ∙ append_assoc (reverse ih.0) (change ∷ []) old),
+    )
 
 pub WroteSome-back : (writes : List Change) (old new : History) (done later : List Change) → writes ≡ done ++ later → new ≡ reverse done ++ old → WroteSome writes old new
 WroteSome-back [] old new [] later e grew = grew
@@ -146,4 +149,4 @@ WroteSome-back (change ∷ rest) old new (x ∷ done) later e grew =
     let same : change ≡ x = cc in
     let tail : rest ≡ done ++ later = cc in
     inr (WroteSome-back rest (change ∷ old) new done later tail
-         (grew ∙ ap (λ (ws : List Change). ws ++ old) (reverse-append (x ∷ []) done) ∙ append_assoc (reverse done) (x ∷ []) old ∙ ap (λ (c : Change). reverse done ++ c ∷ old) (sym same)))
+    (grew ∙ ap (λ (ws : List Change). ws ++ old) (reverse-append (x ∷ []) done) ∙ append_assoc (reverse done) (x ∷ []) old ∙ ap (λ (c : Change). reverse done ++ c ∷ old) (sym same)))

@@ -2,7 +2,7 @@
 use Rattle.std.proofs.Common.{◌≡◌, ◌≢◌, ℕ, ◌==◌, Bool, false, cond, List, [], ◌∷◌, ◌++◌, Option, Some, None, refl, sym, ◌∙◌, ap, append_assoc, arith}
 use Rattle.std.proofs.lemmas.Grind.{common_steps}
 use Rattle.std.specs.List.{list_any}
-use Rattle.gb_store.specs.MemIndex.{after_prefix, name_only, name_of}
+use Rattle.gb_store.specs.MemIndex.{after_prefix, name_only, name_below}
 
 after_prefix-append : (p n : List ℕ) → after_prefix p (p ++ n) ≡ Some n
 after_prefix-append [] n = refl
@@ -17,23 +17,23 @@ name_only-is : (o : Option (List ℕ)) (n : List ℕ) → name_only o ≡ Some n
 name_only-is None n e = cc
 name_only-is (Some m) n e = grind (arith, common_steps)
 
-pub name_of-is : (dir path name : List ℕ) → name_of dir path ≡ Some name → (path ≡ dir ++ 47 ∷ name) × (list_any (λ c. c == 47) name ≡ false)
-name_of-is dir path name e =
+pub name_below-is : (dir path name : List ℕ) → name_below dir path ≡ Some name → (path ≡ dir ++ 47 ∷ name) × (list_any (λ c. c == 47) name ≡ false)
+name_below-is dir path name e =
     let parts = name_only-is (after_prefix (dir ++ 47 ∷ []) path) name e in
     (after_prefix-is (dir ++ 47 ∷ []) path name parts.0 ∙ append_assoc dir (47 ∷ []) name, parts.1)
 
--- what `name_of` answers at such a path
-pub name_of-at : (dir name : List ℕ) → name_of dir (dir ++ 47 ∷ name) ≡ cond (list_any (λ c. c == 47) name) None (Some name)
-name_of-at dir name =
+-- what `name_below` answers at such a path
+pub name_below-at : (dir name : List ℕ) → name_below dir (dir ++ 47 ∷ name) ≡ cond (list_any (λ c. c == 47) name) None (Some name)
+name_below-at dir name =
     ap name_only (ap (after_prefix (dir ++ 47 ∷ [])) (sym (append_assoc dir (47 ∷ []) name)) ∙ after_prefix-append (dir ++ 47 ∷ []) name)
 
 -- a path that has no such form has no such name
-pub name_of-none : (dir path : List ℕ) → ((name : List ℕ) → path ≢ dir ++ 47 ∷ name) → name_of dir path ≡ None
-name_of-none dir path other = each (name_of dir path) refl
+pub name_below-none : (dir path : List ℕ) → ((name : List ℕ) → path ≢ dir ++ 47 ∷ name) → name_below dir path ≡ None
+name_below-none dir path other = each (name_below dir path) refl
   where
-    each : (o : Option (List ℕ)) → name_of dir path ≡ o → name_of dir path ≡ None
+    each : (o : Option (List ℕ)) → name_below dir path ≡ o → name_below dir path ≡ None
     each None e = e
-    each (Some name) e = absurd (other name (name_of-is dir path name e).0)
+    each (Some name) e = absurd (other name (name_below-is dir path name e).0)
 
-pub name_of-at_slash : (dir path name : List ℕ) → path ≡ dir ++ 47 ∷ name → (b : Bool) → list_any (λ c. c == 47) name ≡ b → name_of dir path ≡ cond b None (Some name)
-name_of-at_slash dir path name e b h = ap (name_of dir) e ∙ name_of-at dir name ∙ ap (λ (x : Bool). cond x None (Some name)) h
+pub name_below-at_slash : (dir path name : List ℕ) → path ≡ dir ++ 47 ∷ name → (b : Bool) → list_any (λ c. c == 47) name ≡ b → name_below dir path ≡ cond b None (Some name)
+name_below-at_slash dir path name e b h = ap (name_below dir) e ∙ name_below-at dir name ∙ ap (λ (x : Bool). cond x None (Some name)) h

@@ -1,11 +1,10 @@
 -- Paths of objects, by their parts, by their form and by their last bytes.
-use Rattle.std.proofs.Common.{◌≡◌, ◌⊎◌, ℕ, ◌+◌, ◌*◌, ◌-◌, ◌<◌, ◌≤◌, ◌==◌, zero, suc, Bool, true, false, ◌&&◌, ◌||◌, cond, List, [], ◌∷◌, ◌++◌, length, take, drop, reverse, refl, sym, ◌∙◌, ap, subst, inl, inr, append-nil, append_assoc, arith, length-append, length-drop, drop-cons, get_or}
+use Rattle.std.proofs.Common.{◌≡◌, ◌⊎◌, ℕ, ◌+◌, ◌*◌, ◌-◌, ◌<◌, ◌≤◌, ◌==◌, suc, Bool, true, false, ◌&&◌, ◌||◌, cond, List, [], ◌∷◌, ◌++◌, length, take, drop, reverse, refl, sym, ◌∙◌, ap, inl, inr, append_assoc, arith, length-append, length-drop, drop-cons}
 use Rattle.std.specs.Prelude.{codes, slice_index, nat_le, is_some, ◌/◌, ◌%◌}
 use Rattle.std.proofs.Common.{eqb-true}
-use Rattle.std.proofs.lemmas.Grind.{common_steps}
 use Rattle.std.proofs.lemmas.List.{take-append-drop, take_more, reverse-append, reverse-reverse, length-take-le, drop-drop}
 use Rattle.std.proofs.lemmas.Bool.Decides.{nat_tests}
-use Rattle.std.proofs.lemmas.List.Splits.{join_with_byte-slice_split, slice_split-cons_yes, slice_split-cons_no}
+use Rattle.std.proofs.lemmas.List.Splits.{join_with_byte-slice_split, slice_split-cons_no}
 use Rattle.std.proofs.lemmas.Slice.Eq.{bytes_eq-Decides}
 use Rattle.std.proofs.Math.Seq.{drop-append_seam}
 use Rattle.std.specs.List.{list_all, slice_split, onto_first, join_with_byte}
@@ -16,7 +15,6 @@ use Rattle.hex.proofs.HexLemmas.{IsDigits-lower_digits, length-encode_with}
 use Rattle.gb_text.specs.Digits.{IsName}
 use Rattle.gb_text.specs.declared.id.Name.{Name}
 use Rattle.gb_text.specs.Folder.{parts_of, joint, joined}
-use Rattle.gb_text.proofs.FolderLemmas.{join_with_byte-first, join_with_byte-more}
 use Rattle.gb_store.specs.ObjectPath.{is_digits, ends_as_object, is_object_path, IsFront, IsObjectPath, object_place}
 use Rattle.gb_store.specs.ObjectTail.{is_object_tail, has_object_tail}
 
@@ -148,7 +146,6 @@ either true b e = inl refl
 either false b e = inr e
 
 two_digits : (fan rest : List ℕ) → is_digits 2 fan ≡ true → list_all is_hex_digit rest ≡ true → is_object_tail (tail_of fan rest) ≡ true
-unfolding tail_of
 two_digits [] rest f r = absurd (cc f)
 two_digits (a ∷ []) rest f r = absurd (cc f)
 two_digits (a ∷ b ∷ []) rest f r = rw (f, r) refl
@@ -157,7 +154,6 @@ two_digits (a ∷ b ∷ c ∷ cs) rest f r =
     absurd (omega arith)
 
 length-tail_of : (fan rest : List ℕ) → length fan ≡ 2 → length rest ≡ 38 → length (tail_of fan rest) ≡ 49
-unfolding tail_of
 length-tail_of fan rest f r = omega (arith, length-append fan (47 ∷ rest))
 
 index-at : (above rest : List ℕ) → slice_index (above ++ 47 ∷ rest) (length above) ≡ 47
@@ -210,8 +206,7 @@ tail_parts tail long good =
     let fan : length (take 2 (drop 8 tail)) ≡ 2 = length-take-le 2 (drop 8 tail) (omega arith) in
     let rest : length (drop 11 tail) ≡ 38 = omega (arith, length-drop 11 tail) in
     let ten : drop 2 (drop 8 tail) ≡ 47 ∷ drop 11 tail = drop-drop 2 8 tail ∙ drop-cons tail 10 0 (omega arith) ∙ ap (λ (c : ℕ). c ∷ drop 11 tail) slash in
-    let cut : drop 8 tail ≡ take 2 (drop 8 tail) ++ 47 ∷ drop 11 tail = sym (take-append-drop 2 (drop 8 tail)) ∙ ap (λ (t : List ℕ). take 2 (drop 8 tail) ++ t) ten in
-    (
+    let cut : drop 8 tail ≡ take 2 (drop 8 tail) ++ 47 ∷ drop 11 tail = sym (take-append-drop 2 (drop 8 tail)) ∙ ap (λ (t : List ℕ). take 2 (drop 8 tail) ++ t) ten in (
       sym (take-append-drop 8 tail) ∙ ap (λ (t : List ℕ). t ++ drop 8 tail) word ∙ ap (λ (t : List ℕ). codes "objects/" ++ t) cut,
       ap (λ (n : ℕ). (n == 2) && list_all is_hex_digit (take 2 (drop 8 tail))) fan ∙ second.0,
       ap (λ (n : ℕ). (n == 38) && list_all is_hex_digit (drop 11 tail)) rest ∙ third.1,

@@ -1,11 +1,10 @@
 pub mod Counts
-pub mod Fails
 pub mod Faults
 pub mod Files
-pub mod Mem
 pub mod MemIndex
-pub mod MemSinkState
+pub mod MemSink
+pub mod MemStore
 pub mod Moments
 pub mod ObjectPath
 pub mod ObjectTail
-pub mod Writer
+pub mod WriteSink

@@ -1,5 +1,5 @@
 -- The index by path of a list of writes.
-use Rattle.std.specs.Prelude.{◌≡◌, ◌<◌, ◌==◌, ℕ, List, [], ◌∷◌, ◌++◌, length, reverse, Option, Some, None, is_some, slice_get, String, string_bytes, if◌then◌else◌}
+use Rattle.std.specs.Prelude.{◌≡◌, ◌==◌, ℕ, List, [], ◌∷◌, ◌++◌, length, reverse, Option, Some, None, is_some, slice_get, String, string_bytes, if◌then◌else◌}
 use Rattle.std.specs.List.{list_any}
 use Rattle.std.specs.Option.{option_and_then, option_to_list}
 use Rattle.std.specs.BTreeMap.{BTreeMap, get_by_text}
@@ -19,8 +19,8 @@ name_only None = None
 name_only (Some name) = if list_any (λ c. c == 47) name then None else Some name
 
 -- the name of a path that is right in a folder
-abbrev pub name_of : List ℕ → List ℕ → Option (List ℕ)
-name_of dir path = name_only (after_prefix (dir ++ 47 ∷ []) path)
+abbrev pub name_below : List ℕ → List ℕ → Option (List ℕ)
+name_below dir path = name_only (after_prefix (dir ++ 47 ∷ []) path)
 
 -- the bytes of the write at an index
 abbrev pub bytes_at : List Change → ℕ → Option (List ℕ)
@@ -37,7 +37,7 @@ IsIndex latest changes = (path : List ℕ) → get_by_text latest path ≡ newes
 
 -- the name of an entry of the index that is right in a folder, and whose file stands
 abbrev pub entry_name : List Change → List ℕ → String Global × ℕ → Option (List ℕ)
-entry_name changes dir entry = if is_some (bytes_at changes entry.1) then name_of dir (string_bytes entry.0) else None
+entry_name changes dir entry = if is_some (bytes_at changes entry.1) then name_below dir (string_bytes entry.0) else None
 
 -- the names of such entries
 abbrev pub listed : List Change → List ℕ → List (String Global × ℕ) → List (List ℕ)

@@ -12,7 +12,8 @@ abbrev pub EachWrite : (Files → Change → Type 0) → History → List Change
 EachWrite May old [] = ⊤
 EachWrite May old (change ∷ earlier) = EachWrite May old earlier × May (files_of (earlier ++ old)) change
 
--- the history grew by writes that the rule allows, each by the files at its moment, and did not change otherwise
+-- the history grew by writes that the rule allows, each by the files at its moment, and did not
+-- change otherwise
 pub record Wrote (May : Files → Change → Type 0) (old new : History) : Type 0 where
   pub writes : List Change
   pub grew : new ≡ writes ++ old

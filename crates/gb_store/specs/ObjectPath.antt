@@ -40,6 +40,7 @@ pub record IsObjectPath (path : List ℕ) : Type 0 where
   pub rest_digits : is_digits 38 rest ≡ true
   pub is : path ≡ front ++ codes "objects/" ++ fan ++ codes "/" ++ rest
 
--- where an object lies below its folder: `objects/`, the first two digits of its name, a slash and the others
+-- where an object lies below its folder: `objects/`, the first two digits of its name, a slash and
+-- the others
 abbrev pub object_place : Name → List ℕ
 object_place name = codes "objects/" ++ take 2 (encode_lower name.bytes) ++ codes "/" ++ drop 2 (encode_lower name.bytes)

@@ -1,5 +1,6 @@
-//! Laws of files, of the writes of a call and of paths, each the contract of a function that does nothing.
-ghost use Rattle.std.specs.Prelude.{◌≡◌, ◌≢◌, ◌↔◌, ◌≤◌, ◌++◌, ◌∷◌, ℕ, List, length, reverse, Some, None, IsTrue};
+//! Laws of files, of the writes of a call and of paths, each the contract of a function that does
+//! nothing.
+ghost use Rattle.std.specs.Prelude.{◌≡◌, ◌≢◌, ◌↔◌, ◌≤◌, ◌++◌, ◌∷◌, ℕ, List, length, reverse, Some, None, Bool, IsTrue};
 ghost use Rattle.gb_text.specs.Digits.{IsName};
 ghost use Rattle.gb_text.specs.Folder.{joined};
 ghost use Rattle.gb_text.specs.declared.id.Name.{Name};
@@ -31,88 +32,98 @@ pub trait Property {
 
 /// A write changes what stands at its path, and at no other.
 pub fn writes_change_their_path()
-    ensures put { (path bytes : List ℕ) (earlier : History) → file_at (Put path bytes ∷ earlier) path ≡ Some bytes }
-    ensures removed { (path : List ℕ) (earlier : History) → file_at (Removed path ∷ earlier) path ≡ None }
-    ensures other { (change : Change) (earlier : History) (path : List ℕ) → change.path ≢ path → file_at (change ∷ earlier) path ≡ file_at earlier path }
-    ensures files { (change : Change) (earlier : History) → files_of (change ∷ earlier) ≡ written (files_of earlier) change }
-{
-}
+    ensures put { (path bytes : List ℕ) (earlier : History)
+        → file_at (Put path bytes ∷ earlier) path ≡ Some bytes }
+    ensures removed { (path : List ℕ) (earlier : History)
+        → file_at (Removed path ∷ earlier) path ≡ None }
+    ensures other { (change : Change) (earlier : History) (path : List ℕ) → change.path ≢ path
+        → file_at (change ∷ earlier) path ≡ file_at earlier path }
+    ensures files { (change : Change) (earlier : History)
+        → files_of (change ∷ earlier) ≡ written (files_of earlier) change }
+{}
 
 /// A count that rose in a part of a call, and fell in none, has risen in the whole.
 pub fn counts_rise_in_part()
-    ensures first { (before between after : ℕ) → HasRisen before between → between ≤ after → HasRisen before after }
-    ensures second { (before between after : ℕ) → before ≤ between → HasRisen between after → HasRisen before after }
-{
-}
+    ensures first { (before between after : ℕ) → HasRisen before between → between ≤ after
+        → HasRisen before after }
+    ensures second { (before between after : ℕ) → before ≤ between → HasRisen between after
+        → HasRisen before after }
+{}
 
 /// Nothing written is written by any rule.
 pub fn wrote_nothing<R: Rule>()
     ensures { (old : History) → Wrote R.allows old old }
-{
-}
+{}
 
 /// A write that a rule allows is written by it.
 pub fn wrote_one<R: Rule>()
-    ensures { (change : Change) (old : History) → R.allows (files_of old) change → Wrote R.allows old (change ∷ old) }
-{
-}
+    ensures { (change : Change) (old : History) → R.allows (files_of old) change
+        → Wrote R.allows old (change ∷ old) }
+{}
 
 /// What two calls wrote by a rule, one after the other, is written by it.
 pub fn wrote_composes<R: Rule>()
-    ensures { (old mid new : History) → Wrote R.allows old mid → Wrote R.allows mid new → Wrote R.allows old new }
-{
-}
+    ensures { (old mid new : History) → Wrote R.allows old mid → Wrote R.allows mid new
+        → Wrote R.allows old new }
+{}
 
 /// What is written by a rule is written by a wider one.
 pub fn wrote_weakens<R: Rule, W: Rule>()
-    ensures { ((files : Files) (change : Change) → R.allows files change → W.allows files change) → (old new : History) → Wrote R.allows old new → Wrote W.allows old new }
-{
-}
+    ensures { ((files : Files) (change : Change) → R.allows files change → W.allows files change)
+        → (old new : History) → Wrote R.allows old new → Wrote W.allows old new }
+{}
 
 /// Of what is written by a rule, the writes before a moment are, and those after it.
 pub fn each_part_is_allowed<R: Rule>()
-    ensures before { (old new moment : History) → Wrote R.allows old new → IsMoment old new moment → Wrote R.allows old moment }
-    ensures after { (old new moment : History) → Wrote R.allows old new → IsMoment old new moment → Wrote R.allows moment new }
-{
-}
+    ensures before { (old new moment : History) → Wrote R.allows old new
+        → IsMoment old new moment → Wrote R.allows old moment }
+    ensures after { (old new moment : History) → Wrote R.allows old new → IsMoment old new moment
+        → Wrote R.allows moment new }
+{}
 
-/// The moments of a call are what its writes are cut to, from as many as there were before it to as many as there are after
-/// it: the files of such a cut are those of a moment.
+/// The moments of a call are what its writes are cut to, from as many as there were before it to as
+/// many as there are after it: the files of such a cut are those of a moment.
 pub fn cuts_are_moments()
-    ensures cut { (old new : History) (count : ℕ) → IsMoment old new old → length old ≤ count → count ≤ length new → IsMoment old new (first_writes count new) }
-    ensures counted { (new : History) (count : ℕ) → count ≤ length new → length (first_writes count new) ≡ count }
-    ensures moment { (old new moment : History) → IsMoment old new moment → moment ≡ first_writes (length moment) new }
-{
-}
+    ensures cut { (old new : History) (count : ℕ) → IsMoment old new old → length old ≤ count
+        → count ≤ length new → IsMoment old new (first_writes count new) }
+    ensures counted { (new : History) (count : ℕ) → count ≤ length new
+        → length (first_writes count new) ≡ count }
+    ensures moment { (old new moment : History) → IsMoment old new moment
+        → moment ≡ first_writes (length moment) new }
+{}
 
-/// What each write that a rule allows keeps holds at each moment of what is written by it, if it held before.
+/// What each write that a rule allows keeps holds at each moment of what is written by it, if it
+/// held before.
 pub fn kept_at_each_moment<R: Rule, P: Property>()
-    ensures { ((files : Files) (change : Change) → P.holds files → R.allows files change → P.holds (written files change))
-        → (old new : History) → P.holds (files_of old) → Wrote R.allows old new → AllMoments P.holds old new }
-{
-}
+    ensures { ((files : Files) (change : Change) → P.holds files → R.allows files change
+        → P.holds (written files change))
+        → (old new : History) → P.holds (files_of old) → Wrote R.allows old new
+        → AllMoments P.holds old new }
+{}
 
-/// Some of a list of writes were made in order where it begins with those that were made.
+/// Some of a list of writes were made, in order, exactly where it begins with those that were made.
 pub fn some_are_the_first()
     ensures { (writes : List Change) (old new : History) → WroteSome writes old new
-        ↔ ((done : List Change) × (later : List Change) × (writes ≡ done ++ later) × (new ≡ reverse done ++ old)) }
-{
-}
+        ↔ ((done : List Change) × (later : List Change) × (writes ≡ done ++ later)
+        × (new ≡ reverse done ++ old)) }
+{}
 
-/// What holds of the faults of two calls, one after the other, holds of both together, where the first did not fail.
+/// What holds of the faults of two calls, one after the other, holds of both together, where the
+/// first did not fail: both fail where the second does.
 pub fn faults_compose<S: Store>()
-    ensures { (old mid new : S) → KeepsFaults S.never_fails S.faults ⊥ old mid → KeepsFaults S.never_fails S.faults ⊥ mid new → KeepsFaults S.never_fails S.faults ⊥ old new }
-{
-}
+    ensures { (failed : Bool) (old mid new : S) → KeepsFaults S.never_fails S.faults ⊥ old mid
+        → KeepsFaults S.never_fails S.faults (IsTrue failed) mid new
+        → KeepsFaults S.never_fails S.faults (IsTrue failed) old new }
+{}
 
-/// A path is that of an object exactly where it is a front that ends a part, `objects/`, two digits, `/` and thirty-eight.
+/// A path is that of an object exactly where it is a front that ends a part, `objects/`, two
+/// digits, `/` and thirty-eight.
 pub fn object_paths_by_form()
     ensures { (path : List ℕ) → IsTrue (is_object_path path) ↔ IsObjectPath path }
-{
-}
+{}
 
 /// The place of an object below a folder is the path of an object.
 pub fn objects_have_object_paths()
-    ensures { (folder : List ℕ) (name : Name) → IsName name → IsTrue (is_object_path (joined folder (object_place name))) }
-{
-}
+    ensures { (folder : List ℕ) (name : Name) → IsName name
+        → IsTrue (is_object_path (joined folder (object_place name))) }
+{}

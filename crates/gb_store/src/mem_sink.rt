@@ -1,5 +1,5 @@
 //! A sink in memory.
-ghost use Rattle.std.specs.Prelude.{◌≡◌, ◌≤◌, ◌<◌, ◌==◌, length, IfOk, IsTrue, IsErrOf};
+ghost use Rattle.std.specs.Prelude.{◌≡◌, ◌≤◌, ◌<◌, length, IfOk, IsTrue, IsErrOf};
 ghost use Rattle.gb_store.specs.Faults.{KeepsFaults};
 
 use crate::{Sink, SinkFault};
@@ -19,7 +19,7 @@ pub struct MemSink {
 
 impl Model for MemSink {
     ghost use Rattle.std.specs.Prelude.{◌≤◌};
-    ghost use Rattle.gb_store.specs.MemSinkState.{SinkState};
+    ghost use Rattle.gb_store.specs.MemSink.{SinkState};
 
     ghost Value = { SinkState };
 
@@ -29,10 +29,10 @@ impl Model for MemSink {
 }
 
 impl MemSink {
-    ghost use Rattle.gb_store.specs.MemSinkState.{empty_sink, is_listed, counted, has_no_fails, fault_count};
+    ghost use Rattle.gb_store.specs.MemSink.{empty_sink, is_listed, counted, has_no_fails, fault_count};
 
-    /// An empty sink, which takes at most `step` bytes a write. Its writes are numbered from 0, and those listed fail.
-    /// Takes no memory.
+    /// An empty sink, which takes at most `step` bytes a write. Its writes are numbered from 0, and
+    /// those listed fail. Takes no memory.
     pub fn new(alloc: Global, fails: List<u64>, step: usize) -> MemSink
         requires { 1 ≤ step }
         ensures { result ≡ empty_sink fails step }
@@ -71,8 +71,8 @@ impl MemSink {
 }
 
 impl Sink for MemSink {
-    ghost use Rattle.std.specs.Prelude.{true, length, ◌==◌};
-    ghost use Rattle.gb_store.specs.MemSinkState.{SinkAnswers, has_no_fails, fault_count};
+    ghost use Rattle.std.specs.Prelude.{true};
+    ghost use Rattle.gb_store.specs.MemSink.{SinkAnswers, has_no_fails, fault_count};
 
     ghost tells = { true };
 
@@ -87,7 +87,8 @@ impl Sink for MemSink {
     fn write(&mut self, _alloc: Global, bytes: &[u8]) -> Result<usize, SinkFault>
         ensures exact { SinkAnswers bytes.now self.old self.new result }
         ensures progress { IfOk result (λ n. 0 < length bytes.now → 0 < n) }
-        ensures caused { KeepsFaults has_no_fails fault_count (IsErrOf result SinkFault.Failed) self.old self.new }
+        ensures caused { KeepsFaults has_no_fails fault_count (IsErrOf result SinkFault.Failed)
+            self.old self.new }
     {
         if self.begin() {
             return Err(SinkFault::Failed);

@@ -1,11 +1,12 @@
 //! A store in memory: a list of writes, and an index of it by path.
-ghost use Rattle.std.specs.Prelude.{◌≡◌, ◌≤◌, is_some, ◌∷◌, ◌++◌, [], reverse, length, string_bytes, option_copied, IfOk, OnOk, OnErr, IsErrOf, IsSome, ◌==◌};
-ghost use Rattle.gb_store.specs.Files.{file_at, files_of, TellsFile, IsListing};
-ghost use Rattle.gb_store.specs.Fails.{fail_at};
+ghost use Rattle.std.specs.Prelude.{◌≡◌, length, IfOk, OnOk, OnErr, IsErrOf, IsSome};
+ghost use Rattle.std.specs.Option.{option_copied};
 ghost use Rattle.gb_store.specs.Counts.{raised};
 ghost use Rattle.gb_store.specs.Faults.{KeepsFaults};
-ghost use Rattle.gb_store.specs.MemIndex.{IsIndex, bytes_at, name_of};
+ghost use Rattle.gb_store.specs.Files.{file_at, files_of, TellsFile, IsListing};
+ghost use Rattle.gb_store.specs.MemStore.{fail_at};
 
+use crate::mem_index::{append, find, index_of, names};
 use crate::object_path::is_object_path;
 use crate::{Change, Content, Store, StoreFault};
 use gb_text::{Bytes, List, Memory, Text};
@@ -13,13 +14,16 @@ use std::alloc::Global;
 use std::collections::BTreeMap;
 use std::marker::Model;
 
-/// A call that fails, counted from 0, with its write made or not.
+/// A call that fails: its number, counted from 0 over calls of all four kinds, and whether its
+/// write is made first.
 #[derive(Clone, Copy, Debug, PartialEq, Eq)]
 pub struct Fail {
     pub call: u64,
     pub after: bool,
 }
 
+/// A store that keeps its writes in memory, and fails at the calls that it is told to. Its numbers
+/// stand still at 2^64 - 1.
 #[derive(Drop)]
 pub struct MemStore {
     // the oldest first
@@ -34,7 +38,7 @@ pub struct MemStore {
 
 impl Model for MemStore {
     ghost use Rattle.std.specs.Prelude.{reverse};
-    ghost use Rattle.gb_store.specs.Mem.{MemState};
+    ghost use Rattle.gb_store.specs.MemStore.{MemState};
 
     ghost Value = { MemState };
 
@@ -46,11 +50,12 @@ impl Model for MemStore {
 }
 
 impl MemStore {
-    ghost use Rattle.gb_store.specs.Mem.{fresh, begun, cut_to, has_no_fails, fault_count};
+    ghost use Rattle.gb_store.specs.MemStore.{WriteAnswers, empty_store, next_fail, after_call, with_write, cut_to, has_no_fails, fault_count};
 
-    /// An empty store, whose listed calls fail.
+    /// An empty store, whose listed calls fail; of two entries for one call the first decides.
+    /// Takes no memory.
     pub fn new(alloc: Global, fails: List<Fail>) -> MemStore
-        ensures { result ≡ fresh fails }
+        ensures { result ≡ empty_store fails }
     {
         MemStore {
             changes: Vec::new(alloc),
@@ -62,25 +67,29 @@ impl MemStore {
         }
     }
 
+    /// How many calls were listed.
     pub fn faults(&self) -> u64
         ensures { result ≡ self.now.faults }
     {
         self.faults
     }
 
+    /// How many calls of `read` had the path of an object.
     pub fn reads(&self) -> u64
         ensures { result ≡ self.now.reads }
     {
         self.reads
     }
 
+    /// How many writes there are.
     pub fn writes(&self) -> u64
         ensures { result ≡ length self.now.history }
     {
         self.changes.len() as u64
     }
 
-    /// Keeps the first `count` writes.
+    /// Keeps the first `count` writes, all where there are fewer, and the counts. At want of memory
+    /// nothing has changed.
     pub fn cut(&mut self, alloc: Global, count: u64) -> Result<(), Memory>
         ensures ok { OnOk result (self.new ≡ cut_to count self.old) }
         ensures err { OnErr result (self.new ≡ self.old) }
@@ -95,10 +104,11 @@ impl MemStore {
         Ok(())
     }
 
-    // Counts a call, and a fault if it is listed.
+    // Counts a call, and a fault if it is listed. Answers whether its write is to be made, if it
+    // is.
     fn begin(&mut self) -> Option<bool>
-        ensures fail { result ≡ fail_at self.old.calls self.old.fails }
-        ensures state { self.new ≡ begun self.old }
+        ensures fail { result ≡ next_fail self.old }
+        ensures state { self.new ≡ after_call self.old }
         ensures caused { KeepsFaults has_no_fails fault_count (IsSome result) self.old self.new }
     {
         let call = self.calls;
@@ -132,24 +142,43 @@ impl MemStore {
         self.reads = self.reads.saturating_add(1);
     }
 
+    // Counts a call and makes its write, as the list of failures has it.
+    fn write(&mut self, alloc: Global, path: &str, bytes: Option<&[u8]>) -> Result<(), StoreFault>
+        ensures exact { WriteAnswers (record { path = path.now; bytes = option_copied bytes.entry })
+            self.old self.new result }
+        ensures caused { KeepsFaults has_no_fails fault_count (IsErrOf result StoreFault.Failed)
+            self.old self.new }
+    {
+        let fail = self.begin();
+        if fail == Some(false) {
+            return Err(StoreFault::Failed);
+        }
+        self.add(alloc, path, bytes)?;
+        match fail {
+            Some(_) => Err(StoreFault::Failed),
+            None => Ok(()),
+        }
+    }
+
     // Adds a write.
-    fn add(&mut self, alloc: Global, path: &str, bytes: Option<Bytes>) -> Result<(), Memory>
-        ensures ok { OnOk result (self.new ≡ record self.old { history = record { path = path.now; bytes = bytes } ∷ self.old.history }) }
+    fn add(&mut self, alloc: Global, path: &str, bytes: Option<&[u8]>) -> Result<(), Memory>
+        ensures ok { OnOk result (self.new
+            ≡ with_write (record { path = path.now; bytes = option_copied bytes.entry }) self.old) }
         ensures err { OnErr result (self.new ≡ self.old) }
     {
         let key = String::from_str(alloc, path)?;
         let change = Change {
             path: Text::from_str(alloc, path)?,
-            bytes,
+            bytes: copied(alloc, bytes)?,
         };
         append(&mut self.changes, &mut self.latest, key, change)
     }
 }
 
 impl Store for MemStore {
-    ghost use Rattle.std.specs.Prelude.{true, ◌==◌, length};
+    ghost use Rattle.std.specs.Prelude.{true};
     ghost use Rattle.gb_store.specs.Files.{IsWithin, Put, Removed};
-    ghost use Rattle.gb_store.specs.Mem.{begun, after_read, ReadAnswers, WriteAnswers, has_no_fails, fault_count};
+    ghost use Rattle.gb_store.specs.MemStore.{after_call, after_read, ReadAnswers, WriteAnswers, has_no_fails, fault_count};
 
     ghost tells = { true };
 
@@ -165,7 +194,8 @@ impl Store for MemStore {
         ensures state { self.new ≡ after_read path.now self.old }
         ensures answer { ReadAnswers self.old result (λ content. TellsFile (file_at self.old.history path.now) limit content) }
         ensures within { IfOk result (IsWithin limit) }
-        ensures caused { KeepsFaults has_no_fails fault_count (IsErrOf result StoreFault.Failed) self.old self.new }
+        ensures caused { KeepsFaults has_no_fails fault_count (IsErrOf result StoreFault.Failed)
+            self.old self.new }
     {
         if is_object_path(path) {
             self.count_read();
@@ -177,9 +207,10 @@ impl Store for MemStore {
     }
 
     fn list(&mut self, alloc: Global, dir: &str) -> Result<List<Text>, StoreFault>
-        ensures state { self.new ≡ begun self.old }
+        ensures state { self.new ≡ after_call self.old }
         ensures answer { ReadAnswers self.old result (λ names. IsListing (files_of self.old.history) dir.now names) }
-        ensures caused { KeepsFaults has_no_fails fault_count (IsErrOf result StoreFault.Failed) self.old self.new }
+        ensures caused { KeepsFaults has_no_fails fault_count (IsErrOf result StoreFault.Failed)
+            self.old self.new }
     {
         if self.begin().is_some() {
             return Err(StoreFault::Failed);
@@ -189,78 +220,19 @@ impl Store for MemStore {
 
     fn put(&mut self, alloc: Global, path: &str, bytes: &[u8]) -> Result<(), StoreFault>
         ensures exact { WriteAnswers (Put path.now bytes.now) self.old self.new result }
-        ensures caused { KeepsFaults has_no_fails fault_count (IsErrOf result StoreFault.Failed) self.old self.new }
+        ensures caused { KeepsFaults has_no_fails fault_count (IsErrOf result StoreFault.Failed)
+            self.old self.new }
     {
-        let fail = self.begin();
-        if fail == Some(false) {
-            return Err(StoreFault::Failed);
-        }
-        let bytes = Bytes::from_slice(alloc, bytes)?;
-        self.add(alloc, path, Some(bytes))?;
-        if fail.is_some() {
-            return Err(StoreFault::Failed);
-        }
-        Ok(())
+        self.write(alloc, path, Some(bytes))
     }
 
     fn remove(&mut self, alloc: Global, path: &str) -> Result<(), StoreFault>
         ensures exact { WriteAnswers (Removed path.now) self.old self.new result }
-        ensures caused { KeepsFaults has_no_fails fault_count (IsErrOf result StoreFault.Failed) self.old self.new }
+        ensures caused { KeepsFaults has_no_fails fault_count (IsErrOf result StoreFault.Failed)
+            self.old self.new }
     {
-        let fail = self.begin();
-        if fail == Some(false) {
-            return Err(StoreFault::Failed);
-        }
-        self.add(alloc, path, None)?;
-        if fail.is_some() {
-            return Err(StoreFault::Failed);
-        }
-        Ok(())
+        self.write(alloc, path, None)
     }
-}
-
-// The names of the files that stand right in a folder.
-fn names(
-    alloc: Global,
-    changes: &[Change],
-    latest: &BTreeMap<String, usize>,
-    dir: &str,
-) -> Result<Vec<Text>, Memory>
-    requires { IsIndex latest.now changes.now }
-    ensures { IfOk result (λ names. IsListing (files_of (reverse changes.now)) dir.now names.items) }
-{
-    let mut names = Vec::new(alloc);
-    let _ = latest.len();
-    for (path, at) in latest {
-        let Some(name) = name_in(dir, path.as_str()) else {
-            continue;
-        };
-        if stands(changes, *at) {
-            names.push(Text::from_str(alloc, name)?)?;
-        }
-    }
-    Ok(names)
-}
-
-// Whether the write at an index left a file.
-fn stands(changes: &[Change], at: usize) -> bool
-    ensures { result ≡ is_some (bytes_at changes.now at) }
-{
-    match changes.get(at) {
-        None => false,
-        Some(change) => change.bytes.is_some(),
-    }
-}
-
-// The name of a path that is right in a folder.
-fn name_in<'a>(dir: &str, path: &'a str) -> Option<&'a str>
-    ensures { option_copied result ≡ name_of dir.now path.now }
-{
-    let name = path.strip_prefix(dir)?.strip_prefix('/')?;
-    if name.as_bytes().contains(&b'/') {
-        return None;
-    }
-    Some(name)
 }
 
 // What the first entry for a call says.
@@ -271,72 +243,12 @@ fn find_fail(fails: &[Fail], call: u64) -> Option<bool>
     Some(found.after)
 }
 
-// Adds a write, and sets the index of its path. At want of memory nothing has changed.
-fn append(
-    changes: &mut Vec<Change>,
-    latest: &mut BTreeMap<String, usize>,
-    key: String,
-    change: Change,
-) -> Result<(), Memory>
-    requires index { IsIndex latest.old changes.old.items }
-    requires key { string_bytes key ≡ change.path }
-    ensures ok { OnOk result (changes.new.items ≡ changes.old.items ++ change ∷ []) }
-    ensures err { OnErr result (changes.new.items ≡ changes.old.items) }
-    ensures index { IsIndex latest.new changes.new.items }
+// A copy of some bytes, if there are any.
+fn copied(alloc: Global, bytes: Option<&[u8]>) -> Result<Option<Bytes>, Memory>
+    ensures { IfOk result (λ copy. copy ≡ option_copied bytes.entry) }
 {
-    let at = changes.len();
-    changes.push(change)?;
-    if let Err(_) = latest.insert(key, at) {
-        let _ = changes.pop();
-        return Err(Memory);
+    match bytes {
+        Some(bytes) => Ok(Some(Bytes::from_slice(alloc, bytes)?)),
+        None => Ok(None),
     }
-    Ok(())
-}
-
-// The index of a list of writes.
-fn index_of(alloc: Global, changes: &[Change]) -> Result<BTreeMap<String, usize>, Memory>
-    ensures { IfOk result (λ latest. IsIndex latest changes.now) }
-{
-    let mut latest = BTreeMap::new(alloc);
-    for (at, change) in changes.iter().enumerate() {
-        let key = String::from_str(alloc, change.path.as_str())?;
-        latest.insert(key, at)?;
-    }
-    Ok(latest)
-}
-
-// What the last write of a path left.
-fn find(
-    alloc: Global,
-    changes: &[Change],
-    latest: &BTreeMap<String, usize>,
-    path: &str,
-    limit: u64,
-) -> Result<Content, Memory>
-    requires { IsIndex latest.now changes.now }
-    ensures { IfOk result (TellsFile (file_at (reverse changes.now) path.now) limit) }
-{
-    let Some(bytes) = newest(changes, latest, path) else {
-        return Ok(Content::Absent);
-    };
-    let bytes = bytes.as_slice();
-    if bytes.len() as u64 <= limit {
-        Ok(Content::Whole(Bytes::from_slice(alloc, bytes)?))
-    } else {
-        Ok(Content::Long)
-    }
-}
-
-// The bytes that the last write of a path left there.
-fn newest<'a>(
-    changes: &'a [Change],
-    latest: &BTreeMap<String, usize>,
-    path: &str,
-) -> Option<&'a Bytes>
-    requires { IsIndex latest.now changes.now }
-    ensures { option_copied result ≡ file_at (reverse changes.now) path.now }
-{
-    let at = *latest.get(path)?;
-    let change = &changes[at];
-    change.bytes.as_ref()
 }

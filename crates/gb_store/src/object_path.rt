@@ -5,8 +5,8 @@ ghost use Rattle.hex.specs.Hex.{is_hex_digit};
 ghost use Rattle.gb_store.specs.ObjectPath.{is_object_path};
 ghost use Rattle.gb_store.specs.ObjectTail.{has_object_tail, is_object_tail};
 
-/// Whether the last three parts of a path are `objects`, 2 hexadecimal digits and 38, with letters of either case. Takes
-/// the same time for a path of any length.
+/// Whether the last three parts of a path are `objects`, 2 hexadecimal digits and 38, with letters
+/// of either case. Takes the same time for a path of any length.
 pub fn is_object_path(path: &str) -> bool
     ensures { result ≡ is_object_path path.now }
 {

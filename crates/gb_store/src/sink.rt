@@ -19,27 +19,33 @@ pub trait Sink {
     /// How often it has failed, up to the last number of its type.
     ghost faults: { Self → ℕ };
 
-    /// Whether no call of it will ever fail.
+    /// Whether no call of it will ever answer `Failed`.
     ghost never_fails: { Self → Bool };
 
-    /// Takes some first bytes of a piece, at least one where there is one, and answers how many. A refusal takes none.
+    /// Takes some first bytes of a piece, at least one where there is one, and answers how many. A
+    /// refusal takes none.
     fn write(&mut self, alloc: Global, bytes: &[u8]) -> Result<usize, SinkFault>
         ensures within { IfOk result (λ n. n ≤ length bytes.now) }
         ensures progress { IfOk result (λ n. 0 < length bytes.now → 0 < n) }
-        ensures appended { IsTrue tells → IfOk result (λ n. written self.new ≡ written self.old ++ take n bytes.now) }
+        ensures appended { IsTrue tells → IfOk result (λ n. written self.new
+            ≡ written self.old ++ take n bytes.now) }
         ensures refused { IsTrue tells → OnErr result (written self.new ≡ written self.old) }
         ensures memory { IsErrOf result SinkFault.Memory → IsTrue takes_memory }
-        ensures caused { KeepsFaults never_fails faults (IsErrOf result SinkFault.Failed) self.old self.new };
+        ensures caused { KeepsFaults never_fails faults (IsErrOf result SinkFault.Failed)
+            self.old self.new };
 }
 
-/// Writes all of a piece, in as many calls as the sink wants. Where the sink refuses, some first bytes were written and
-/// not all, and the answer is the sink's.
+/// Writes all of a piece, in as many calls as the sink wants. Where the sink refuses, some first
+/// bytes were written and not all, and the answer is the sink's.
 pub fn write_whole<K: Sink>(alloc: Global, out: &mut K, bytes: &[u8]) -> Result<(), SinkFault>
-    ensures appended { IsTrue K.tells → OnOk result (K.written out.new ≡ K.written out.old ++ bytes.now) }
-    ensures prefix { IsTrue K.tells → OnErr result ((n : ℕ) × (n < length bytes.now) × (K.written out.new ≡ K.written out.old ++ take n bytes.now)) }
+    ensures appended { IsTrue K.tells → OnOk result (K.written out.new
+        ≡ K.written out.old ++ bytes.now) }
+    ensures prefix { IsTrue K.tells → OnErr result ((n : ℕ) × (n < length bytes.now)
+        × (K.written out.new ≡ K.written out.old ++ take n bytes.now)) }
     ensures empty { OnErr result (0 < length bytes.now) }
     ensures memory { IsErrOf result SinkFault.Memory → IsTrue K.takes_memory }
-    ensures caused { KeepsFaults K.never_fails K.faults (IsErrOf result SinkFault.Failed) out.old out.new }
+    ensures caused { KeepsFaults K.never_fails K.faults (IsErrOf result SinkFault.Failed)
+        out.old out.new }
 {
     let mut done = 0;
     while done < bytes.len() {

@@ -7,7 +7,8 @@ use std::alloc::Global;
 use std::io::Write;
 use std::marker::Model;
 
-/// A sink over a writer. It tells no bytes, never answers want of memory, and counts each write that the writer refuses.
+/// A sink over a writer. It tells no bytes, never answers want of memory, and counts each write
+/// that the writer refuses.
 #[derive(Drop)]
 pub struct WriteSink<W: Write + Drop> {
     out: W,
@@ -15,7 +16,7 @@ pub struct WriteSink<W: Write + Drop> {
 }
 
 impl<W: Write + Drop> Model for WriteSink<W> {
-    ghost use Rattle.gb_store.specs.Writer.{WriterState};
+    ghost use Rattle.gb_store.specs.WriteSink.{WriterState};
 
     ghost Value = { WriterState W };
 
@@ -33,7 +34,7 @@ impl<W: Write + Drop> WriteSink<W> {
 
 impl<W: Write + Drop> Sink for WriteSink<W> {
     ghost use Rattle.std.specs.Prelude.{[], false};
-    ghost use Rattle.gb_store.specs.Writer.{WriterAnswers};
+    ghost use Rattle.gb_store.specs.WriteSink.{WriterAnswers};
 
     ghost tells = { false };
 
@@ -50,7 +51,8 @@ impl<W: Write + Drop> Sink for WriteSink<W> {
         ensures within { IfOk result (λ n. n ≤ length bytes.now) }
         ensures progress { IfOk result (λ n. 0 < length bytes.now → 0 < n) }
         ensures memory { IsErrOf result SinkFault.Memory → ⊥ }
-        ensures caused { KeepsFaults (λ _. false) (λ s. s.faults) (IsErrOf result SinkFault.Failed) self.old self.new }
+        ensures caused { KeepsFaults (λ _. false) (λ s. s.faults)
+            (IsErrOf result SinkFault.Failed) self.old self.new }
     {
         let faults = self.faults;
         match self.out.write(bytes) {

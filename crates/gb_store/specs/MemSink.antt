@@ -5,8 +5,8 @@ use Rattle.gb_store.specs.Counts.{raised}
 use Rattle.gb_store.specs.declared.fault.SinkFault.{SinkFault}
 use Rattle.gb_store.specs.declared.fault.SinkFault.TheVariants.{Memory, Failed}
 
--- its bytes, the numbers of the writes that fail, the most bytes that a write takes, the number of the next write, and
--- how many have failed
+-- its bytes, the numbers of the writes that fail, the most bytes that a write takes, the number of
+-- the next write, and how many have failed
 pub record SinkState : Type 0 where
   pub written : List ℕ
   pub fails : List ℕ
@@ -34,8 +34,8 @@ is_listed s = list_any (λ call. call == s.calls) s.fails
 abbrev pub counted : SinkState → SinkState
 counted s = record s { calls = raised s.calls; faults = if is_listed s then raised s.faults else s.faults }
 
--- What a write of a piece does, by its answer: a listed write fails, and any other takes as much as it may. Want of
--- memory takes nothing.
+-- What a write of a piece does, by its answer: a listed write fails, and any other takes as much as
+-- it may. Want of memory takes nothing.
 abbrev pub SinkAnswers : List ℕ → SinkState → SinkState → Result ℕ SinkFault → Type 0
 SinkAnswers bytes old new (Ok n) =
     (is_listed old ≡ false) × (n ≡ min (length bytes) old.step) × (new ≡ record (counted old) { written = old.written ++ take n bytes })
