@@ -17,3 +17,6 @@ pub use laws::{
 };
 pub use object::Object;
 pub use tree::Tree;
+
+#[cfg(test)]
+mod tests;
