@@ -60,7 +60,7 @@ impl Commit {
         append_line(text, b"author ", self.author.as_slice())?;
         append_line(text, b"committer ", self.committer.as_slice())?;
         text.extend_from_slice(self.more.as_slice())?;
-        text.push(b'\n')?;
+        text.extend_from_slice(b"\n")?;
         text.extend_from_slice(self.message.as_slice())?;
         Ok(())
     }

@@ -14,8 +14,8 @@ returns-clause-text c =
     let author : c.append_line.new.text.items ≡ c.append_parents.new.text.items ++ ended (codes "author " ++ commit.author) = search rules in
     let committer : c.append_line-2.new.text.items ≡ c.append_line.new.text.items ++ ended (codes "committer " ++ commit.committer) = search rules in
     let more : c.extend_from_slice.new.self.items ≡ c.append_line-2.new.text.items ++ commit.more = search rules in
-    let empty : c.push.new.self.items ≡ c.extend_from_slice.new.self.items ++ 10 ∷ [] = search rules in
-    let message : c.extend_from_slice-2.new.self.items ≡ c.push.new.self.items ++ commit.message = search rules in
-    appended c.args.text.now.items c.append_name.new.text.items c.append_parents.new.text.items c.append_line.new.text.items c.append_line-2.new.text.items c.extend_from_slice.new.self.items c.push.new.self.items c.extend_from_slice-2.new.self.items
+    let empty : c.extend_from_slice-2.new.self.items ≡ c.extend_from_slice.new.self.items ++ 10 ∷ [] = search rules in
+    let message : c.extend_from_slice-3.new.self.items ≡ c.extend_from_slice-2.new.self.items ++ commit.message = search rules in
+    appended c.args.text.now.items c.append_name.new.text.items c.append_parents.new.text.items c.append_line.new.text.items c.append_line-2.new.text.items c.extend_from_slice.new.self.items c.extend_from_slice-2.new.self.items c.extend_from_slice-3.new.self.items
     (ended (codes "tree " ++ encode_lower commit.tree.bytes)) (flat_map parent_line commit.parents) (ended (codes "author " ++ commit.author)) (ended (codes "committer " ++ commit.committer)) commit.more commit.message
     tree parents author committer more empty message
