@@ -1,4 +1,5 @@
 pub mod Decimal
 pub mod Digits
 pub mod Folder
+pub mod LineEnd
 pub mod Rules

@@ -4,6 +4,7 @@
 mod decimal;
 mod folder;
 mod id;
+mod line_end;
 mod list;
 mod memory;
 mod owned;
@@ -12,6 +13,7 @@ mod rules;
 pub use decimal::{LIMIT, read_decimal};
 pub use folder::{Folder, FolderFault};
 pub use id::{Id, Name};
+pub use line_end::without_line_end;
 pub use list::List;
 pub use memory::Memory;
 pub use owned::{Bytes, Text};

@@ -89,3 +89,11 @@ fn text_rules_go_by_characters(rt: HostRuntime) {
     );
     assert!(rt; is_title("a label") && !is_title("") && !is_title("\u{3000}\u{a0}"));
 }
+
+#[test]
+fn one_line_end_is_dropped(rt: HostRuntime) {
+    assert_eq!(rt; without_line_end(b"a\n"), b"a".as_slice());
+    assert_eq!(rt; without_line_end(b"a\n\n"), b"a\n".as_slice());
+    assert_eq!(rt; without_line_end(b"a"), b"a".as_slice());
+    assert_eq!(rt; without_line_end(b""), b"".as_slice());
+}

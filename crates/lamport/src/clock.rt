@@ -1,0 +1,106 @@
+//! Lamport's clock of one kind of entity in one folder.
+ghost use Rattle.std.specs.Prelude.{◌≡◌, ◌↔◌, ◌≤◌, ◌<◌, ◌+◌, max, IfOk, IsErr};
+ghost use Rattle.lamport.specs.Clock.{clock_of, seen_by, root_time_of, edit_time_of, merge_time_of};
+
+use gb_text::{LIMIT, read_decimal, without_line_end};
+use std::marker::Model;
+
+/// The greatest number that a clock holds: 2^62. It leaves room above for the edits of 2^62
+/// further commits, however a hostile clock was set.
+pub const CAP: u64 = 4611686018427387904;
+
+/// The most by which an edit's clock may lie above that of its parent.
+pub const JUMP: u64 = 1_000_000;
+
+/// A clock, which holds a number of at most [`CAP`]: the greatest edit clock that was seen.
+#[derive(Clone, Copy, Debug, PartialEq, Eq)]
+pub struct Clock {
+    number: u64,
+}
+
+impl Model for Clock {
+    ghost use Rattle.std.specs.Prelude.{ℕ, ◌≤◌, ◌^◌};
+
+    ghost Value = { ℕ };
+
+    ghost view = { λ c. c.number };
+
+    ghost invariant = { λ c. c.number ≤ 2 ^ 62 };
+
+    ghost inverse = { λ n. record { number = n } };
+}
+
+/// The head's clock is [`LIMIT`], so no clock is left above it.
+#[derive(Clone, Copy, Debug, PartialEq, Eq)]
+pub struct ClockFull;
+
+impl Clock {
+    /// Reads a clock file: a plain decimal and at most one LF. A text that is none reads as 0, a
+    /// greater number as [`CAP`].
+    pub fn read(text: &[u8]) -> Clock
+        ensures { result ≡ clock_of text.now }
+    {
+        let number = read_decimal(without_line_end(text)).unwrap_or(0);
+        Clock {
+            number: number.min(CAP),
+        }
+    }
+
+    /// The number that the clock holds.
+    pub fn value(&self) -> u64
+        ensures { result ≡ self.now }
+    {
+        self.number
+    }
+
+    /// Sees an edit clock: the clock is then no lower than it, up to [`CAP`].
+    pub fn see(&mut self, edit: u64)
+        ensures value { self.new ≡ seen_by self.old edit }
+        ensures rises { self.old ≤ self.new }
+    {
+        self.number = self.number.max(edit.min(CAP));
+    }
+
+    /// The clock of a new root.
+    pub fn root_time(&self) -> u64
+        ensures value { result ≡ root_time_of self.now }
+        ensures some { 1 ≤ result }
+        ensures capped { result ≤ CAP }
+    {
+        let number = self.number;
+        (number + 1).min(CAP)
+    }
+
+    /// The clock of an edit on a head with this edit clock.
+    pub fn edit_time(&self, head: u64) -> Result<u64, ClockFull>
+        requires { head ≤ LIMIT }
+        ensures value { IfOk result (λ time. time ≡ edit_time_of self.now head) }
+        ensures full { IsErr result ↔ (head ≡ LIMIT) }
+        ensures above { IfOk result (λ time. head < time) }
+        ensures near { IfOk result (λ time. time ≤ head + JUMP) }
+        ensures within { IfOk result (λ time. time ≤ LIMIT) }
+    {
+        if head == LIMIT {
+            return Err(ClockFull);
+        }
+        let number = self.number;
+        Ok((number.max(head) + 1).min(head + JUMP))
+    }
+
+    /// The clock of a commit that joins two heads with these edit clocks.
+    pub fn merge_time(&self, one: u64, two: u64) -> Result<u64, ClockFull>
+        requires first { one ≤ LIMIT }
+        requires second { two ≤ LIMIT }
+        ensures value { IfOk result (λ time. time ≡ merge_time_of self.now one two) }
+        ensures full { IsErr result ↔ (max one two ≡ LIMIT) }
+        ensures above { IfOk result (λ time. max one two < time) }
+        ensures within { IfOk result (λ time. time ≤ LIMIT) }
+    {
+        let head = one.max(two);
+        if head == LIMIT {
+            return Err(ClockFull);
+        }
+        let number = self.number;
+        Ok(number.max(head) + 1)
+    }
+}

@@ -1,0 +1,11 @@
+//! The clock rule: how edits are given clocks, and how clocks are seen.
+#![tactic(auto)]
+
+mod clock;
+mod laws;
+
+pub use clock::{CAP, Clock, ClockFull, JUMP};
+pub use laws::seen_in_any_order;
+
+#[cfg(test)]
+mod tests;

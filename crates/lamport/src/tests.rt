@@ -1,0 +1,47 @@
+use super::*;
+use gb_text::LIMIT;
+
+#[test]
+fn a_clock_file_reads_as_a_number(rt: HostRuntime) {
+    let rows = [
+        ("", 0),
+        ("5\n", 5),
+        ("5\n\n", 0),
+        ("05", 0),
+        ("-1", 0),
+        ("x", 0),
+        ("4611686018427387904", CAP),
+        ("4611686018427387905", CAP),
+        ("18446744073709551615", CAP),
+        ("18446744073709551616", 0),
+    ];
+    for (text, number) in rows {
+        assert_eq!(rt; Clock::read(text.as_bytes()).value(), number);
+    }
+}
+
+#[test]
+fn a_hostile_clock_is_capped(rt: HostRuntime) {
+    let mut clock = Clock::read(b"0");
+    assert_eq!(rt; clock.root_time(), 1);
+    assert_eq!(rt; clock.edit_time(0), Ok(1));
+    clock.see(LIMIT);
+    assert_eq!(rt; clock.value(), CAP);
+    clock.see(7);
+    assert_eq!(rt; clock.value(), CAP);
+    assert_eq!(rt; clock.root_time(), CAP);
+    assert_eq!(rt; clock.edit_time(5), Ok(1_000_005));
+    assert_eq!(rt; clock.edit_time(LIMIT - 1), Ok(LIMIT));
+    assert_eq!(rt; clock.edit_time(LIMIT), Err(ClockFull));
+    assert_eq!(rt; clock.merge_time(LIMIT - 1, LIMIT - 1), Ok(LIMIT));
+    assert_eq!(rt; clock.merge_time(1, LIMIT), Err(ClockFull));
+}
+
+#[test]
+fn a_join_is_above_both_heads(rt: HostRuntime) {
+    let clock = Clock::read(b"2\n");
+    assert_eq!(rt; clock.merge_time(2, 2), Ok(3));
+    assert_eq!(rt; clock.merge_time(3, 3), Ok(4));
+    assert_eq!(rt; clock.merge_time(1, 9), Ok(10));
+    assert_eq!(rt; clock.merge_time(9, 1), Ok(10));
+}
