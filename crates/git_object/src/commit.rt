@@ -1,11 +1,11 @@
 //! Commits: their header lines and their message.
-ghost use Rattle.std.specs.Prelude.{◌≡◌, ◌++◌, IfOk, OnOk, IfSome, Some, codes};
+ghost use Rattle.std.specs.Prelude.{◌≡◌, ◌↔◌, ◌++◌, IsTrue, IfOk, OnOk, IfSome, Some, codes};
 ghost use Rattle.std.specs.Option.{option_map};
 ghost use Rattle.std.specs.List.{flat_map, AllByRecursion};
 ghost use Rattle.hex.specs.Hex.{encode_lower};
 ghost use Rattle.gb_text.specs.Digits.{IsName};
 ghost use Rattle.git_object.specs.Grammar.{IsCommitText, HasGoodTexts, commit_text, parent_line, ended};
-ghost use Rattle.git_object.specs.Reading.{Gives, named_at, tree_at, text_at, parent_at, all_at, commit_of};
+ghost use Rattle.git_object.specs.Reading.{Gives, is_line, are_lines, named_at, tree_at, text_at, parent_at, all_at, commit_of};
 
 use crate::cut::{after, cut, cut_lines};
 use gb_text::{Bytes, List, Memory, Name};
@@ -48,6 +48,16 @@ impl Commit {
         let mut text = Vec::new(alloc);
         self.append(&mut text)?;
         Ok(Bytes::from_vec(text))
+    }
+
+    /// Whether the commit can be written: its author's and committer's texts are lines that are
+    /// not empty, and so is each of its further lines, with its LF. Takes no memory.
+    pub fn has_good_texts(&self) -> bool
+        ensures { IsTrue result ↔ HasGoodTexts self.now }
+    {
+        is_line(self.author.as_slice())
+            && is_line(self.committer.as_slice())
+            && are_lines(self.more.as_slice())
     }
 
     fn append(&self, text: &mut Vec<u8>) -> Result<(), AllocError>
@@ -185,4 +195,17 @@ fn append_line(text: &mut Vec<u8>, word: &[u8], line: &[u8]) -> Result<(), Alloc
     text.extend_from_slice(line)?;
     text.push(b'\n')?;
     Ok(())
+}
+
+fn is_line(text: &[u8]) -> bool
+    ensures { result ≡ is_line text.now }
+{
+    !text.is_empty() && !text.contains(&b'\n')
+}
+
+// Whether each line ends in LF and none is empty.
+fn are_lines(text: &[u8]) -> bool
+    ensures { result ≡ are_lines text.now }
+{
+    cut_lines(text).is_none() && (text.is_empty() || text.ends_with(b"\n"))
 }

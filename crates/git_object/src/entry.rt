@@ -6,7 +6,7 @@ ghost use Rattle.std.specs.Cmp.Lexicographic.{slice_cmp};
 ghost use Rattle.hex.specs.Hex.{IsBytes};
 ghost use Rattle.gb_text.specs.Digits.{IsName};
 ghost use Rattle.git_object.specs.Grammar.{mode_text, entry_text, sort_key};
-ghost use Rattle.git_object.specs.Reading.{Gives, is_entry_name, mode_of, name_at, entry_at, entry_step};
+ghost use Rattle.git_object.specs.Reading.{Gives, is_entry_name, has_entry_name, mode_of, name_at, entry_at, entry_step};
 
 use crate::cut::cut;
 use crate::frame::name_with;
@@ -82,6 +82,14 @@ fn is_entry_name(name: &[u8]) -> bool
     ensures { result ≡ is_entry_name name.now }
 {
     !name.is_empty() && !name.contains(&b'/')
+}
+
+/// Whether the entry has a name that it can be written with.
+pub(crate) fn has_entry_name(entry: &Entry) -> bool
+    ensures { result ≡ has_entry_name entry.now }
+{
+    let name = entry.name.as_slice();
+    is_entry_name(name) && !name.contains(&0)
 }
 
 #[tactic(auto, unfolding(crate::specs::Reading::name_at))]

@@ -31,7 +31,7 @@ pub fn each_text_has_one_value()
 
 /// A value has at most one text; a tree that may be reordered has one in the writer's order.
 pub fn each_value_has_one_text()
-    ensures trees { (t sorted other : TreeValue) (content rest : List ℕ) → IsSortedForm t sorted → IsSortedForm t other → IsTreeText content sorted → IsTreeText rest other → content ≡ rest }
-    ensures commits { (content rest : List ℕ) (c : CommitValue) → IsCommitText content c → IsCommitText rest c → content ≡ rest }
+    ensures trees { (t sorted also : TreeValue) (content other : List ℕ) → IsSortedForm t sorted → IsSortedForm t also → IsTreeText content sorted → IsTreeText other also → content ≡ other }
+    ensures commits { (content other : List ℕ) (c : CommitValue) → IsCommitText content c → IsCommitText other c → content ≡ other }
     ensures objects { (text other : List ℕ) (o : ObjectValue) → IsObjectText text o → IsObjectText other o → text ≡ other }
 {}

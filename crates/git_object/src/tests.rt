@@ -1,6 +1,6 @@
 //! Objects that the program `git` wrote, texts that are no objects, and large trees.
 use super::*;
-use gb_text::Name;
+use gb_text::{Bytes, List, Name};
 use std::alloc::Global;
 use std::test::Fail;
 
@@ -304,5 +304,90 @@ fn large_trees_take_no_quadratic_time(rt: HostRuntime) -> Result<(), Fail> {
     assert_eq!(rt; written.as_slice().len(), text.len());
     text.extend_from_slice(b"40000 7\0aaaaaaaaaaaaaaaaaaaa")?;
     assert!(rt; Tree::read(alloc, text.as_slice())?.is_none());
+    Ok(())
+}
+
+// A commit without parents.
+fn made(alloc: Global, author: &str, more: &str) -> Result<Commit, Fail> {
+    Ok(Commit {
+        tree: name_of(Kind::Tree, b""),
+        parents: List::new(alloc),
+        author: Bytes::from_slice(alloc, author.as_bytes())?,
+        committer: Bytes::from_slice(alloc, b"b")?,
+        more: Bytes::from_slice(alloc, more.as_bytes())?,
+        message: Bytes::from_slice(alloc, b"m")?,
+    })
+}
+
+#[test]
+fn commits_made_by_hand_are_tested_and_written(rt: HostRuntime) -> Result<(), Fail> {
+    let alloc = rt.alloc();
+    let commit = made(alloc, "a", "x\n y\n")?;
+    assert!(rt; commit.has_good_texts());
+    let text = commit.write(alloc)?;
+    assert_eq!(rt;
+        text.as_slice(),
+        b"tree 4b825dc642cb6eb9a060e54bf8d69288fbee4904\nauthor a\ncommitter b\nx\n y\n\nm".as_slice()
+    );
+    assert!(rt; Commit::read(alloc, text.as_slice())?.is_some());
+    assert!(rt; made(alloc, "a", "")?.has_good_texts());
+    for (author, more) in [
+        ("", ""),
+        ("a\nb", ""),
+        ("a", "x"),
+        ("a", "\n"),
+        ("a", "x\n\ny\n"),
+        ("a", "x\ny"),
+    ] {
+        assert!(rt; !made(alloc, author, more)?.has_good_texts(), "{more:?}");
+    }
+    Ok(())
+}
+
+// A tree of plain files and folders with these names.
+fn forest(alloc: Global, names: &[(Mode, &str)]) -> Result<Tree, Fail> {
+    let mut entries = Vec::new(alloc);
+    for (mode, name) in names {
+        entries.push(Entry {
+            mode: *mode,
+            name: Bytes::from_slice(alloc, name.as_bytes())?,
+            object: name_of(Kind::Blob, b""),
+        })?;
+    }
+    Ok(Tree {
+        entries: List::from_vec(entries),
+    })
+}
+
+#[test]
+fn trees_made_by_hand_are_tested_and_written(rt: HostRuntime) -> Result<(), Fail> {
+    let alloc = rt.alloc();
+    let tree = forest(
+        alloc,
+        &[
+            (Mode::Plain, "a0"),
+            (Mode::Plain, "a.b"),
+            (Mode::Folder, "a"),
+        ],
+    )?;
+    assert!(rt; tree.has_good_names(alloc)?);
+    for names in [
+        [(Mode::Plain, "a"), (Mode::Folder, "a")],
+        [(Mode::Plain, "a"), (Mode::Plain, "")],
+        [(Mode::Plain, "a"), (Mode::Plain, "b/c")],
+        [(Mode::Plain, "a"), (Mode::Plain, "b\0")],
+    ] {
+        assert!(rt; !forest(alloc, &names)?.has_good_names(alloc)?, "{names:?}");
+    }
+    let good = tree.has_good_names(alloc)?;
+    assert!(rt; good);
+    let text = tree.write(alloc)?;
+    let sorted = Tree::read(alloc, text.as_slice())?.ok_or("a tree")?;
+    let [first, second, third] = sorted.entries.as_slice() else {
+        return Err("entries")?;
+    };
+    assert_eq!(rt; first.name.as_slice(), b"a.b".as_slice());
+    assert_eq!(rt; second.name.as_slice(), b"a".as_slice());
+    assert_eq!(rt; third.name.as_slice(), b"a0".as_slice());
     Ok(())
 }

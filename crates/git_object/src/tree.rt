@@ -1,13 +1,13 @@
 //! Trees: lists of entries with distinct names.
 ghost use Rattle.std.specs.Prelude.{◌≡◌, ◌≢◌, ◌↔◌, ◌++◌, IsTrue, IfOk, OnOk, IfSome, Some, All, length, map, IsPermutation, IsSortedByKey};
-ghost use Rattle.std.specs.List.{AllAdjacentBelow, flat_map};
+ghost use Rattle.std.specs.List.{AllAdjacentBelow, flat_map, list_all};
 ghost use Rattle.std.specs.Ordering.{nat_cmp};
 ghost use Rattle.std.specs.Cmp.Lexicographic.{slice_cmp};
 ghost use Rattle.gb_text.specs.Digits.{IsName};
 ghost use Rattle.git_object.specs.Grammar.{IsTreeText, HasGoodNames, IsSortedForm, entry_text, sort_key};
-ghost use Rattle.git_object.specs.Reading.{Gives, entries_at, are_distinct, tree_of};
+ghost use Rattle.git_object.specs.Reading.{Gives, has_entry_name, entries_at, are_distinct, tree_of};
 
-use crate::entry::{Entry, append_entry, key_order, next_entry};
+use crate::entry::{Entry, append_entry, has_entry_name, key_order, next_entry};
 use gb_text::{Bytes, List, Memory};
 use std::alloc::{AllocError, Global};
 
@@ -43,6 +43,17 @@ impl Tree {
         let mut text = Vec::new(alloc);
         append_entries(&mut text, &sorted)?;
         Ok(Bytes::from_vec(text))
+    }
+
+    /// Whether the tree can be written: its names are not empty, have neither a zero byte nor a
+    /// slash, and are distinct.
+    pub fn has_good_names(&self, alloc: Global) -> Result<bool, Memory>
+        ensures { IfOk result (λ good. IsTrue good ↔ HasGoodNames self.now) }
+    {
+        if !have_entry_names(self.entries.as_slice()) {
+            return Ok(false);
+        }
+        Ok(are_distinct(alloc, self.entries.as_slice())?)
     }
 
     #[tactic(auto, unfolding(crate::specs::Reading::tree_of))]
@@ -110,6 +121,12 @@ fn neighbours_differ(names: &[&[u8]]) -> bool
         }
     }
     true
+}
+
+fn have_entry_names(entries: &[Entry]) -> bool
+    ensures { result ≡ list_all has_entry_name entries.now }
+{
+    entries.iter().all(|entry| has_entry_name(entry))
 }
 
 fn append_entries(text: &mut Vec<u8>, entries: &[&Entry]) -> Result<(), AllocError>
