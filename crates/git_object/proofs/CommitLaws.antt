@@ -157,3 +157,9 @@ commit_again c tree parents texts =
 
 pub commit_only : (bytes : List ℕ) (c : Commit) → IsCommitText bytes c → commit_of bytes ≡ Some c
 commit_only bytes c is = ap commit_of is.text ∙ commit_again c is.tree is.parents is.texts
+
+-- ---- what is appended
+
+pub appended : (old t1 t2 t3 t4 t5 t6 t7 a b c d e m : List ℕ) → t1 ≡ old ++ a → t2 ≡ t1 ++ b → t3 ≡ t2 ++ c → t4 ≡ t3 ++ d → t5 ≡ t4 ++ e → t6 ≡ t5 ++ 10 ∷ [] → t7 ≡ t6 ++ m
+    → t7 ≡ old ++ (a ++ b ++ c ++ d ++ e ++ 10 ∷ m)
+appended old t1 t2 t3 t4 t5 t6 t7 a b c d e m p1 p2 p3 p4 p5 p6 p7 = rw (p7, p6, p5, p4, p3, p2, p1) (simp append_assoc)

@@ -1,7 +1,7 @@
 -- Laws of cutting: what is taken from the front, and that what was written is taken again.
 use Rattle.std.proofs.Common.{◌≡◌, ◌≢◌, ℕ, suc, ◌+◌, ◌-◌, ◌<◌, ◌≤◌, Bool, true, false, cond, eqb, List, [], ◌∷◌, ◌++◌, length, get_or, take, drop, Option, Some, None, refl, sym, ap, subst, ◌∙◌, append_assoc, arith, inl, inr, ◌⊎◌, drop-cons, add-one}
-use Rattle.std.specs.Prelude.{not, ◌&&◌, zero}
-use Rattle.std.specs.List.{list_all}
+use Rattle.std.specs.Prelude.{not, ◌||◌, ◌&&◌, zero}
+use Rattle.std.specs.List.{list_all, list_any}
 use Rattle.std.specs.Option.{option_map, MatchOption}
 use Rattle.std.proofs.lemmas.Bool.{eqb-true, eqb-false, ne_eqb, not-true}
 use Rattle.std.proofs.lemmas.Bool.Decides.{nat_tests}
@@ -194,3 +194,17 @@ nil_length (x ∷ xs) e = λ same. absurd cc
 pub some_length : (l : List ℕ) → l ≢ [] → eqb (length l) 0 ≡ false
 some_length [] ne = absurd (ne refl)
 some_length (x ∷ xs) ne = ne_eqb (length (x ∷ xs)) 0 (omega arith)
+
+-- ---- tests of texts
+
+or_false : (s t : Bool) → (s || t) ≡ false → (s ≡ false) × (t ≡ false)
+or_false true t e = absurd cc
+or_false false t e = (refl, e)
+
+pub lacks_from_any : (b : ℕ) (text : List ℕ) → list_any (λ x. eqb x b) text ≡ false → Lacks b text
+lacks_from_any b [] e = tt
+lacks_from_any b (x ∷ xs) e = (let p = or_false (eqb x b) (list_any (λ x. eqb x b) xs) e in (eqb-false x b p.0, lacks_from_any b xs p.1))
+
+pub any_from_lacks : (b : ℕ) (text : List ℕ) → Lacks b text → list_any (λ x. eqb x b) text ≡ false
+any_from_lacks b [] lacks = refl
+any_from_lacks b (x ∷ xs) lacks = rw (ne_eqb x b lacks.0) (any_from_lacks b xs lacks.1)

@@ -39,6 +39,12 @@ test_differs x y true p ne = absurd (ne ((bytes_eq-Decides x y).0 p))
 pub differs : (x y : List ℕ) → bytes_eq x y ≡ false → x ≢ y
 differs x y p = λ same. (let t = (bytes_eq-Decides x y).1 same in absurd cc)
 
+pub distinct_moves : (xs ys : List Entry) → IsPermutation xs ys → AreDistinct xs → AreDistinct ys
+distinct_moves xs ys moved apart =
+    let before : IsDistinct same_name xs = IsDistinct-from_apart same_name xs (λ i j d lt in'. test_differs (get_or xs i d).name (get_or xs j d).name (same_name (get_or xs i d) (get_or xs j d)) refl (apart i j d lt in')) in
+    let after : IsDistinct same_name ys = IsDistinct-IsPermutation same_name (λ a b. same_flip a.name b.name (same_name a b) (same_name b a) refl refl) xs ys moved before in
+    λ i j d lt in'. differs (get_or ys i d).name (get_or ys j d).name (apart_from_distinct same_name ys i j d after lt in')
+
 -- ---- the test on entries
 
 distinct_step : (e : Entry) (es : List Entry) → list_all (λ other. not (bytes_eq e.name other.name)) es ≡ true → AllByRecursion (λ other. same_name e other ≡ false) es
@@ -84,13 +90,13 @@ Ref = Bor (List ℕ)
 abbrev same : Ref → Ref → Bool
 same x y = bytes_eq x.now y.now
 
-same_is_equal : (x y : List ℕ) → cmp x y ≡ Equal → x ≡ y
+pub same_is_equal : (x y : List ℕ) → cmp x y ≡ Equal → x ≡ y
 same_is_equal x y e = (bytes_eq-Decides x y).0 (sym (is_eq-slice_cmp x y) ∙ ap is_eq e)
 
-equal_is_same : (x y : List ℕ) → x ≡ y → cmp x y ≢ Less
+pub equal_is_same : (x y : List ℕ) → x ≡ y → cmp x y ≢ Less
 equal_is_same x y e less = (let t = (bytes_eq-Decides x y).1 e in let f = sym (is_eq-slice_cmp x y) ∙ ap is_eq less in absurd cc)
 
-less_by : (x y : List ℕ) (o : Ordering) → cmp x y ≡ o → is_lt (cmp y x) ≡ false → x ≢ y → o ≡ Less
+pub less_by : (x y : List ℕ) (o : Ordering) → cmp x y ≡ o → is_lt (cmp y x) ≡ false → x ≢ y → o ≡ Less
 less_by x y Less e up ne = refl
 less_by x y Equal e up ne = absurd (ne (same_is_equal x y e))
 less_by x y Greater e up ne = (let back = nat_list_cmp_total.antisymm y x ∙ ap ordering_reverse e in let t = sym up ∙ ap is_lt back in absurd cc)

@@ -1,9 +1,9 @@
 -- An entry that is read has this text, and the text of an entry is read.
 use Rattle.std.proofs.Common.{◌≡◌, ◌≢◌, ℕ, zero, suc, ◌<◌, Bool, true, false, cond, eqb, ltb, List, [], ◌∷◌, ◌++◌, length, take, drop, Option, Some, None, refl, sym, ap, subst, ◌∙◌, append_assoc, arith}
-use Rattle.std.specs.Prelude.{codes, not, ◌||◌}
+use Rattle.std.specs.Prelude.{codes, not}
 use Rattle.std.specs.List.{list_any, list_all}
 use Rattle.std.specs.Str.{bytes_eq}
-use Rattle.std.proofs.lemmas.Bool.{eqb-true, eqb-false, ne_eqb, ltb-true, lt-ltb, not-true}
+use Rattle.std.proofs.lemmas.Bool.{eqb-true, ne_eqb, ltb-true, lt-ltb, not-true}
 use Rattle.std.proofs.lemmas.List.{take-append-drop, length-take}
 use Rattle.std.proofs.lemmas.Slice.Eq.{bytes_eq-Decides}
 use Rattle.std.proofs.Math.Seq.{take-append_seam, drop-append_seam}
@@ -14,8 +14,8 @@ use Rattle.git_object.specs.declared.entry.Mode.{Mode}
 use Rattle.git_object.specs.declared.entry.Mode.TheVariants.{Plain, Exec, Link, Folder, Module}
 use Rattle.git_object.specs.declared.entry.Entry.{Entry}
 use Rattle.git_object.specs.Grammar.{Lacks, mode_text, entry_text, IsEntryName, IsEntry}
-use Rattle.git_object.specs.Reading.{◌>>=◌, cut_at, mode_of, is_entry_name, are_name_bytes, name_at, entry_at}
-use Rattle.git_object.proofs.CutLaws.{and_true, lacks_by_test, bind_some, some_is, if_some, cut_takes, cut_again, nil_length, some_length}
+use Rattle.git_object.specs.Reading.{has_entry_name, ◌>>=◌, cut_at, mode_of, is_entry_name, are_name_bytes, name_at, entry_at}
+use Rattle.git_object.proofs.CutLaws.{and_true, lacks_from_any, any_from_lacks, lacks_by_test, bind_some, some_is, if_some, cut_takes, cut_again, nil_length, some_length}
 
 -- ---- modes
 
@@ -46,25 +46,21 @@ mode_lacks Module = lacks_by_test 32 (mode_text Module) refl
 
 -- ---- names of entries
 
-or_false : (s t : Bool) → (s || t) ≡ false → (s ≡ false) × (t ≡ false)
-or_false true t e = absurd cc
-or_false false t e = (refl, e)
-
-no_slash : (name : List ℕ) → list_any (λ x. eqb x 47) name ≡ false → Lacks 47 name
-no_slash [] e = tt
-no_slash (x ∷ xs) e = (let p = or_false (eqb x 47) (list_any (λ x. eqb x 47) xs) e in (eqb-false x 47 p.0, no_slash xs p.1))
-
-has_no_slash : (name : List ℕ) → Lacks 47 name → list_any (λ x. eqb x 47) name ≡ false
-has_no_slash [] lacks = refl
-has_no_slash (x ∷ xs) lacks = rw (ne_eqb x 47 lacks.0) (has_no_slash xs lacks.1)
-
 entry_name_is : (name : List ℕ) → Lacks 0 name → is_entry_name name ≡ true → IsEntryName name
 entry_name_is name no_zero e =
     let p = and_true (not (eqb (length name) 0)) (not (list_any (λ x. eqb x 47) name)) e in
-    record { some = nil_length name (not-true _ p.0); no_zero = no_zero; no_slash = no_slash name (not-true _ p.1) }
+    record { some = nil_length name (not-true _ p.0); no_zero = no_zero; no_slash = lacks_from_any 47 name (not-true _ p.1) }
 
 is_entry_name_again : (name : List ℕ) → IsEntryName name → is_entry_name name ≡ true
-is_entry_name_again name is = rw (some_length name is.some, has_no_slash name is.no_slash) refl
+is_entry_name_again name is = rw (some_length name is.some, any_from_lacks 47 name is.no_slash) refl
+
+pub has_entry_name_is : (e : Entry) → has_entry_name e ≡ true → IsEntryName e.name
+has_entry_name_is e t =
+    let p = and_true (is_entry_name e.name) (not (list_any (λ x. eqb x 0) e.name)) t in
+    entry_name_is e.name (lacks_from_any 0 e.name (not-true _ p.1)) p.0
+
+pub has_entry_name_again : (e : Entry) → IsEntryName e.name → has_entry_name e ≡ true
+has_entry_name_again e is = rw (is_entry_name_again e.name is, any_from_lacks 0 e.name is.no_zero) refl
 
 -- ---- names of objects
 

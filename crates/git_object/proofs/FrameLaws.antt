@@ -104,3 +104,6 @@ pub frame_reads_only : {F : Type 0} (kind : F → Kind) (content : F → List �
     → MatchOption r ⊥ (λ f. (kind f ≡ k) × (content f ≡ rest))
 frame_reads_only kind content None text k rest e is = (let at = frame_only text k rest is in absurd cc)
 frame_reads_only kind content (Some f) text k rest e is = some_pair_parts (kind f) k (content f) rest (e ∙ frame_only text k rest is)
+
+pub one_frame : (k j : Kind) (content other : List ℕ) → framed k content ≡ framed j other → (k ≡ j) × (content ≡ other)
+one_frame k j content other e = some_pair_parts k j content other (sym (frame_again k content) ∙ frame_only (framed k content) j other e)

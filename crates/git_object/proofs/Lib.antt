@@ -6,5 +6,6 @@ pub mod CommitLaws
 pub mod DistinctLaws
 pub mod EntryLaws
 pub mod TreeLaws
+pub mod OrderLaws
 pub mod FrameLaws
 pub mod ObjectLaws

@@ -1,5 +1,5 @@
 -- An object that is read has this text, and the text of an object is read.
-use Rattle.std.proofs.Common.{◌≡◌, ℕ, List, Option, Some, None, refl, ap, subst, ◌∙◌}
+use Rattle.std.proofs.Common.{◌≡◌, ℕ, List, Option, Some, None, refl, sym, ap, subst, ◌∙◌}
 use Rattle.std.specs.Option.{option_map}
 use Rattle.git_object.specs.declared.frame.Kind.{Kind}
 use Rattle.git_object.specs.declared.frame.Kind.TheVariants as kinds
@@ -7,7 +7,7 @@ use Rattle.git_object.specs.declared.object.Object.{Object}
 use Rattle.git_object.specs.declared.object.Object.TheVariants as objects
 use Rattle.git_object.specs.declared.tree.Tree.{Tree}
 use Rattle.git_object.specs.declared.commit.Commit.{Commit}
-use Rattle.git_object.specs.Grammar.{framed, IsContent, IsObjectText, kind_of}
+use Rattle.git_object.specs.Grammar.{IsTreeText, IsCommitText, framed, IsContent, IsObjectText, kind_of}
 use Rattle.git_object.specs.Reading.{frame_of, tree_of, commit_of, object_with, object_of}
 use Rattle.git_object.proofs.CutLaws.{bind_some, some_is}
 use Rattle.git_object.proofs.FrameLaws.{frame_takes, frame_again}
@@ -54,3 +54,26 @@ object_takes text o e =
 pub object_only : (text : List ℕ) (o : Object) → IsObjectText text o → object_of text ≡ Some o
 unfolding object_of
 object_only text o is = ap object_of is.frames ∙ rw (frame_again (kind_of o) is.content) (with_again is.content o is.is)
+
+pub framed_reads : (kind : Kind) (content : List ℕ) → object_of (framed kind content) ≡ object_with kind content
+unfolding object_of
+framed_reads kind content = rw (frame_again kind content) refl
+
+-- ---- one value a text, one text a value
+
+pub one_tree : (content : List ℕ) (t u : Tree) → IsTreeText content t → IsTreeText content u → t ≡ u
+one_tree content t u p q = some_is t u (sym (tree_only content t p) ∙ tree_only content u q)
+
+pub one_commit : (content : List ℕ) (c d : Commit) → IsCommitText content c → IsCommitText content d → c ≡ d
+one_commit content c d p q = some_is c d (sym (commit_only content c p) ∙ commit_only content d q)
+
+pub one_object : (text : List ℕ) (o p : Object) → IsObjectText text o → IsObjectText text p → o ≡ p
+one_object text o p is also = some_is o p (sym (object_only text o is) ∙ object_only text p also)
+
+one_content : (content rest : List ℕ) (o : Object) → IsContent content o → IsContent rest o → content ≡ rest
+one_content content rest (objects.Blob blob) is also = is ∙ sym also
+one_content content rest (objects.Tree t) is also = is.text ∙ sym also.text
+one_content content rest (objects.Commit c) is also = is.text ∙ sym also.text
+
+pub one_object_text : (text other : List ℕ) (o : Object) → IsObjectText text o → IsObjectText other o → text ≡ other
+one_object_text text other o is also = is.frames ∙ ap (framed (kind_of o)) (one_content is.content also.content o is.is also.is) ∙ sym also.frames

@@ -1,7 +1,10 @@
 -- Lists of items: what is taken, what is taken again, and the loop that reads them.
-use Rattle.std.proofs.Common.{◌≡◌, ℕ, zero, suc, ◌+◌, ◌<◌, ◌≤◌, List, [], ◌∷◌, ◌++◌, length, Option, Some, None, refl, sym, ap, subst, ◌∙◌, append_assoc, arith}
+use Rattle.std.proofs.Common.{◌≡◌, ℕ, zero, suc, ◌+◌, ◌<◌, ◌≤◌, List, [], ◌∷◌, ◌++◌, length, Option, Some, None, refl, sym, ap, subst, ◌∙◌, append_assoc, arith, get_or, take, add-one}
 use Rattle.std.specs.List.{flat_map, AllByRecursion}
 use Rattle.std.proofs.lemmas.List.Concat.{flat_map-cons}
+use Rattle.std.proofs.lemmas.List.Elements.{All-push, All-from_recursion, recursion_from_All}
+use Rattle.std.proofs.lemmas.Grind.{flat_map-append}
+use Rattle.std.proofs.Math.Seq.{take-suc}
 use Rattle.std.proofs.lemmas.List.{append-nil, length-append}
 use Rattle.git_object.specs.Reading.{◌>>=◌, item_then, many_at, all_at}
 use Rattle.git_object.proofs.CutLaws.{bind_some, some_is}
@@ -123,3 +126,16 @@ pub all_again : {X : Type 0} (step : List ℕ → Option (Option X × List ℕ))
 all_again step text Fits Ends steps some xs last rest fits ends =
     let few = short text some xs in
     many_again step text Fits Ends steps (suc (length (flat_map text xs ++ last))) xs last rest (omega (arith, length-append (flat_map text xs) last)) fits ends
+
+-- ---- what is appended, item after item
+
+pub texts_more : {X : Type 0} (text : X → List ℕ) (old so_far new : List ℕ) (xs more : List X) (x : X) → more ≡ xs ++ x ∷ [] → so_far ≡ old ++ flat_map text xs → new ≡ so_far ++ text x → new ≡ old ++ flat_map text more
+texts_more text old so_far new xs more x is before after =
+    let pushed : flat_map text more ≡ flat_map text xs ++ text x = ap (flat_map text) is ∙ flat_map-append text xs (x ∷ []) ∙ ap (λ (t : List ℕ). flat_map text xs ++ t) (flat_map-cons text x [] ∙ append-nil (text x)) in
+    after ∙ ap (λ (t : List ℕ). t ++ text x) before ∙ append_assoc old (flat_map text xs) (text x) ∙ ap (λ (t : List ℕ). old ++ t) (sym pushed)
+
+pub each_more : {X : Type 0} (Fits : X → Type 0) (xs more : List X) (x : X) → more ≡ xs ++ x ∷ [] → AllByRecursion Fits xs → Fits x → AllByRecursion Fits more
+each_more Fits xs more x is each one = subst (λ l. AllByRecursion Fits l) (sym is) (recursion_from_All Fits (xs ++ x ∷ []) (All-push Fits xs x (All-from_recursion Fits xs each) one))
+
+pub one_more : {X : Type 0} (xs : List X) (i : ℕ) (d : X) → i < length xs → take (i + 1) xs ≡ take i xs ++ get_or xs i d ∷ []
+one_more xs i d lt = rw add-one (take-suc xs i d lt)

@@ -1,16 +1,17 @@
 -- A tree that is read has this text, and the text of a tree is read.
 use Rattle.std.proofs.Common.{◌≡◌, ◌≢◌, ℕ, suc, ◌<◌, Bool, true, false, cond, eqb, List, [], ◌∷◌, ◌++◌, length, Option, Some, None, refl, sym, ap, subst, ◌∙◌, arith, length-append}
-use Rattle.std.specs.List.{flat_map, AllByRecursion}
+use Rattle.std.specs.Prelude.{IsTrue, ◌↔◌}
+use Rattle.std.specs.List.{list_all, flat_map, AllByRecursion}
 use Rattle.std.proofs.lemmas.Bool.{eqb-true, ne_eqb}
 use Rattle.std.proofs.lemmas.List.{append-nil, nil_from_length}
 use Rattle.std.proofs.lemmas.Option.{some_pair_parts}
 use Rattle.git_object.specs.declared.entry.Entry.{Entry}
 use Rattle.git_object.specs.declared.tree.Tree.{Tree}
 use Rattle.git_object.specs.Grammar.{mode_text, entry_text, IsEntry, IsTreeText, HasGoodNames, IsEntryName}
-use Rattle.git_object.specs.Reading.{◌>>=◌, entry_at, entry_step, entries_at, all_at, are_distinct, tree_of}
-use Rattle.git_object.proofs.CutLaws.{bind_some, some_is, if_some}
+use Rattle.git_object.specs.Reading.{has_entry_name, ◌>>=◌, entry_at, entry_step, entries_at, all_at, are_distinct, tree_of}
+use Rattle.git_object.proofs.CutLaws.{and_true, bind_some, some_is, if_some}
 use Rattle.git_object.proofs.RepeatLaws.{Steps, TakesSome, takes_some, many_takes, all_again}
-use Rattle.git_object.proofs.EntryLaws.{entry_takes, entry_again}
+use Rattle.git_object.proofs.EntryLaws.{has_entry_name_is, has_entry_name_again, entry_takes, entry_again}
 use Rattle.git_object.proofs.DistinctLaws.{distinct_are, are_distinct_again}
 
 -- ---- the list
@@ -116,3 +117,24 @@ good_each (e ∷ es) each = (each.0.name, good_each es each.1)
 
 pub tree_good : (content : List ℕ) (t : Tree) → IsTreeText content t → HasGoodNames t
 tree_good content t is = record { each = good_each t.entries is.each; distinct = is.distinct }
+
+-- ---- the test of names
+
+each_named : (es : List Entry) → list_all has_entry_name es ≡ true → AllByRecursion (λ e. IsEntryName e.name) es
+each_named [] t = tt
+each_named (e ∷ es) t =
+    let p = and_true (has_entry_name e) (list_all has_entry_name es) t in
+    (has_entry_name_is e p.0, each_named es p.1)
+
+each_named_again : (es : List Entry) → AllByRecursion (λ e. IsEntryName e.name) es → list_all has_entry_name es ≡ true
+each_named_again [] each = refl
+each_named_again (e ∷ es) each = rw (has_entry_name_again e each.0) (each_named_again es each.1)
+
+pub bad_names : (t : Tree) → list_all has_entry_name t.entries ≡ false → IsTrue false ↔ HasGoodNames t
+bad_names t e = (λ f. absurd cc, λ good. (let all = each_named_again t.entries good.each in absurd cc))
+
+pub good_names : (t : Tree) (b : Bool) → list_all has_entry_name t.entries ≡ true → b ≡ are_distinct t.entries → IsTrue b ↔ HasGoodNames t
+good_names t b all e = (
+  λ yes. record { each = each_named t.entries all; distinct = distinct_are t.entries (sym e ∙ yes) },
+  λ good. e ∙ are_distinct_again t.entries good.distinct,
+)

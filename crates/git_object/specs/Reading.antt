@@ -1,8 +1,8 @@
 -- The value of a text, as functions that compute. No part of the grammar: that they answer exactly what the
 -- grammar has is a law (`values_are_exact`).
-use Rattle.std.specs.Prelude.{◌≡◌, ℕ, zero, suc, Bool, true, false, List, [], ◌∷◌, ◌++◌, length, take, drop, Option, Some, None, Result, Ok, Err, ◌==◌, nat_lt, if◌then◌else◌, codes, decimal, not, ◌&&◌}
+use Rattle.std.specs.Prelude.{◌≡◌, ℕ, zero, suc, Bool, true, false, List, [], ◌∷◌, ◌++◌, length, take, drop, Option, Some, None, Result, Ok, Err, ◌==◌, nat_lt, if◌then◌else◌, codes, decimal, not, ◌&&◌, ◌||◌, is_none}
 use Rattle.std.specs.Option.{option_map}
-use Rattle.std.specs.List.{list_any, list_all}
+use Rattle.std.specs.List.{list_any, list_all, ends_with}
 use Rattle.std.specs.Str.{bytes_eq}
 use Rattle.gb_text.specs.Digits.{name_of}
 use Rattle.gb_text.specs.declared.id.Name.{Name}
@@ -48,6 +48,14 @@ unfoldable pub lines_at : Bool → List ℕ → Option (List ℕ × List ℕ)
 lines_at fresh [] = None
 lines_at false (x ∷ xs) = onto x (lines_at (x == 10) xs)
 lines_at true (x ∷ xs) = if x == 10 then Some ([], xs) else onto x (lines_at false xs)
+
+-- whether a text is lines that are not empty, each with its LF: none is empty, and the last is ended
+abbrev pub are_lines : List ℕ → Bool
+are_lines text = is_none (lines_at true text) && (length text == 0 || ends_with (λ x y. x == y) text (codes "\n"))
+
+-- whether a text is one line and not empty
+abbrev pub is_line : List ℕ → Bool
+is_line text = not (length text == 0) && not (list_any (λ x. x == 10) text)
 
 -- ---- lists of items
 
@@ -119,6 +127,10 @@ mode_of text =
 -- a name that ended at its first zero byte is an entry's name
 abbrev pub is_entry_name : List ℕ → Bool
 is_entry_name name = not (length name == 0) && not (list_any (λ x. x == 47) name)
+
+-- whether an entry's name is one
+abbrev pub has_entry_name : Entry → Bool
+has_entry_name e = is_entry_name e.name && not (list_any (λ x. x == 0) e.name)
 
 -- 20 bytes
 abbrev pub are_name_bytes : List ℕ → Bool

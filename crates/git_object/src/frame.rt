@@ -22,7 +22,7 @@ pub enum Kind {
 }
 
 /// An object text cut up: the kind that its front names, and the content.
-#[derive(Drop)]
+#[derive(Clone, Copy, Debug)]
 pub struct Frame<'a> {
     pub kind: Kind,
     pub content: &'a [u8],

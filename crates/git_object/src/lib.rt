@@ -5,11 +5,18 @@ mod commit;
 mod cut;
 mod entry;
 mod frame;
+mod laws;
 mod object;
 mod tree;
 
 pub use commit::Commit;
 pub use entry::{Entry, Mode};
 pub use frame::{Frame, Kind, frame_text, name_of, name_of_text};
+pub use laws::{
+    each_text_has_one_value, each_value_has_one_text, frames_read_through, values_are_exact,
+};
 pub use object::Object;
 pub use tree::Tree;
+
+#[cfg(test)]
+mod tests;
