@@ -1,0 +1,210 @@
+-- The texts of JSON, and how an array or an object splits into its parts.
+use Rattle.std.specs.Prelude.{◌≡◌, ◌≢◌, ℕ, ◌+◌, zero, suc, Bool, true, List, [], ◌∷◌, ◌++◌, length, codes, ◌==◌, ◌||◌, ◌&&◌, nat_lt, not, ◌⊎◌, map, ◌≤◌, take, drop}
+use Rattle.std.specs.List.{AllByRecursion}
+use Rattle.json_span.specs.declared.Span.{Span}
+use Rattle.json_span.specs.declared.Member.{Member}
+use Rattle.json_span.specs.declared.state.Kind.{Kind}
+use Rattle.json_span.specs.declared.state.Kind.TheVariants.{Array, Object}
+
+-- ---- bytes
+
+abbrev pub is_space : ℕ → Bool
+is_space b = (b == 32) || (b == 9) || (b == 10) || (b == 13)
+
+abbrev pub is_digit : ℕ → Bool
+is_digit b = not (nat_lt b 48) && nat_lt b 58
+
+abbrev pub is_hex : ℕ → Bool
+is_hex b = is_digit b || (not (nat_lt b 65) && nat_lt b 71) || (not (nat_lt b 97) && nat_lt b 103)
+
+-- a byte that stands for itself in a string
+abbrev pub is_plain : ℕ → Bool
+is_plain b = not (nat_lt b 32) && not (b == 34) && not (b == 92)
+
+-- a byte that may follow a backslash, but for u
+abbrev pub is_escape : ℕ → Bool
+is_escape b = (b == 34) || (b == 92) || (b == 47) || (b == 98) || (b == 102) || (b == 110) || (b == 114) || (b == 116)
+
+abbrev pub Each : (ℕ → Bool) → List ℕ → Type 0
+Each p text = AllByRecursion (λ b. p b ≡ true) text
+
+-- ---- strings
+
+pub data Chars : List ℕ → Type 0 where
+  no_chars : Chars []
+  plain_char : {b : ℕ} {t : List ℕ} → is_plain b ≡ true → Chars t → Chars (b ∷ t)
+  escaped_char : {b : ℕ} {t : List ℕ} → is_escape b ≡ true → Chars t → Chars (92 ∷ b ∷ t)
+  unicode_char : {a b c d : ℕ} {t : List ℕ} → is_hex a ≡ true → is_hex b ≡ true → is_hex c ≡ true → is_hex d ≡ true → Chars t → Chars (92 ∷ 117 ∷ a ∷ b ∷ c ∷ d ∷ t)
+
+pub record IsString (text : List ℕ) : Type 0 where
+  pub inner : List ℕ
+  pub chars : Chars inner
+  pub whole : text ≡ 34 ∷ inner ++ 34 ∷ []
+
+-- ---- numbers
+
+pub data Digits : List ℕ → Type 0 where
+  digits : {b : ℕ} {t : List ℕ} → is_digit b ≡ true → Each is_digit t → Digits (b ∷ t)
+
+-- no zero in front of a digit
+pub data Whole : List ℕ → Type 0 where
+  nought : Whole (48 ∷ [])
+  counted : {b : ℕ} {t : List ℕ} → is_digit b ≡ true → (b == 48) ≢ true → Each is_digit t → Whole (b ∷ t)
+
+-- one byte, or none
+pub data Optional (p : ℕ → Bool) : List ℕ → Type 0 where
+  absent : Optional p []
+  present : {b : ℕ} → p b ≡ true → Optional p (b ∷ [])
+
+pub data Fraction : List ℕ → Type 0 where
+  no_fraction : Fraction []
+  point_digits : {t : List ℕ} → Digits t → Fraction (46 ∷ t)
+
+abbrev pub is_minus : ℕ → Bool
+is_minus b = b == 45
+
+abbrev pub is_sign : ℕ → Bool
+is_sign b = (b == 43) || (b == 45)
+
+abbrev pub is_power : ℕ → Bool
+is_power b = (b == 69) || (b == 101)
+
+pub data Power : List ℕ → Type 0 where
+  no_power : Power []
+  power_digits : {b : ℕ} {sign t : List ℕ} → is_power b ≡ true → Optional is_sign sign → Digits t → Power (b ∷ sign ++ t)
+
+pub record IsNumber (text : List ℕ) : Type 0 where
+  pub sign : List ℕ
+  pub integer : List ℕ
+  pub fraction : List ℕ
+  pub exponent : List ℕ
+  pub is_sign : Optional is_minus sign
+  pub is_integer : Whole integer
+  pub is_fraction : Fraction fraction
+  pub is_exponent : Power exponent
+  pub whole : text ≡ sign ++ (integer ++ (fraction ++ exponent))
+
+-- ---- values
+
+pub data Scalar : List ℕ → Type 0 where
+  string_text : {t : List ℕ} → IsString t → Scalar t
+  number_text : {t : List ℕ} → IsNumber t → Scalar t
+  true_text : Scalar (codes "true")
+  false_text : Scalar (codes "false")
+  null_text : Scalar (codes "null")
+
+abbrev pub open_of : Kind → ℕ
+open_of Array = 91
+open_of Object = 123
+
+abbrev pub close_of : Kind → ℕ
+close_of Array = 93
+close_of Object = 125
+
+-- What stands between two commas: in an object a name and a colon before the value.
+pub record Piece : Type 0 where
+  pub before : List ℕ
+  pub name : List ℕ
+  pub middle : List ℕ
+  pub value : List ℕ
+  pub after : List ℕ
+
+abbrev pub piece_text : Piece → List ℕ
+piece_text p = p.before ++ (p.name ++ (p.middle ++ (p.value ++ p.after)))
+
+-- a colon with white space round it
+pub record IsColon (text : List ℕ) : Type 0 where
+  pub before : List ℕ
+  pub after : List ℕ
+  pub is_before : Each is_space before
+  pub is_after : Each is_space after
+  pub whole : text ≡ before ++ 58 ∷ after
+
+abbrev pub IsNamed : Kind → List ℕ → List ℕ → Type 0
+IsNamed Array name middle = (name ≡ []) × (middle ≡ [])
+IsNamed Object name middle = IsString name × IsColon middle
+
+-- a piece of an array or an object, its value such a text
+pub record IsPiece (k : Kind) (V : List ℕ → Type 0) (p : Piece) : Type 0 where
+  pub before : Each is_space p.before
+  pub named : IsNamed k p.name p.middle
+  pub value : V p.value
+  pub after : Each is_space p.after
+
+-- further pieces, a comma before each
+abbrev pub commas : List Piece → List ℕ
+commas [] = []
+commas (p ∷ ps) = 44 ∷ piece_text p ++ commas ps
+
+-- what stands between the brackets
+abbrev pub Inside : Kind → (List ℕ → Type 0) → List ℕ → List Piece → Type 0
+Inside k V inner [] = Each is_space inner
+Inside k V inner (p ∷ ps) = IsPiece k V p × AllByRecursion (IsPiece k V) ps × (inner ≡ piece_text p ++ commas ps)
+
+pub record IsList (k : Kind) (V : List ℕ → Type 0) (text : List ℕ) : Type 0 where
+  pub inner : List ℕ
+  pub pieces : List Piece
+  pub inside : Inside k V inner pieces
+  pub whole : text ≡ open_of k ∷ inner ++ close_of k ∷ []
+
+-- A value text with at most so many brackets open at one place.
+abbrev pub IsValueText : ℕ → List ℕ → Type 0
+IsValueText zero text = Scalar text
+IsValueText (suc d) text = Scalar text ⊎ ((k : Kind) × IsList k (IsValueText d) text)
+
+-- A value text with at most 100 brackets open at one place.
+pub record IsPartText (text : List ℕ) : Type 0 where
+  pub within : IsValueText 100 text
+
+-- ---- splits
+
+-- The text is white space, an array or object of these pieces, white space.
+pub record Splits (k : Kind) (text : List ℕ) (front : List ℕ) (pieces : List Piece) : Type 0 where
+  pub inner : List ℕ
+  pub last : List ℕ
+  pub is_front : Each is_space front
+  pub is_last : Each is_space last
+  pub inside : Inside k IsPartText inner pieces
+  pub whole : text ≡ front ++ open_of k ∷ inner ++ close_of k ∷ last
+
+-- where the names and values of the pieces lie, the first piece at an index
+abbrev pub places : ℕ → List Piece → List Member
+places at [] = []
+places at (p ∷ ps) =
+    record {
+      name = record { at = at + length p.before; len = length p.name };
+      value = record { at = at + length p.before + length p.name + length p.middle; len = length p.value };
+    } ∷ places (at + length (piece_text p) + 1) ps
+
+-- the text is such a list, and its parts lie there
+abbrev pub IsSplit : Kind → List ℕ → List Member → Type 0
+IsSplit k text members = (front : List ℕ) × (pieces : List Piece) × Splits k text front pieces × (members ≡ places (length front + 1) pieces)
+
+abbrev pub IsObject : List ℕ → List Member → Type 0
+IsObject text members = IsSplit Object text members
+
+abbrev pub IsArray : List ℕ → List Span → Type 0
+IsArray text spans = (members : List Member) × IsSplit Array text members × (spans ≡ map (λ m. m.value) members)
+
+-- a span lies in the text
+abbrev pub LiesIn : List ℕ → Span → Type 0
+LiesIn text s = s.at + s.len ≤ length text
+
+-- what a span cuts out of a text
+abbrev pub cut_of : List ℕ → Span → List ℕ
+cut_of text s = take s.len (drop s.at text)
+
+abbrev pub IsNameOf : Kind → List ℕ → Type 0
+IsNameOf Array name = name ≡ []
+IsNameOf Object name = IsString name
+
+-- the member's spans cut a name and a value
+pub record CutsPart (k : Kind) (text : List ℕ) (m : Member) : Type 0 where
+  pub name_in : LiesIn text m.name
+  pub value_in : LiesIn text m.value
+  pub name : IsNameOf k (cut_of text m.name)
+  pub value : IsPartText (cut_of text m.value)
+
+-- the span cuts a value
+abbrev pub CutsValue : List ℕ → Span → Type 0
+CutsValue text s = LiesIn text s × IsPartText (cut_of text s)

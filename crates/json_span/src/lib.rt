@@ -1,0 +1,35 @@
+//! Where the parts of a JSON array or object lie in its text.
+#![tactic(auto)]
+
+ghost use Rattle.std.specs.Prelude.{◌≡◌, ◌+◌, ◌≤◌, length, take, drop};
+ghost use Rattle.json_span.specs.Grammar.{LiesIn, cut_of};
+
+mod bytes;
+mod machine;
+mod marks;
+mod nest;
+mod state;
+
+/// A part of a text: `len` bytes from the index `at`.
+#[derive(Clone, Copy, Debug, PartialEq, Eq)]
+pub struct Span {
+    pub at: usize,
+    pub len: usize,
+}
+
+/// A member of an object: its name, with the quotes, and its value.
+#[derive(Clone, Copy, Debug, PartialEq, Eq)]
+pub struct Member {
+    pub name: Span,
+    pub value: Span,
+}
+
+impl Span {
+    /// The bytes of the part.
+    pub fn cut<'a>(&self, text: &'a [u8]) -> &'a [u8]
+        requires { LiesIn text.now self.now }
+        ensures { result.now ≡ cut_of text.now self.now }
+    {
+        &text[self.at..self.at + self.len]
+    }
+}
