@@ -185,16 +185,34 @@ abbrev pub literal_goes : Option LiteralAt → List Kind → ℕ → Option Stat
 literal_goes (Some l) kinds room = go_to (Literal l) kinds room
 literal_goes None kinds room = go_to After kinds room
 
+abbrev pub text_step : Role → StringAt → List Kind → ℕ → ℕ → Option State
+text_step role c kinds room b = if ends_string c b then go_to (behind role) kinds room else (string_step c b >>= λ d. go_to (Text role d) kinds room)
+
+abbrev pub literal_step : LiteralAt → List Kind → ℕ → ℕ → Option State
+literal_step l kinds room b = if b == letter l then literal_goes (next_letters l) kinds room else None
+
+-- at a byte that is no white space
+unfoldable pub begin_step : At → List Kind → ℕ → ℕ → Option State
+begin_step (Begin k) kinds room b = if b == open_of k then push k kinds room else None
+begin_step Fresh kinds room b = fresh_step kinds room b
+begin_step Part kinds room b = part_begin kinds room b
+begin_step Colon kinds room b = if b == 58 then go_to Value kinds room else None
+begin_step Value kinds room b = value_begin kinds room b
+begin_step _ kinds room b = None
+
+abbrev pub spaced_step : At → List Kind → ℕ → ℕ → Option State
+spaced_step at kinds room b = if is_space b then go_to at kinds room else begin_step at kinds room b
+
 unfoldable pub step : At → List Kind → ℕ → ℕ → Option State
-step (Begin k) kinds room b = if is_space b then go_to (Begin k) kinds room else if b == open_of k then push k kinds room else None
-step Fresh kinds room b = if is_space b then go_to Fresh kinds room else fresh_step kinds room b
-step Part kinds room b = if is_space b then go_to Part kinds room else part_begin kinds room b
-step Colon kinds room b = if is_space b then go_to Colon kinds room else if b == 58 then go_to Value kinds room else None
-step Value kinds room b = if is_space b then go_to Value kinds room else value_begin kinds room b
 step After kinds room b = after_step kinds room b
-step (Text role c) kinds room b = if ends_string c b then go_to (behind role) kinds room else (string_step c b >>= λ d. go_to (Text role d) kinds room)
+step (Text role c) kinds room b = text_step role c kinds room b
 step (Number n) kinds room b = number_goes n kinds room b (number_step n b)
-step (Literal l) kinds room b = if b == letter l then literal_goes (next_letters l) kinds room else None
+step (Literal l) kinds room b = literal_step l kinds room b
+step (Begin k) kinds room b = spaced_step (Begin k) kinds room b
+step Fresh kinds room b = spaced_step Fresh kinds room b
+step Part kinds room b = spaced_step Part kinds room b
+step Colon kinds room b = spaced_step Colon kinds room b
+step Value kinds room b = spaced_step Value kinds room b
 
 -- the outermost bracket is closed
 abbrev pub is_done : At → List Kind → Bool

@@ -4,7 +4,7 @@ ghost use Rattle.std.specs.Prelude.{◌≡◌, List, ℕ};
 ghost use Rattle.std.specs.Option.{option_map};
 ghost use Rattle.json_span.specs.Grammar.{open_of, close_of};
 ghost use Rattle.json_span.specs.Steps.{state_of};
-ghost use Rattle.json_span.specs.Machine.{start, push, value_begin, part_begin, fresh_step, after_step, literal_goes, step, is_done, within, number_goes};
+ghost use Rattle.json_span.specs.Machine.{start, push, value_begin, part_begin, fresh_step, after_step, step, text_step, literal_step, begin_step, is_done, within, number_goes};
 
 use crate::bytes::{digit, escape, hex, plain, power, sign, space};
 use crate::marks::Within;
@@ -337,6 +337,120 @@ fn in_number(at: NumberAt, nest: Nest, b: u8) -> Option<Machine>
             } else {
                 None
             }
+        }
+    }
+}
+
+/// The state behind a byte of a string.
+fn in_text(role: Role, at: StringAt, nest: Nest, b: u8) -> Option<Machine>
+    ensures { option_map state_of result ≡ text_step role at nest.0 nest.1 b }
+{
+    let at = if ends_string(at, b) {
+        behind(role)
+    } else {
+        At::Text(role, string_step(at, b)?)
+    };
+    Some(Machine { at, nest })
+}
+
+/// The state behind a letter of a literal.
+fn in_literal(at: LiteralAt, nest: Nest, b: u8) -> Option<Machine>
+    ensures { option_map state_of result ≡ literal_step at nest.0 nest.1 b }
+{
+    if b != letter(at) {
+        return None;
+    }
+    let at = match next_letters(at) {
+        Some(next) => At::Literal(next),
+        None => At::After,
+    };
+    Some(Machine { at, nest })
+}
+
+/// The state behind a byte that is no white space, before a part or a list.
+#[tactic(auto, unfolding(crate::specs::Machine::begin_step))]
+fn begin_step(at: At, nest: Nest, b: u8) -> Option<Machine>
+    ensures { option_map state_of result ≡ begin_step at nest.0 nest.1 b }
+{
+    match at {
+        At::Begin(kind) => {
+            if b == opening(kind) {
+                open_list(kind, nest)
+            } else {
+                None
+            }
+        }
+        At::Fresh => fresh_step(nest, b),
+        At::Part => part_begin(nest, b),
+        At::Colon => {
+            if b == b':' {
+                Some(Machine {
+                    at: At::Value,
+                    nest,
+                })
+            } else {
+                None
+            }
+        }
+        At::Value => value_begin(nest, b),
+        _ => None,
+    }
+}
+
+impl Machine {
+    /// Before a text.
+    pub fn new(kind: Kind) -> Machine
+        ensures { state_of result ≡ start kind }
+    {
+        Machine {
+            at: At::Begin(kind),
+            nest: Nest::new(),
+        }
+    }
+
+    /// The state behind one more byte, where some text with a split goes on with it.
+    #[tactic(auto, unfolding(crate::specs::Machine::step))]
+    pub fn step(self, b: u8) -> Option<Machine>
+        ensures { option_map state_of result ≡ step self.at self.nest.0 self.nest.1 b }
+    {
+        let Machine { at, nest } = self;
+        match at {
+            At::After => after_step(nest, b),
+            At::Text(role, string) => in_text(role, string, nest, b),
+            At::Number(number) => in_number(number, nest, b),
+            At::Literal(literal) => in_literal(literal, nest, b),
+            _ => {
+                if space(b) {
+                    Some(Machine { at, nest })
+                } else {
+                    begin_step(at, nest, b)
+                }
+            }
+        }
+    }
+
+    /// The part of the outermost list in which the state is.
+    pub fn within(&self) -> Within
+        ensures { result ≡ within self.now.at self.now.nest.0 }
+    {
+        if self.nest.is_deep() {
+            return Within::InValue;
+        }
+        match self.at {
+            At::Text(Role::Key, _) => Within::InName,
+            At::Text(Role::Item, _) | At::Literal(_) => Within::InValue,
+            At::Number(_) => Within::InNumber,
+            _ => Within::Outside,
+        }
+    }
+
+    /// The outermost list is closed.
+    pub fn is_done(&self) -> bool
+        ensures { result ≡ is_done self.now.at self.now.nest.0 }
+    {
+        match (self.at, self.nest.innermost()) {
+            (At::After, None) => true,
+            _ => false,
         }
     }
 }
