@@ -3,15 +3,26 @@ use Rattle.std.proofs.Common.{◌≡◌, ◌≢◌, ℕ, zero, suc, ◌+◌, ◌
 use Rattle.std.proofs.Math.Nat.{pow-succ'}
 use Rattle.std.proofs.Math.Pow.{pow_mono}
 use Rattle.std.proofs.lemmas.Bool.Decides.{nat_tests}
-use Rattle.json_span.specs.Machine.{is_deep}
-use Rattle.json_span.specs.Nest.{kinds_of, closed, closed_of, bit_of}
+use Rattle.json_span.specs.Nest.{kinds_of, lowest, opened, closed, is_deep, bit_of}
 use Rattle.json_span.specs.declared.state.Kind.{Kind}
 use Rattle.json_span.specs.declared.state.Kind.TheVariants.{Array, Object}
 
-pub closed_is : (bits room : ℕ) → room ≤ 101 → room ≢ 101 → Some (kinds_of (101 - (room + 1)) (bits / 2), room + 1) ≡ closed (kinds_of (101 - room) bits, room)
+pub closed_is : (bits room : ℕ) → room ≤ 101 → room ≢ 101 → Some (kinds_of (101 - (room + 1)) (bits / 2), room + 1) ≡ closed (kinds_of (101 - room) bits) room
 closed_is bits room le ne =
     let e : 101 - room ≡ suc (101 - (room + 1)) = omega arith in
-    ap (λ (n : ℕ). closed_of (kinds_of n bits) room) (sym e)
+    let one : room + 1 ≡ suc room = omega arith in
+    ap (λ (n : ℕ). Some (kinds_of (101 - (room + 1)) (bits / 2), n)) one ∙ ap (λ (n : ℕ). closed (kinds_of n bits) room) (sym e)
+
+kinds_pushed : (n bits : ℕ) (k : Kind) → kinds_of (suc n) (2 * bits + bit_of k) ≡ k ∷ kinds_of n bits
+kinds_pushed n bits Array = let h : (2 * bits + 0) / 2 ≡ bits = omega arith in let o : (2 * bits + 0) % 2 ≡ 0 = omega arith in rw (h, o) refl
+kinds_pushed n bits Object = let h : (2 * bits + 1) / 2 ≡ bits = omega arith in let o : (2 * bits + 1) % 2 ≡ 1 = omega arith in rw (h, o) refl
+
+pub opened_is : (bits room bit : ℕ) (k : Kind) → room ≤ 101 → room ≢ 0 → bit ≡ bit_of k → Some (kinds_of (101 - (room - 1)) (2 * bits + bit), room - 1) ≡ opened k (kinds_of (101 - room) bits) room
+opened_is bits room bit k le ne is =
+    let e : 101 - (room - 1) ≡ suc (101 - room) = omega arith in
+    let one : room ≡ suc (room - 1) = omega arith in
+    ap (λ (n : ℕ). Some (kinds_of n (2 * bits + bit), room - 1)) e ∙ ap (λ (x : ℕ). Some (kinds_of (suc (101 - room)) (2 * bits + x), room - 1)) is
+    ∙ ap (λ (x : List Kind). Some (x, room - 1)) (kinds_pushed (101 - room) bits k) ∙ ap (λ (n : ℕ). opened k (kinds_of (101 - room) bits) n) (sym one)
 
 deep_of : (n bits : ℕ) → is_deep (kinds_of n bits) ≡ nat_lt 1 n
 deep_of zero bits = grind (arith, nat_tests)

@@ -2,3 +2,4 @@ pub mod Grammar
 pub mod Machine
 pub mod Nest
 pub mod Steps
+pub mod Stops

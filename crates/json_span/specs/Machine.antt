@@ -2,6 +2,7 @@
 use Rattle.std.specs.Prelude.{◌≡◌, ℕ, suc, zero, ◌+◌, ◌-◌, ◌*◌, ◌/◌, ◌%◌, Bool, true, false, List, [], ◌∷◌, ◌++◌, Option, Some, None, ◌==◌, nat_lt, if◌then◌else◌, codes, not, ◌&&◌, length, map}
 use Rattle.std.specs.Option.{option_map}
 use Rattle.json_span.specs.Grammar.{is_space, is_digit, is_hex, is_plain, is_escape, is_minus, is_sign, is_power, open_of, close_of}
+use Rattle.json_span.specs.Nest.{opened, closed, innermost, is_deep}
 use Rattle.json_span.specs.declared.Span.{Span}
 use Rattle.json_span.specs.declared.Member.{Member}
 use Rattle.json_span.specs.declared.state.Kind.{Kind}
@@ -33,17 +34,6 @@ pub record State : Type 0 where
 
 abbrev pub go_to : At → List Kind → ℕ → Option State
 go_to at kinds room = Some (record { at = at; kinds = kinds; room = room })
-
--- the innermost of the open brackets
-abbrev pub innermost : List Kind → Option Kind
-innermost [] = None
-innermost (k ∷ kinds) = Some k
-
--- more brackets are open than the outermost
-abbrev pub is_deep : List Kind → Bool
-is_deep [] = false
-is_deep (k ∷ []) = false
-is_deep (k ∷ l ∷ kinds) = true
 
 -- ---- strings
 
@@ -138,8 +128,9 @@ scalar_begin b =
     else if is_digit b then Some (Number InInteger)
     else None
 
+-- behind a bracket that opens a list
 unfoldable pub push : Kind → List Kind → ℕ → Option State
-push k kinds room = if room == 0 then None else go_to Fresh (k ∷ kinds) (room - 1)
+push k kinds room = opened k kinds room >>= λ nest. go_to Fresh nest.0 nest.1
 
 unfoldable pub value_begin : List Kind → ℕ → ℕ → Option State
 value_begin kinds room b =
@@ -149,8 +140,7 @@ value_begin kinds room b =
 
 -- behind a bracket that closes the innermost list
 abbrev pub close_list : List Kind → ℕ → Option State
-close_list [] room = None
-close_list (k ∷ kinds) room = go_to After kinds (room + 1)
+close_list kinds room = closed kinds room >>= λ nest. go_to After nest.0 nest.1
 
 abbrev pub part_of : Option Kind → List Kind → ℕ → ℕ → Option State
 part_of None kinds room b = None

@@ -1,5 +1,5 @@
 -- The open brackets as bits in one word.
-use Rattle.std.specs.Prelude.{◌≡◌, ℕ, zero, suc, ◌+◌, ◌-◌, ◌*◌, ◌/◌, ◌%◌, List, [], ◌∷◌, Option, Some, None, ◌==◌, if◌then◌else◌}
+use Rattle.std.specs.Prelude.{◌≡◌, ℕ, zero, suc, ◌/◌, ◌%◌, Bool, true, false, List, [], ◌∷◌, Option, Some, None, ◌==◌, if◌then◌else◌}
 use Rattle.json_span.specs.declared.state.Kind.{Kind}
 use Rattle.json_span.specs.declared.state.Kind.TheVariants.{Array, Object}
 
@@ -17,14 +17,23 @@ abbrev pub kinds_of : ℕ → ℕ → List Kind
 kinds_of zero bits = []
 kinds_of (suc n) bits = lowest bits ∷ kinds_of n (bits / 2)
 
--- the open brackets with one more, where there is room
-abbrev pub opened : Kind → List Kind × ℕ → Option (List Kind × ℕ)
-opened k nest = if nest.1 == 0 then None else Some (k ∷ nest.0, nest.1 - 1)
+-- the kinds of the open brackets and the room for more, with one more open, where there is room
+abbrev pub opened : Kind → List Kind → ℕ → Option (List Kind × ℕ)
+opened k kinds zero = None
+opened k kinds (suc room) = Some (k ∷ kinds, room)
 
-abbrev pub closed_of : List Kind → ℕ → Option (List Kind × ℕ)
-closed_of [] room = None
-closed_of (k ∷ kinds) room = Some (kinds, room + 1)
+-- the same without the innermost, where there is one
+abbrev pub closed : List Kind → ℕ → Option (List Kind × ℕ)
+closed [] room = None
+closed (k ∷ kinds) room = Some (kinds, suc room)
 
--- the open brackets without the innermost, where there is one
-abbrev pub closed : List Kind × ℕ → Option (List Kind × ℕ)
-closed nest = closed_of nest.0 nest.1
+-- the innermost of the open brackets
+abbrev pub innermost : List Kind → Option Kind
+innermost [] = None
+innermost (k ∷ kinds) = Some k
+
+-- more brackets are open than the outermost
+abbrev pub is_deep : List Kind → Bool
+is_deep [] = false
+is_deep (k ∷ []) = false
+is_deep (k ∷ l ∷ kinds) = true

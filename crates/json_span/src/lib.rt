@@ -8,7 +8,10 @@ mod bytes;
 mod machine;
 mod marks;
 mod nest;
+mod split;
 mod state;
+
+use std::alloc::{AllocError, AllocFailed};
 
 /// A part of a text: `len` bytes from the index `at`.
 #[derive(Clone, Copy, Debug, PartialEq, Eq)]
@@ -22,6 +25,36 @@ pub struct Span {
 pub struct Member {
     pub name: Span,
     pub value: Span,
+}
+
+/// Why a text has no parts: memory ran out, or the text has no split. `NotSplit` holds the length of
+/// the longest front of the text with which some text with a split begins.
+#[derive(Clone, Copy, Debug, PartialEq, Eq, Drop)]
+pub enum SpanFault {
+    Memory,
+    NotSplit(usize),
+}
+
+impl From<AllocError> for SpanFault {
+    ghost use Rattle.std.specs.Prelude.{◌≡◌};
+    ghost use Rattle.json_span.specs.declared.SpanFault.TheVariants.{Memory};
+
+    ghost from_gives = { λ _ e. e ≡ Memory };
+
+    fn from(_e: AllocError) -> SpanFault {
+        SpanFault::Memory
+    }
+}
+
+impl<T: Drop> From<AllocFailed<T>> for SpanFault {
+    ghost use Rattle.std.specs.Prelude.{◌≡◌};
+    ghost use Rattle.json_span.specs.declared.SpanFault.TheVariants.{Memory};
+
+    ghost from_gives = { λ _ e. e ≡ Memory };
+
+    fn from(_e: AllocFailed<T>) -> SpanFault {
+        SpanFault::Memory
+    }
 }
 
 impl Span {

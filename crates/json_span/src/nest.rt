@@ -1,8 +1,7 @@
 //! The brackets that are open, as bits in one word.
 
 ghost use Rattle.std.specs.Prelude.{◌≡◌, List, [], Some, Option};
-ghost use Rattle.json_span.specs.Machine.{innermost, is_deep};
-ghost use Rattle.json_span.specs.Nest.{opened, closed, bit_of};
+ghost use Rattle.json_span.specs.Nest.{opened, closed, innermost, is_deep, bit_of};
 
 use crate::state::Kind;
 use std::marker::Model;
@@ -58,7 +57,7 @@ impl Nest {
 
     /// The brackets with one more, where there is room.
     pub fn opened(self, kind: Kind) -> Option<Nest>
-        ensures { result ≡ opened kind self }
+        ensures { result ≡ opened kind self.0 self.1 }
     {
         let Nest { bits, room } = self;
         if room == 0 {
@@ -72,7 +71,7 @@ impl Nest {
 
     /// The brackets without the innermost, where there is one.
     pub fn closed(self) -> Option<Nest>
-        ensures { result ≡ closed self }
+        ensures { result ≡ closed self.0 self.1 }
     {
         let Nest { bits, room } = self;
         if room == 101 {
