@@ -1,2 +1,7 @@
 pub mod NestLaws
 pub mod ReadLaws
+pub mod BasicLaws
+pub mod StringLaws
+pub mod Completions
+pub mod NumberLaws
+pub mod SoundLaws
