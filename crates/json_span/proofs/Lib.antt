@@ -5,3 +5,4 @@ pub mod StringLaws
 pub mod Completions
 pub mod NumberLaws
 pub mod SoundLaws
+pub mod ViableLaws
