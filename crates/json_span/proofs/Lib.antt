@@ -6,3 +6,6 @@ pub mod Completions
 pub mod NumberLaws
 pub mod SoundLaws
 pub mod ViableLaws
+pub mod TakenLaws
+pub mod TakenStrings
+pub mod TakenNumbers
