@@ -9,3 +9,4 @@ pub mod ViableLaws
 pub mod TakenLaws
 pub mod TakenStrings
 pub mod TakenNumbers
+pub mod TakenLists

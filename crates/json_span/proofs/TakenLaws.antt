@@ -91,32 +91,42 @@ settled ks m = cond (is_deep ks) m no_marks
 abbrev pub ended : List Kind → Marks → ℕ → List Member → List Member
 ended ks m q out = cond (is_deep ks) out (record { name = m.name; value = span_to m.from q } ∷ out)
 
--- a value has begun
+-- a state is in a part, whose kind matters in the outermost list alone
 pub data InPart (ks : List Kind) (w : Within) : Type 0 where
   in_value : w ≡ InValue → InPart ks w
   in_number : w ≡ cond (is_deep ks) InValue InNumber → InPart ks w
+  in_name : w ≡ cond (is_deep ks) InValue InName → InPart ks w
 
 -- what a step into a part changes
 abbrev Begins : Bool → ℕ → ℕ → Marks → Within → Type 0
 Begins deep p q m w = (marked p q (cond deep InValue Outside) w m ≡ cond deep m (record { name = m.name; from = p })) × (finished p q (cond deep InValue Outside) w m ≡ None)
 
+begins_value : (deep : Bool) (p q : ℕ) (m : Marks) → Begins deep p q m InValue
+begins_value true p q m = (refl, refl)
+begins_value false p q m = (refl, refl)
+
+begins_number : (deep : Bool) (p q : ℕ) (m : Marks) → Begins deep p q m (cond deep InValue InNumber)
+begins_number true p q m = (refl, refl)
+begins_number false p q m = (refl, refl)
+
+begins_name : (deep : Bool) (p q : ℕ) (m : Marks) → Begins deep p q m (cond deep InValue InName)
+begins_name true p q m = (refl, refl)
+begins_name false p q m = (refl, refl)
+
+begins : (ks : List Kind) (p q : ℕ) (m : Marks) (w : Within) → InPart ks w → Begins (is_deep ks) p q m w
+begins ks p q m w (in_value e) = subst (λ (x : Within). Begins (is_deep ks) p q m x) (sym e) (begins_value (is_deep ks) p q m)
+begins ks p q m w (in_number e) = subst (λ (x : Within). Begins (is_deep ks) p q m x) (sym e) (begins_number (is_deep ks) p q m)
+begins ks p q m w (in_name e) = subst (λ (x : Within). Begins (is_deep ks) p q m x) (sym e) (begins_name (is_deep ks) p q m)
+
+-- the first byte of a name or a value
 pub takes_begin : (n : ℕ) (at : At) (ks : List Kind) (d b : ℕ) (t : State) (m : Marks) (u : List ℕ) (out : List Member)
     → step at ks d b ≡ Some t → within at ks ≡ cond (is_deep ks) InValue Outside → InPart ks (within t.at t.kinds) → Takes n t (begun ks (place_of n (b ∷ u)) m) u out → Takes n (S at ks d) m (b ∷ u) out
 takes_begin n at ks d b t m u out e w i a =
     let p = place_of n (b ∷ u) in
     let q = place_of n u in
-    let c = changes (is_deep ks) p q m (within t.at t.kinds) (part_cases ks (within t.at t.kinds) i) in
+    let c = begins ks p q m (within t.at t.kinds) i in
     takes_event n at ks d b t m (begun ks p m) None u out e
     (ap (λ (x : Within). marked p q x (within t.at t.kinds) m) w ∙ c.0) (ap (λ (x : Within). finished p q x (within t.at t.kinds) m) w ∙ c.1) a
-  where
-    part_cases : (ks : List Kind) (w : Within) → InPart ks w → (w ≡ InValue) ⊎ (w ≡ cond (is_deep ks) InValue InNumber)
-    part_cases ks w (in_value e) = inl e
-    part_cases ks w (in_number e) = inr e
-    changes : (deep : Bool) (p q : ℕ) (m : Marks) (w : Within) → (w ≡ InValue) ⊎ (w ≡ cond deep InValue InNumber) → Begins deep p q m w
-    changes true p q m w (inl e) = subst (λ (x : Within). Begins true p q m x) (sym e) (refl, refl)
-    changes true p q m w (inr e) = subst (λ (x : Within). Begins true p q m x) (sym e) (refl, refl)
-    changes false p q m w (inl e) = subst (λ (x : Within). Begins false p q m x) (sym e) (refl, refl)
-    changes false p q m w (inr e) = subst (λ (x : Within). Begins false p q m x) (sym e) (refl, refl)
 
 -- the last byte of a value that is no number
 pub takes_end : (n : ℕ) (at : At) (ks0 ks : List Kind) (d d2 b : ℕ) (m : Marks) (u : List ℕ) (out : List Member)

@@ -28,7 +28,7 @@ use Rattle.json_span.specs.declared.state.At.{At}
 use Rattle.json_span.specs.declared.state.At.TheVariants.{Begin, Fresh, Part, Colon, Value, After, Text, Number, Literal}
 use Rattle.json_span.proofs.BasicLaws.{bind_some, some_is, if_some, chosen, same_eqb, not_true}
 use Rattle.json_span.proofs.StringLaws.{InString, step_completes, ends_plain, plain_test, plain_step, escape_test}
-use Rattle.json_span.proofs.TakenLaws.{Takes, S, place_of, step_read, takes_event, takes_on, begun, named, settled, ended, InPart, in_value, in_number, takes_begin, takes_end, takes_spaces, fresh_self, part_self, value_self, colon_self, after_self, begin_self}
+use Rattle.json_span.proofs.TakenLaws.{Takes, S, place_of, step_read, takes_event, takes_on, begun, named, settled, ended, InPart, in_value, in_number, in_name, takes_begin, takes_end, takes_spaces, fresh_self, part_self, value_self, colon_self, after_self, begin_self}
 
 -- ---- the inside of a string
 
@@ -96,7 +96,7 @@ quote_on : (role : Role) (ks : List Kind) (d : ℕ) → step (Text role Plain) k
 unfolding step
 quote_on role ks d = refl
 
-both_value : (deep : Bool) → cond deep InValue InValue ≡ InValue
+pub both_value : (deep : Bool) → cond deep InValue InValue ≡ InValue
 both_value true = refl
 both_value false = refl
 
