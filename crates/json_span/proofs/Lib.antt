@@ -10,3 +10,5 @@ pub mod TakenLaws
 pub mod TakenStrings
 pub mod TakenNumbers
 pub mod TakenLists
+pub mod SplitLaws
+pub mod CutLaws

@@ -1,11 +1,12 @@
 -- Each state that a text leads to can be completed.
 use Rattle.std.proofs.Common.{◌≡◌, ◌≢◌, ℕ, zero, suc, ◌+◌, ◌<◌, ◌≤◌, Bool, true, false, cond, eqb, List, [], ◌∷◌, ◌++◌, length, Option, Some, None, refl, sym, ap, subst, ◌∙◌, append_assoc, arith, inl, inr, ◌⊎◌}
 use Rattle.std.specs.List.{AllByRecursion}
+use Rattle.std.proofs.lemmas.List.{append-nil}
 use Rattle.std.specs.Prelude.{codes}
 use Rattle.std.proofs.lemmas.Bool.{eqb-true, eqb-false, ne_eqb}
 use Rattle.std.proofs.lemmas.Bool.Decides.{nat_tests}
 use Rattle.json_span.specs.Grammar.{Each, is_space, is_digit, is_sign, is_power, is_minus, is_plain, is_escape, is_hex, IsString, Scalar, Chars, Digits, Whole, Optional, Fraction, Power, IsNumber, no_chars, plain_char, escaped_char, unicode_char, digits, nought, counted, absent, present, no_fraction, point_digits, no_power, power_digits, string_text, number_text, true_text, false_text, null_text, open_of, close_of, Piece, piece_text, IsColon, IsNamed, IsPiece, commas, Inside, IsList, IsValueText, IsPartText, Splits, places, IsSplit}
-use Rattle.json_span.specs.Machine.{◌>>=◌, State, go_to, hex_step, string_step, ends_string, behind, number_step, may_end, letter, next_letters, scalar_begin, push, value_begin, part_of, part_begin, fresh_of, fresh_step, after_of, after_step, number_goes, literal_goes, text_step, literal_step, begin_step, spaced_step, step, close_list, start, run}
+use Rattle.json_span.specs.Machine.{◌>>=◌, State, go_to, hex_step, string_step, ends_string, behind, number_step, may_end, letter, next_letters, scalar_begin, push, value_begin, part_of, part_begin, fresh_of, fresh_step, after_of, after_step, number_goes, literal_goes, text_step, literal_step, begin_step, spaced_step, step, close_list, start, run, is_done}
 use Rattle.json_span.specs.Nest.{opened, closed, innermost, is_deep}
 use Rattle.json_span.specs.declared.Member.{Member}
 use Rattle.json_span.specs.declared.state.Kind.{Kind}
@@ -214,7 +215,7 @@ fresh_split k front sp w text sf ss (inl (v, each, e)) whole =
     ([], (front, [], record { inner = sp; last = v; is_front = sf; is_last = each; inside = ss; whole = whole ∙ ap (λ (x : List ℕ). front ++ open_of k ∷ (sp ++ x)) e ∙ sym (append_assoc front (open_of k ∷ sp) (close_of k ∷ v)) }, refl))
 fresh_split k front sp w text sf ss (inr (name, middle, x, named, (a, y, is, (last, ps, v, sl, each, rest, e3), e2), e1)) whole =
     let p : Piece = record { before = sp; name = name; middle = middle; value = a; after = last } in (
-      places (length front + 1) (p ∷ ps),
+      places k (length front + 1) (p ∷ ps),
       (
         front,
         p ∷ ps,
@@ -233,8 +234,31 @@ fresh_split k front sp w text sf ss (inr (name, middle, x, named, (a, y, is, (la
 begin_split : (k : Kind) (text : List ℕ) → Completes (Begin k) 101 [] text → (ms : List Member) × IsSplit k text ms
 begin_split k text c = fresh_split k c.sp c.is.then.sp c.is.then.v text c.each c.is.then.each c.is.then.is (c.whole ∙ ap (λ (x : List ℕ). c.sp ++ x) (c.is.whole ∙ ap (λ (x : List ℕ). open_of k ∷ x) c.is.then.whole))
 
+run_completes : (front u : List ℕ) (s t : State) → run s front ≡ Some t → Completes t.at t.room t.kinds u → Completes s.at s.room s.kinds (front ++ u)
+unfolding run
+run_completes [] u s t e c = let same = some_is s t e in subst (λ (x : State). Completes x.at x.room x.kinds u) (sym same) c
+run_completes (b ∷ bs) u s t e c =
+    let r = bind_some (step s.at s.kinds s.room b) (λ x. run x bs) t e in
+    step_sound s.at s.kinds s.room b r.0 (bs ++ u) r.1 (run_completes bs u r.0 t r.2 c)
+
+closed_now : (at : At) (d : ℕ) (ks : List Kind) → is_done at ks ≡ true → Completes at d ks []
+closed_now After d [] e = tt
+closed_now After d (k ∷ ks) e = absurd cc
+closed_now Fresh d ks e = absurd cc
+closed_now Part d ks e = absurd cc
+closed_now Colon d ks e = absurd cc
+closed_now Value d ks e = absurd cc
+closed_now (Begin k) d ks e = absurd cc
+closed_now (Text role c) d ks e = absurd cc
+closed_now (Number n) d ks e = absurd cc
+closed_now (Literal l) d ks e = absurd cc
+
+-- A text that leads behind the closed outermost bracket has a split.
+pub run_split : (k : Kind) (text : List ℕ) (t : State) → run (start k) text ≡ Some t → is_done t.at t.kinds ≡ true → (ms : List Member) × IsSplit k text ms
+run_split k text t e done = begin_split k text (subst (λ (x : List ℕ). Completes (Begin k) 101 [] x) (append-nil text) (run_completes text [] (start k) t e (closed_now t.at t.room t.kinds done)))
+
 -- What the machine reads is the beginning of some text with a split.
-viable : (k : Kind) (front : List ℕ) (t : State) → run (start k) front ≡ Some t → (more : List ℕ) × (ms : List Member) × IsSplit k (front ++ more) ms
+pub viable : (k : Kind) (front : List ℕ) (t : State) → run (start k) front ≡ Some t → (more : List ℕ) × (ms : List Member) × IsSplit k (front ++ more) ms
 unfolding Sits
 viable k front t e =
     let v = run_viable front (start k) t tt e in

@@ -1,8 +1,10 @@
 -- The texts of JSON, and how an array or an object splits into its parts.
-use Rattle.std.specs.Prelude.{◌≡◌, ◌≢◌, ℕ, ◌+◌, zero, suc, Bool, true, List, [], ◌∷◌, ◌++◌, length, codes, ◌==◌, ◌||◌, ◌&&◌, nat_lt, not, ◌⊎◌, map, ◌≤◌, take, drop}
+use Rattle.std.specs.Prelude.{◌≡◌, ◌≢◌, ℕ, ◌+◌, zero, suc, Bool, true, List, [], ◌∷◌, ◌++◌, length, codes, ◌==◌, ◌||◌, ◌&&◌, nat_lt, not, ◌⊎◌, map, ◌≤◌, ◌<◌, ⊤, take, drop}
 use Rattle.std.specs.List.{AllByRecursion}
 use Rattle.json_span.specs.declared.Span.{Span}
 use Rattle.json_span.specs.declared.Member.{Member}
+use Rattle.json_span.specs.declared.SpanFault.{SpanFault}
+use Rattle.json_span.specs.declared.SpanFault.TheVariants.{Memory, NotSplit}
 use Rattle.json_span.specs.declared.state.Kind.{Kind}
 use Rattle.json_span.specs.declared.state.Kind.TheVariants.{Array, Object}
 
@@ -167,44 +169,62 @@ pub record Splits (k : Kind) (text : List ℕ) (front : List ℕ) (pieces : List
   pub inside : Inside k IsPartText inner pieces
   pub whole : text ≡ front ++ open_of k ∷ inner ++ close_of k ∷ last
 
--- where the names and values of the pieces lie, the first piece at an index
-abbrev pub places : ℕ → List Piece → List Member
-places at [] = []
-places at (p ∷ ps) =
-    record {
-      name = record { at = at + length p.before; len = length p.name };
-      value = record { at = at + length p.before + length p.name + length p.middle; len = length p.value };
-    } ∷ places (at + length (piece_text p) + 1) ps
+-- where a piece's name lies, the piece at an index: an element has none
+abbrev pub name_place : Kind → ℕ → Piece → Span
+name_place Array at p = record { at = 0; len = 0 }
+name_place Object at p = record { at = at + length p.before; len = length p.name }
 
--- the text is such a list, and its parts lie there
+-- where a piece's value lies, the piece at an index
+abbrev pub value_place : ℕ → Piece → Span
+value_place at p = record { at = at + length p.before + length p.name + length p.middle; len = length p.value }
+
+-- where the names and the values of the pieces lie, the first piece at an index
+abbrev pub places : Kind → ℕ → List Piece → List Member
+places k at [] = []
+places k at (p ∷ ps) = record { name = name_place k at p; value = value_place at p } ∷ places k (at + length (piece_text p) + 1) ps
+
+-- the text is a list of a kind, and its parts lie there
 abbrev pub IsSplit : Kind → List ℕ → List Member → Type 0
-IsSplit k text members = (front : List ℕ) × (pieces : List Piece) × Splits k text front pieces × (members ≡ places (length front + 1) pieces)
+IsSplit k text members = (front : List ℕ) × (pieces : List Piece) × Splits k text front pieces × (members ≡ places k (length front + 1) pieces)
 
+-- The text is an object, and its members lie there.
 abbrev pub IsObject : List ℕ → List Member → Type 0
 IsObject text members = IsSplit Object text members
 
+-- The text is an array, and its elements lie there.
 abbrev pub IsArray : List ℕ → List Span → Type 0
 IsArray text spans = (members : List Member) × IsSplit Array text members × (spans ≡ map (λ m. m.value) members)
 
--- a span lies in the text
+-- some text with a split begins with this
+abbrev pub IsFront : Kind → List ℕ → Type 0
+IsFront k front = (more : List ℕ) × (members : List Member) × IsSplit k (front ++ more) members
+
+-- The text has no split, and the place is the length of the longest of its fronts with which some text with a split begins.
+pub record IsRefusedAt (k : Kind) (text : List ℕ) (place : ℕ) : Type 0 where
+  pub no_split : (members : List Member) → IsSplit k text members → ⊥
+  pub within : place ≤ length text
+  pub front : IsFront k (take place text)
+  pub longest : place < length text → IsFront k (take (place + 1) text) → ⊥
+
+-- want of memory says nothing of the text
+abbrev pub Refuses : Kind → List ℕ → SpanFault → Type 0
+Refuses k text Memory = ⊤
+Refuses k text (NotSplit place) = IsRefusedAt k text place
+
+-- ---- what spans cut
+
+-- the span lies in the text
 abbrev pub LiesIn : List ℕ → Span → Type 0
 LiesIn text s = s.at + s.len ≤ length text
 
--- what a span cuts out of a text
+-- what the span cuts out of the text
 abbrev pub cut_of : List ℕ → Span → List ℕ
 cut_of text s = take s.len (drop s.at text)
 
-abbrev pub IsNameOf : Kind → List ℕ → Type 0
-IsNameOf Array name = name ≡ []
-IsNameOf Object name = IsString name
-
--- the member's spans cut a name and a value
-pub record CutsPart (k : Kind) (text : List ℕ) (m : Member) : Type 0 where
-  pub name_in : LiesIn text m.name
-  pub value_in : LiesIn text m.value
-  pub name : IsNameOf k (cut_of text m.name)
-  pub value : IsPartText (cut_of text m.value)
-
--- the span cuts a value
+-- the span lies in the text and cuts a value text
 abbrev pub CutsValue : List ℕ → Span → Type 0
 CutsValue text s = LiesIn text s × IsPartText (cut_of text s)
+
+-- the member's spans lie in the text and cut a string and a value text
+abbrev pub CutsMember : List ℕ → Member → Type 0
+CutsMember text m = LiesIn text m.name × IsString (cut_of text m.name) × CutsValue text m.value

@@ -3,3 +3,4 @@ pub mod Machine
 pub mod Nest
 pub mod Steps
 pub mod Stops
+pub mod Parts
