@@ -1,11 +1,11 @@
 -- What the spans of a split cut.
-use Rattle.std.proofs.Common.{◌≡◌, ℕ, ◌+◌, ◌≤◌, List, [], ◌∷◌, ◌++◌, length, take, drop, Option, Some, None, refl, sym, ap, subst, ◌∙◌, append_assoc, arith, map}
+use Rattle.std.proofs.Common.{◌≡◌, ℕ, ◌+◌, List, [], ◌∷◌, ◌++◌, length, take, drop, Option, Some, None, refl, sym, ap, subst, ◌∙◌, append_assoc, arith, map}
 use Rattle.std.specs.List.{AllByRecursion, All}
 use Rattle.std.specs.Option.{option_map}
 use Rattle.std.proofs.lemmas.List.{length-append}
 use Rattle.std.proofs.lemmas.List.Elements.{All-nil, All-cons}
 use Rattle.std.proofs.Math.Seq.{take-append_seam, drop-append_seam}
-use Rattle.json_span.specs.Grammar.{IsString, IsNamed, IsPiece, IsPartText, Piece, piece_text, commas, open_of, close_of, Splits, name_place, value_place, places, IsSplit, IsArray, LiesIn, cut_of, CutsValue, CutsMember}
+use Rattle.json_span.specs.Grammar.{IsString, IsPiece, IsPartText, Piece, piece_text, commas, open_of, close_of, Splits, name_place, value_place, places, IsSplit, LiesIn, cut_of, CutsValue, CutsMember}
 use Rattle.json_span.specs.Machine.{split_of}
 use Rattle.json_span.specs.Parts.{member_of, members_of, elements_of, HasMembers, HasElements}
 use Rattle.json_span.specs.declared.Member.{Member}
@@ -55,8 +55,8 @@ piece_cut : (k : Kind) (text f w : List ℕ) (p : Piece) (ps : List Piece) (at :
 piece_cut k text f w p ps at n is e = record {
   name = name_cut k text f w p ps at n is e;
   value =
-    cut_is text (f ++ (p.before ++ (p.name ++ p.middle))) p.value (p.after ++ (commas ps ++ w)) (at + length p.before + length p.name + length p.middle) (e ∙ value_grouped f p.before p.name p.middle p.value p.after (commas ps) w)
-    (omega (arith, length-append f (p.before ++ (p.name ++ p.middle)), length-append p.before (p.name ++ p.middle), length-append p.name p.middle));
+      cut_is text (f ++ (p.before ++ (p.name ++ p.middle))) p.value (p.after ++ (commas ps ++ w)) (at + length p.before + length p.name + length p.middle) (e ∙ value_grouped f p.before p.name p.middle p.value p.after (commas ps) w)
+      (omega (arith, length-append f (p.before ++ (p.name ++ p.middle)), length-append p.before (p.name ++ p.middle), length-append p.name p.middle));
   is_value = is.value;
 }
 

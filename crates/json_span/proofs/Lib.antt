@@ -12,3 +12,4 @@ pub mod TakenNumbers
 pub mod TakenLists
 pub mod SplitLaws
 pub mod CutLaws
+pub mod CallLaws

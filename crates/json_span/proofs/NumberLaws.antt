@@ -1,25 +1,12 @@
 -- What completes a number, byte by byte.
-use Rattle.std.proofs.Common.{◌≡◌, ◌≢◌, ℕ, zero, suc, ◌+◌, ◌<◌, ◌≤◌, Bool, true, false, cond, eqb, List, [], ◌∷◌, ◌++◌, length, Option, Some, None, refl, sym, ap, subst, ◌∙◌, append_assoc, arith, inl, inr, ◌⊎◌}
-use Rattle.std.proofs.lemmas.Bool.{eqb-true, eqb-false, ne_eqb}
-use Rattle.std.proofs.lemmas.Bool.Decides.{nat_tests}
-use Rattle.json_span.specs.Grammar.{Each, is_space, is_digit, is_sign, is_power, is_minus, is_plain, is_escape, is_hex, IsString, Scalar, Chars, Digits, Whole, Optional, Fraction, Power, IsNumber, no_chars, plain_char, escaped_char, unicode_char, digits, nought, counted, absent, present, no_fraction, point_digits, no_power, power_digits, string_text, number_text, true_text, false_text, null_text, open_of, close_of, Piece, piece_text, IsColon, IsNamed, IsPiece, commas, Inside, IsList, IsValueText, IsPartText, Splits, places, IsSplit}
-use Rattle.json_span.specs.Machine.{◌>>=◌, State, go_to, hex_step, string_step, ends_string, behind, number_step, may_end, letter, next_letters, scalar_begin, push, value_begin, part_of, part_begin, fresh_of, fresh_step, after_of, after_step, number_goes, literal_goes, text_step, literal_step, begin_step, spaced_step, step, close_list, start, run}
-use Rattle.json_span.specs.Nest.{opened, closed, innermost, is_deep}
-use Rattle.json_span.specs.declared.Member.{Member}
-use Rattle.json_span.specs.declared.state.Kind.{Kind}
-use Rattle.json_span.specs.declared.state.Kind.TheVariants.{Array, Object}
-use Rattle.json_span.specs.declared.state.Role.{Role}
-use Rattle.json_span.specs.declared.state.Role.TheVariants.{Key, Item}
-use Rattle.json_span.specs.declared.state.StringAt.{StringAt}
-use Rattle.json_span.specs.declared.state.StringAt.TheVariants.{Plain, Escaped, Four, Three, Two, One}
+use Rattle.std.proofs.Common.{◌≡◌, ℕ, true, cond, eqb, List, [], ◌∷◌, Some, None, refl, sym, ap, subst, ◌∙◌, inl, inr}
+use Rattle.std.proofs.lemmas.Bool.{eqb-true}
+use Rattle.json_span.specs.Grammar.{is_digit, is_sign, is_power, Fraction, Power, digits, nought, counted, absent, present, no_fraction, point_digits, no_power, power_digits}
+use Rattle.json_span.specs.Machine.{number_step, may_end}
 use Rattle.json_span.specs.declared.state.NumberAt.{NumberAt}
 use Rattle.json_span.specs.declared.state.NumberAt.TheVariants.{AfterMinus, AfterZero, InInteger, AfterPoint, InFraction, AfterE, AfterSign, InExponent}
-use Rattle.json_span.specs.declared.state.LiteralAt.{LiteralAt}
-use Rattle.json_span.specs.declared.state.LiteralAt.TheVariants.{Rue, Ue, Alse, Lse, Se, E, Ull, Ll, L}
-use Rattle.json_span.specs.declared.state.At.{At}
-use Rattle.json_span.specs.declared.state.At.TheVariants.{Begin, Fresh, Part, Colon, Value, After, Text, Number, Literal}
-use Rattle.json_span.proofs.BasicLaws.{bind_some, some_is, if_some, chosen, same_eqb, not_true}
-use Rattle.json_span.proofs.Completions.{Afters, Values, Parts, Freshes, Spaced, Then, Byte, NumRest, letters_of, Colons, Closing, Completes}
+use Rattle.json_span.proofs.BasicLaws.{some_is, if_some, chosen}
+use Rattle.json_span.proofs.Completions.{Then, NumRest}
 
 pub num_ended : (n : NumberAt) → may_end n ≡ true → NumRest n []
 num_ended AfterMinus e = absurd cc

@@ -82,9 +82,9 @@ has_next k text place met s t m lt has e begun =
     let w = within s.at s.kinds in
     let v = within t.at t.kinds in
     let on : read (length text) s m (drop place text) ≡ option_map (also (finished place (place + 1) w v m)) (read (length text) t (marked place (place + 1) w v m) rest) =
-        ap (read (length text) s m) cons ∙ read_on (length text) s t m b rest e
-        ∙ ap (λ (x : ℕ). option_map (also (finished x (length text - length rest) w v m)) (read (length text) t (marked x (length text - length rest) w v m) rest)) here
-        ∙ ap (λ (x : ℕ). option_map (also (finished place x w v m)) (read (length text) t (marked place x w v m) rest)) next in
+    ap (read (length text) s m) cons ∙ read_on (length text) s t m b rest e
+    ∙ ap (λ (x : ℕ). option_map (also (finished x (length text - length rest) w v m)) (read (length text) t (marked x (length text - length rest) w v m) rest)) here
+    ∙ ap (λ (x : ℕ). option_map (also (finished place x w v m)) (read (length text) t (marked place x w v m) rest)) next in
     record {
       begun = begun;
       reads = sym (gained_rest met (finished place (place + 1) w v m) (read (length text) t (marked place (place + 1) w v m) rest)) ∙ ap (λ (o : Option (List Member)). option_map (λ x. met ++ x) o) (sym on) ∙ has.reads;

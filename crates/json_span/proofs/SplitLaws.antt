@@ -1,10 +1,10 @@
 -- The machine finds a text's split, and only that.
-use Rattle.std.proofs.Common.{◌≡◌, ℕ, suc, ◌+◌, ◌-◌, ◌<◌, ◌≤◌, Bool, true, false, cond, List, [], ◌∷◌, ◌++◌, length, take, Option, Some, None, refl, sym, ap, subst, ◌∙◌, append_assoc, arith, map}
+use Rattle.std.proofs.Common.{◌≡◌, ℕ, ◌+◌, ◌-◌, Bool, true, false, cond, List, [], ◌∷◌, ◌++◌, length, take, Option, Some, None, refl, sym, ap, subst, ◌∙◌, append_assoc, arith}
 use Rattle.std.specs.List.{AllByRecursion}
 use Rattle.std.specs.Option.{option_map}
 use Rattle.std.proofs.lemmas.List.{append-nil, length-append}
-use Rattle.json_span.specs.Grammar.{Each, is_space, open_of, close_of, Piece, piece_text, IsPiece, commas, Inside, IsValueText, IsPartText, Splits, name_place, value_place, places, IsSplit, IsArray, IsFront, IsRefusedAt}
-use Rattle.json_span.specs.Machine.{◌>>=◌, State, go_to, step, spaced_step, begin_step, push, start, run, is_done, read, split_of, within, marked, finished, also, no_marks, nowhere, span_to}
+use Rattle.json_span.specs.Grammar.{Each, is_space, open_of, close_of, Piece, piece_text, IsPiece, commas, Inside, IsValueText, IsPartText, Splits, name_place, value_place, places, IsSplit, IsFront, IsRefusedAt}
+use Rattle.json_span.specs.Machine.{◌>>=◌, State, go_to, step, begin_step, push, start, run, is_done, read, split_of, within, marked, finished, also, no_marks, nowhere, span_to}
 use Rattle.json_span.specs.Stops.{StopsAt}
 use Rattle.json_span.specs.declared.Member.{Member}
 use Rattle.json_span.specs.declared.Span.{Span}
@@ -39,7 +39,6 @@ member name value = record { name = name; value = value }
 span_is : (from to at len : ℕ) → from ≡ at → to ≡ at + len → span_to from to ≡ record { at = at; len = len }
 span_is from to at len e f = let l : to - from ≡ len = omega arith in ap (λ (x : ℕ). span_of x (to - from)) e ∙ ap (span_of at) l
 
-
 -- where a piece's part lies, by what is behind its value
 abbrev part_at : ℕ → Kind → Piece → List ℕ → Member
 part_at n k p r = let m = piece_marks n (k ∷ []) k p r no_marks in record { name = m.name; value = span_to m.from (place_of n r) }
@@ -55,7 +54,7 @@ part_is n at Object p r e =
     let ln = length-append p.name (p.middle ++ (p.value ++ r)) in
     let v : span_to (place_of n (p.value ++ r)) (place_of n r) ≡ value_place at p = span_is (place_of n (p.value ++ r)) (place_of n r) (at + length p.before + length p.name + length p.middle) (length p.value) (omega arith) (omega arith) in
     let m : span_to (place_of n (p.name ++ (p.middle ++ (p.value ++ r)))) (place_of n (p.middle ++ (p.value ++ r))) ≡ name_place Object at p =
-      span_is (place_of n (p.name ++ (p.middle ++ (p.value ++ r)))) (place_of n (p.middle ++ (p.value ++ r))) (at + length p.before) (length p.name) (omega arith) (omega arith) in
+    span_is (place_of n (p.name ++ (p.middle ++ (p.value ++ r)))) (place_of n (p.middle ++ (p.value ++ r))) (at + length p.before) (length p.name) (omega arith) (omega arith) in
     ap (λ (x : Span). member x (span_to (place_of n (p.value ++ r)) (place_of n r))) m ∙ ap (λ (x : Span). member (name_place Object at p) x) v
 
 placed_is : (n : ℕ) (k : Kind) (w : List ℕ) (ps : List Piece) (p : Piece) (at : ℕ) → n ≡ at + length ((piece_text p ++ commas ps) ++ w) → placed n k (p ∷ ps) w ≡ places k at (p ∷ ps)
@@ -90,9 +89,9 @@ splits_taken k text front pieces s =
     let n = length text in
     let out = placed n k pieces (close_of k ∷ s.last) in
     let t : Takes n (start k) no_marks text out = subst (λ (x : List ℕ). Takes n (start k) no_marks x out) (sym (s.whole ∙ append_assoc front (open_of k ∷ s.inner) (close_of k ∷ s.last)))
-      (takes_spaces n (Begin k) [] 101 (begin_self k 101) front (open_of k ∷ (s.inner ++ close_of k ∷ s.last)) no_marks out s.is_front
-      (takes_on n (Begin k) [] 101 (open_of k) (S Fresh (k ∷ []) 100) no_marks (s.inner ++ close_of k ∷ s.last) out (begin_opens k) refl
-      (top_inside n 100 (value_starts n 100) k s.last (ended n 101 s.last s.is_last) s.inner pieces (inside_within k s.inner pieces s.inside)))) in
+    (takes_spaces n (Begin k) [] 101 (begin_self k 101) front (open_of k ∷ (s.inner ++ close_of k ∷ s.last)) no_marks out s.is_front
+    (takes_on n (Begin k) [] 101 (open_of k) (S Fresh (k ∷ []) 100) no_marks (s.inner ++ close_of k ∷ s.last) out (begin_opens k) refl
+    (top_inside n 100 (value_starts n 100) k s.last (ended n 101 s.last s.is_last) s.inner pieces (inside_within k s.inner pieces s.inside)))) in
     t.is
 
 placed_all : (k : Kind) (text front : List ℕ) (pieces : List Piece) → (s : Splits k text front pieces) → placed (length text) k pieces (close_of k ∷ s.last) ≡ places k (length front + 1) pieces

@@ -1,24 +1,12 @@
 -- The inside of a string, byte by byte.
-use Rattle.std.proofs.Common.{◌≡◌, ◌≢◌, ℕ, zero, suc, ◌+◌, ◌<◌, ◌≤◌, Bool, true, false, cond, eqb, List, [], ◌∷◌, ◌++◌, length, Option, Some, None, refl, sym, ap, subst, ◌∙◌, append_assoc, arith, inl, inr, ◌⊎◌}
-use Rattle.std.proofs.lemmas.Bool.{eqb-true, eqb-false, ne_eqb}
+use Rattle.std.proofs.Common.{◌≡◌, ℕ, zero, suc, Bool, true, false, cond, eqb, List, [], ◌∷◌, Some, None, refl, sym, subst, arith, inl, inr}
+use Rattle.std.proofs.lemmas.Bool.{eqb-true}
 use Rattle.std.proofs.lemmas.Bool.Decides.{nat_tests}
-use Rattle.json_span.specs.Grammar.{Each, is_space, is_digit, is_sign, is_power, is_minus, is_plain, is_escape, is_hex, IsString, Scalar, Chars, Digits, Whole, Optional, Fraction, Power, IsNumber, no_chars, plain_char, escaped_char, unicode_char, digits, nought, counted, absent, present, no_fraction, point_digits, no_power, power_digits, string_text, number_text, true_text, false_text, null_text, open_of, close_of, Piece, piece_text, IsColon, IsNamed, IsPiece, commas, Inside, IsList, IsValueText, IsPartText, Splits, places, IsSplit}
-use Rattle.json_span.specs.Machine.{◌>>=◌, State, go_to, hex_step, string_step, ends_string, behind, number_step, may_end, letter, next_letters, scalar_begin, push, value_begin, part_of, part_begin, fresh_of, fresh_step, after_of, after_step, number_goes, literal_goes, text_step, literal_step, begin_step, spaced_step, step, close_list, start, run}
-use Rattle.json_span.specs.Nest.{opened, closed, innermost, is_deep}
-use Rattle.json_span.specs.declared.Member.{Member}
-use Rattle.json_span.specs.declared.state.Kind.{Kind}
-use Rattle.json_span.specs.declared.state.Kind.TheVariants.{Array, Object}
-use Rattle.json_span.specs.declared.state.Role.{Role}
-use Rattle.json_span.specs.declared.state.Role.TheVariants.{Key, Item}
+use Rattle.json_span.specs.Grammar.{is_plain, is_escape, is_hex, Chars, no_chars, plain_char, escaped_char, unicode_char}
+use Rattle.json_span.specs.Machine.{hex_step, string_step, ends_string}
 use Rattle.json_span.specs.declared.state.StringAt.{StringAt}
 use Rattle.json_span.specs.declared.state.StringAt.TheVariants.{Plain, Escaped, Four, Three, Two, One}
-use Rattle.json_span.specs.declared.state.NumberAt.{NumberAt}
-use Rattle.json_span.specs.declared.state.NumberAt.TheVariants.{AfterMinus, AfterZero, InInteger, AfterPoint, InFraction, AfterE, AfterSign, InExponent}
-use Rattle.json_span.specs.declared.state.LiteralAt.{LiteralAt}
-use Rattle.json_span.specs.declared.state.LiteralAt.TheVariants.{Rue, Ue, Alse, Lse, Se, E, Ull, Ll, L}
-use Rattle.json_span.specs.declared.state.At.{At}
-use Rattle.json_span.specs.declared.state.At.TheVariants.{Begin, Fresh, Part, Colon, Value, After, Text, Number, Literal}
-use Rattle.json_span.proofs.BasicLaws.{bind_some, some_is, if_some, chosen}
+use Rattle.json_span.proofs.BasicLaws.{some_is, if_some, chosen}
 
 pub plain_test : (b : ℕ) → is_plain b ≡ true → (eqb b 34 ≡ false) × (eqb b 92 ≡ false)
 plain_test b e = (grind (arith, nat_tests), grind (arith, nat_tests))

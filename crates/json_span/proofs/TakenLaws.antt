@@ -1,32 +1,18 @@
 -- What a text leads to, byte by byte: the parts that end in it.
-use Rattle.std.proofs.Common.{◌≡◌, ◌≢◌, ℕ, zero, suc, ◌+◌, ◌<◌, ◌≤◌, Bool, true, false, cond, eqb, List, [], ◌∷◌, ◌++◌, length, Option, Some, None, refl, sym, ap, subst, ◌∙◌, append_assoc, arith, inl, inr, ◌⊎◌}
+use Rattle.std.proofs.Common.{◌≡◌, ℕ, Bool, true, false, cond, List, [], ◌∷◌, ◌++◌, length, Option, Some, None, refl, sym, ap, subst, ◌∙◌}
 use Rattle.std.specs.Prelude.{◌-◌}
-use Rattle.std.specs.List.{AllByRecursion}
-use Rattle.std.specs.Prelude.{codes}
-use Rattle.std.proofs.lemmas.Bool.{eqb-true, eqb-false, ne_eqb}
-use Rattle.std.proofs.lemmas.Bool.Decides.{nat_tests}
-use Rattle.json_span.specs.Grammar.{Each, is_space, is_digit, is_sign, is_power, is_minus, is_plain, is_escape, is_hex, IsString, Scalar, Chars, Digits, Whole, Optional, Fraction, Power, IsNumber, no_chars, plain_char, escaped_char, unicode_char, digits, nought, counted, absent, present, no_fraction, point_digits, no_power, power_digits, string_text, number_text, true_text, false_text, null_text, open_of, close_of, Piece, piece_text, IsColon, IsNamed, IsPiece, commas, Inside, IsList, IsValueText, IsPartText, Splits, places, IsSplit}
-use Rattle.json_span.specs.Machine.{◌>>=◌, State, go_to, hex_step, string_step, ends_string, behind, number_step, may_end, letter, next_letters, scalar_begin, push, value_begin, part_of, part_begin, fresh_of, fresh_step, after_of, after_step, number_goes, literal_goes, text_step, literal_step, begin_step, spaced_step, step, close_list, start, run}
-use Rattle.json_span.specs.Nest.{opened, closed, innermost, is_deep}
-use Rattle.json_span.specs.Machine.{read, within, within_part, marked, finished, also, no_marks, nowhere, span_to}
+use Rattle.json_span.specs.Grammar.{Each, is_space}
+use Rattle.json_span.specs.Machine.{State, go_to, after_step, spaced_step, step}
+use Rattle.json_span.specs.Nest.{is_deep}
+use Rattle.json_span.specs.Machine.{read, within, marked, finished, also, no_marks, span_to}
 use Rattle.json_span.specs.declared.marks.Within.{Within}
 use Rattle.json_span.specs.declared.marks.Within.TheVariants.{Outside, InName, InNumber, InValue}
 use Rattle.json_span.specs.declared.marks.Marks.{Marks}
 use Rattle.std.specs.Option.{option_map}
 use Rattle.json_span.specs.declared.Member.{Member}
 use Rattle.json_span.specs.declared.state.Kind.{Kind}
-use Rattle.json_span.specs.declared.state.Kind.TheVariants.{Array, Object}
-use Rattle.json_span.specs.declared.state.Role.{Role}
-use Rattle.json_span.specs.declared.state.Role.TheVariants.{Key, Item}
-use Rattle.json_span.specs.declared.state.StringAt.{StringAt}
-use Rattle.json_span.specs.declared.state.StringAt.TheVariants.{Plain, Escaped, Four, Three, Two, One}
-use Rattle.json_span.specs.declared.state.NumberAt.{NumberAt}
-use Rattle.json_span.specs.declared.state.NumberAt.TheVariants.{AfterMinus, AfterZero, InInteger, AfterPoint, InFraction, AfterE, AfterSign, InExponent}
-use Rattle.json_span.specs.declared.state.LiteralAt.{LiteralAt}
-use Rattle.json_span.specs.declared.state.LiteralAt.TheVariants.{Rue, Ue, Alse, Lse, Se, E, Ull, Ll, L}
 use Rattle.json_span.specs.declared.state.At.{At}
-use Rattle.json_span.specs.declared.state.At.TheVariants.{Begin, Fresh, Part, Colon, Value, After, Text, Number, Literal}
-use Rattle.json_span.proofs.BasicLaws.{bind_some, some_is, if_some, chosen, same_eqb, not_true}
+use Rattle.json_span.specs.declared.state.At.TheVariants.{Begin, Fresh, Part, Colon, Value, After}
 
 -- From a state and its marks the whole rest of a text of a length is read, and these parts end in it.
 pub record Takes (n : ℕ) (s : State) (m : Marks) (u : List ℕ) (out : List Member) : Type 0 where
@@ -141,9 +127,11 @@ takes_end n at ks0 ks d d2 b m u out e w a =
     marks : (deep : Bool) (p q : ℕ) (m : Marks) → marked p q InValue (cond deep InValue Outside) m ≡ cond deep m no_marks
     marks true p q m = refl
     marks false p q m = refl
+
     part : (deep : Bool) (p q : ℕ) (m : Marks) → finished p q InValue (cond deep InValue Outside) m ≡ cond deep None (Some (record { name = m.name; value = span_to m.from q }))
     part true p q m = refl
     part false p q m = refl
+
     parts : (deep : Bool) (m : Marks) (q : ℕ) (out : List Member) → also (cond deep None (Some (record { name = m.name; value = span_to m.from q }))) out ≡ cond deep out (record { name = m.name; value = span_to m.from q } ∷ out)
     parts true m q out = refl
     parts false m q out = refl

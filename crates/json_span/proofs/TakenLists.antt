@@ -1,33 +1,26 @@
 -- Values are taken whole, and so are lists with their parts.
-use Rattle.std.proofs.Common.{◌≡◌, ◌≢◌, ℕ, zero, suc, ◌+◌, ◌<◌, ◌≤◌, Bool, true, false, cond, eqb, List, [], ◌∷◌, ◌++◌, length, Option, Some, None, refl, sym, ap, subst, ◌∙◌, append_assoc, arith, inl, inr, ◌⊎◌}
-use Rattle.std.specs.Prelude.{◌-◌}
+use Rattle.std.proofs.Common.{◌≡◌, ℕ, zero, suc, true, false, cond, eqb, List, [], ◌∷◌, ◌++◌, Some, refl, sym, ap, subst, ◌∙◌, append_assoc, arith, inl, inr}
 use Rattle.std.specs.List.{AllByRecursion}
 use Rattle.std.specs.Prelude.{codes}
-use Rattle.std.proofs.lemmas.Bool.{eqb-true, eqb-false, ne_eqb}
+use Rattle.std.proofs.lemmas.Bool.{eqb-true}
 use Rattle.std.proofs.lemmas.Bool.Decides.{nat_tests}
-use Rattle.json_span.specs.Grammar.{Each, is_space, is_digit, is_sign, is_power, is_minus, is_plain, is_escape, is_hex, IsString, Scalar, Chars, Digits, Whole, Optional, Fraction, Power, IsNumber, no_chars, plain_char, escaped_char, unicode_char, digits, nought, counted, absent, present, no_fraction, point_digits, no_power, power_digits, string_text, number_text, true_text, false_text, null_text, open_of, close_of, Piece, piece_text, IsColon, IsNamed, IsPiece, commas, Inside, IsList, IsValueText, IsPartText, Splits, places, IsSplit}
-use Rattle.json_span.specs.Machine.{◌>>=◌, State, go_to, hex_step, string_step, ends_string, behind, number_step, may_end, letter, next_letters, scalar_begin, push, value_begin, part_of, part_begin, fresh_of, fresh_step, after_of, after_step, number_goes, literal_goes, text_step, literal_step, begin_step, spaced_step, step, close_list, start, run}
-use Rattle.json_span.specs.Nest.{opened, closed, innermost, is_deep}
-use Rattle.json_span.specs.Machine.{read, within, within_part, marked, finished, also, no_marks, nowhere, span_to}
-use Rattle.json_span.specs.declared.marks.Within.{Within}
-use Rattle.json_span.specs.declared.marks.Within.TheVariants.{Outside, InName, InNumber, InValue}
+use Rattle.json_span.specs.Grammar.{Each, is_space, is_digit, is_power, is_minus, Scalar, Whole, Optional, Fraction, Power, nought, counted, absent, present, string_text, number_text, true_text, false_text, null_text, open_of, close_of, Piece, piece_text, IsColon, IsNamed, IsPiece, commas, Inside, IsList, IsValueText}
+use Rattle.json_span.specs.Machine.{State, go_to, scalar_begin, push, value_begin, part_begin, fresh_step, after_step, begin_step, step}
+use Rattle.json_span.specs.Nest.{is_deep}
+use Rattle.json_span.specs.Machine.{within, no_marks, span_to}
+use Rattle.json_span.specs.declared.marks.Within.TheVariants.{Outside, InValue}
 use Rattle.json_span.specs.declared.marks.Marks.{Marks}
-use Rattle.std.specs.Option.{option_map}
 use Rattle.json_span.specs.declared.Member.{Member}
 use Rattle.json_span.specs.declared.state.Kind.{Kind}
 use Rattle.json_span.specs.declared.state.Kind.TheVariants.{Array, Object}
-use Rattle.json_span.specs.declared.state.Role.{Role}
 use Rattle.json_span.specs.declared.state.Role.TheVariants.{Key, Item}
-use Rattle.json_span.specs.declared.state.StringAt.{StringAt}
-use Rattle.json_span.specs.declared.state.StringAt.TheVariants.{Plain, Escaped, Four, Three, Two, One}
-use Rattle.json_span.specs.declared.state.NumberAt.{NumberAt}
-use Rattle.json_span.specs.declared.state.NumberAt.TheVariants.{AfterMinus, AfterZero, InInteger, AfterPoint, InFraction, AfterE, AfterSign, InExponent}
-use Rattle.json_span.specs.declared.state.LiteralAt.{LiteralAt}
+use Rattle.json_span.specs.declared.state.StringAt.TheVariants.{Plain}
+use Rattle.json_span.specs.declared.state.NumberAt.TheVariants.{AfterMinus, AfterZero, InInteger}
 use Rattle.json_span.specs.declared.state.LiteralAt.TheVariants.{Rue, Ue, Alse, Lse, Se, E, Ull, Ll, L}
 use Rattle.json_span.specs.declared.state.At.{At}
-use Rattle.json_span.specs.declared.state.At.TheVariants.{Begin, Fresh, Part, Colon, Value, After, Text, Number, Literal}
-use Rattle.json_span.proofs.BasicLaws.{bind_some, some_is, if_some, chosen, same_eqb, not_true}
-use Rattle.json_span.proofs.TakenLaws.{Takes, S, place_of, step_read, takes_event, takes_on, begun, named as after_name, settled, ended, InPart, in_value, in_number, in_name, takes_begin, takes_end, takes_spaces, fresh_self, part_self, value_self, colon_self, after_self, begin_self}
+use Rattle.json_span.specs.declared.state.At.TheVariants.{Fresh, Part, Colon, Value, After, Text, Number, Literal}
+use Rattle.json_span.proofs.BasicLaws.{not_true}
+use Rattle.json_span.proofs.TakenLaws.{Takes, S, place_of, takes_on, begun, named as after_name, settled, ended, InPart, in_value, in_number, in_name, takes_begin, takes_end, takes_spaces, fresh_self, part_self, value_self, colon_self, after_self}
 use Rattle.json_span.proofs.TakenStrings.{takes_chars, both_value, takes_item, takes_key, takes_letter, takes_last}
 use Rattle.json_span.proofs.TakenNumbers.{Tail, takes_behind, EndsHere, takes_zero, takes_integer, takes_minus}
 
@@ -73,7 +66,6 @@ null_begins : (ks : List Kind) (d : ℕ) → value_begin ks d 110 ≡ go_to (Lit
 unfolding value_begin scalar_begin
 null_begins ks d = refl
 
-
 record DigitTests (b : ℕ) : Type 0 where
   a : eqb b 91 ≡ false
   o : eqb b 123 ≡ false
@@ -114,20 +106,60 @@ number_grouped a b c d e = simp append_assoc
 scalar_start : (n : ℕ) (ks : List Kind) (d : ℕ) (m : Marks) (a v : List ℕ) (out : List Member) → Scalar a → Tail v → Takes n (S After ks d) (settled ks m) v out → Start n ks d m (a ++ v) (ended ks m (place_of n v) out)
 scalar_start n ks d m a v out (string_text is) tail acc =
     moved n ks d m (a ++ v) (34 ∷ (is.inner ++ 34 ∷ v)) (ended ks m (place_of n v) out) (ap (λ (x : List ℕ). x ++ v) is.whole ∙ ap (λ (x : List ℕ). 34 ∷ x) (append_assoc is.inner (34 ∷ []) v))
-    (record { b = 34; bs = is.inner ++ 34 ∷ v; at = refl; no_space = refl; no_array = refl; no_object = refl; t = S (Text Item Plain) ks d; is = quote_begins ks d; part = in_value (both_value (is_deep ks));
-      acc = takes_chars n Item ks d is.inner v m (ended ks m (place_of n v) out) is.chars (takes_item n ks d m v out acc) })
+    (record {
+      b = 34;
+      bs = is.inner ++ 34 ∷ v;
+      at = refl;
+      no_space = refl;
+      no_array = refl;
+      no_object = refl;
+      t = S (Text Item Plain) ks d;
+      is = quote_begins ks d;
+      part = in_value (both_value (is_deep ks));
+      acc = takes_chars n Item ks d is.inner v m (ended ks m (place_of n v) out) is.chars (takes_item n ks d m v out acc);
+    })
 scalar_start n ks d m a v out (number_text is) tail acc =
     moved n ks d m (a ++ v) (is.sign ++ (is.integer ++ (is.fraction ++ (is.exponent ++ v)))) (ended ks m (place_of n v) out) (ap (λ (x : List ℕ). x ++ v) is.whole ∙ number_grouped is.sign is.integer is.fraction is.exponent v)
     (number_start n ks d m (ended ks m (place_of n v) out) is.sign is.integer is.fraction is.exponent v is.is_sign is.is_integer is.is_fraction is.is_exponent (λ num e. takes_behind n num ks d m v out e tail acc))
 scalar_start n ks d m a v out true_text tail acc =
-    record { b = 116; bs = codes "rue" ++ v; at = refl; no_space = refl; no_array = refl; no_object = refl; t = S (Literal Rue) ks d; is = true_begins ks d; part = in_value (both_value (is_deep ks));
-      acc = takes_letter n Rue Ue ks d m (codes "ue" ++ v) (ended ks m (place_of n v) out) refl (takes_letter n Ue E ks d m (codes "e" ++ v) (ended ks m (place_of n v) out) refl (takes_last n E ks d m v out refl acc)) }
+    record {
+      b = 116;
+      bs = codes "rue" ++ v;
+      at = refl;
+      no_space = refl;
+      no_array = refl;
+      no_object = refl;
+      t = S (Literal Rue) ks d;
+      is = true_begins ks d;
+      part = in_value (both_value (is_deep ks));
+      acc = takes_letter n Rue Ue ks d m (codes "ue" ++ v) (ended ks m (place_of n v) out) refl (takes_letter n Ue E ks d m (codes "e" ++ v) (ended ks m (place_of n v) out) refl (takes_last n E ks d m v out refl acc));
+    }
 scalar_start n ks d m a v out false_text tail acc =
-    record { b = 102; bs = codes "alse" ++ v; at = refl; no_space = refl; no_array = refl; no_object = refl; t = S (Literal Alse) ks d; is = false_begins ks d; part = in_value (both_value (is_deep ks));
-      acc = takes_letter n Alse Lse ks d m (codes "lse" ++ v) (ended ks m (place_of n v) out) refl (takes_letter n Lse Se ks d m (codes "se" ++ v) (ended ks m (place_of n v) out) refl (takes_letter n Se E ks d m (codes "e" ++ v) (ended ks m (place_of n v) out) refl (takes_last n E ks d m v out refl acc))) }
+    record {
+      b = 102;
+      bs = codes "alse" ++ v;
+      at = refl;
+      no_space = refl;
+      no_array = refl;
+      no_object = refl;
+      t = S (Literal Alse) ks d;
+      is = false_begins ks d;
+      part = in_value (both_value (is_deep ks));
+      acc = takes_letter n Alse Lse ks d m (codes "lse" ++ v) (ended ks m (place_of n v) out) refl (takes_letter n Lse Se ks d m (codes "se" ++ v) (ended ks m (place_of n v) out) refl (takes_letter n Se E ks d m (codes "e" ++ v) (ended ks m (place_of n v) out) refl (takes_last n E ks d m v out refl acc)));
+    }
 scalar_start n ks d m a v out null_text tail acc =
-    record { b = 110; bs = codes "ull" ++ v; at = refl; no_space = refl; no_array = refl; no_object = refl; t = S (Literal Ull) ks d; is = null_begins ks d; part = in_value (both_value (is_deep ks));
-      acc = takes_letter n Ull Ll ks d m (codes "ll" ++ v) (ended ks m (place_of n v) out) refl (takes_letter n Ll L ks d m (codes "l" ++ v) (ended ks m (place_of n v) out) refl (takes_last n L ks d m v out refl acc)) }
+    record {
+      b = 110;
+      bs = codes "ull" ++ v;
+      at = refl;
+      no_space = refl;
+      no_array = refl;
+      no_object = refl;
+      t = S (Literal Ull) ks d;
+      is = null_begins ks d;
+      part = in_value (both_value (is_deep ks));
+      acc = takes_letter n Ull Ll ks d m (codes "ll" ++ v) (ended ks m (place_of n v) out) refl (takes_letter n Ll L ks d m (codes "l" ++ v) (ended ks m (place_of n v) out) refl (takes_last n L ks d m v out refl acc));
+    }
 
 -- ---- the front of a part
 
@@ -210,7 +242,6 @@ tail_of Object [] [] v each = record { c = 125; cs = v; at = refl; no_digit = re
 tail_of k [] (p ∷ ps) v each = record { c = 44; cs = (piece_text p ++ commas ps) ++ close_of k ∷ v; at = refl; no_digit = refl; no_point = refl; no_power = refl }
 tail_of k (b ∷ bs) ps v each = let t = space_stops b each.0 in record { c = b; cs = bs ++ (commas ps ++ close_of k ∷ v); at = refl; no_digit = t.0; no_point = t.1; no_power = t.2 }
 
-
 -- a value stands at the front, with any text behind it with which no number goes on
 abbrev pub ValueStarts : ℕ → ℕ → Type 0
 ValueStarts n d = (a : List ℕ) → IsValueText d a → (k : Kind) (ks : List Kind) (m : Marks) (v : List ℕ) (out : List Member) → Tail v → Takes n (S After (k ∷ ks) d) (settled (k ∷ ks) m) v out → Start n (k ∷ ks) d m (a ++ v) (ended (k ∷ ks) m (place_of n v) out)
@@ -234,7 +265,6 @@ piece_regrouped p c w = go p.before p.name p.middle p.value p.after
   where
     go : (a b m x e : List ℕ) → ((a ++ (b ++ (m ++ (x ++ e)))) ++ c) ++ w ≡ a ++ (b ++ (m ++ (x ++ (e ++ (c ++ w)))))
     go a b m x e = simp append_assoc
-
 
 -- the marks at a piece's value, with a text behind the piece's value
 abbrev pub piece_marks : ℕ → List Kind → Kind → Piece → List ℕ → Marks → Marks

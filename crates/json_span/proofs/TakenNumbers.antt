@@ -1,33 +1,22 @@
 -- Numbers are taken whole.
-use Rattle.std.proofs.Common.{◌≡◌, ◌≢◌, ℕ, zero, suc, ◌+◌, ◌<◌, ◌≤◌, Bool, true, false, cond, eqb, List, [], ◌∷◌, ◌++◌, length, Option, Some, None, refl, sym, ap, subst, ◌∙◌, append_assoc, arith, inl, inr, ◌⊎◌}
-use Rattle.std.specs.Prelude.{◌-◌}
-use Rattle.std.specs.List.{AllByRecursion}
-use Rattle.std.specs.Prelude.{codes}
-use Rattle.std.proofs.lemmas.Bool.{eqb-true, eqb-false, ne_eqb}
+use Rattle.std.proofs.Common.{◌≡◌, ℕ, suc, Bool, true, false, cond, eqb, List, [], ◌∷◌, ◌++◌, Option, Some, None, refl, sym, ap, subst, ◌∙◌, append_assoc, arith, inl, inr}
 use Rattle.std.proofs.lemmas.Bool.Decides.{nat_tests}
-use Rattle.json_span.specs.Grammar.{Each, is_space, is_digit, is_sign, is_power, is_minus, is_plain, is_escape, is_hex, IsString, Scalar, Chars, Digits, Whole, Optional, Fraction, Power, IsNumber, no_chars, plain_char, escaped_char, unicode_char, digits, nought, counted, absent, present, no_fraction, point_digits, no_power, power_digits, string_text, number_text, true_text, false_text, null_text, open_of, close_of, Piece, piece_text, IsColon, IsNamed, IsPiece, commas, Inside, IsList, IsValueText, IsPartText, Splits, places, IsSplit}
-use Rattle.json_span.specs.Machine.{◌>>=◌, State, go_to, hex_step, string_step, ends_string, behind, number_step, may_end, letter, next_letters, scalar_begin, push, value_begin, part_of, part_begin, fresh_of, fresh_step, after_of, after_step, number_goes, literal_goes, text_step, literal_step, begin_step, spaced_step, step, close_list, start, run}
-use Rattle.json_span.specs.Nest.{opened, closed, innermost, is_deep}
-use Rattle.json_span.specs.Machine.{read, within, within_part, marked, finished, also, no_marks, nowhere, span_to}
+use Rattle.json_span.specs.Grammar.{Each, is_space, is_digit, is_sign, is_power, Digits, Whole, Optional, Fraction, Power, digits, nought, counted, absent, present, no_fraction, point_digits, no_power, power_digits, close_of}
+use Rattle.json_span.specs.Machine.{◌>>=◌, State, go_to, number_step, may_end, after_step, step}
+use Rattle.json_span.specs.Nest.{is_deep}
+use Rattle.json_span.specs.Machine.{read, within, marked, finished, also, no_marks, span_to}
 use Rattle.json_span.specs.declared.marks.Within.{Within}
-use Rattle.json_span.specs.declared.marks.Within.TheVariants.{Outside, InName, InNumber, InValue}
+use Rattle.json_span.specs.declared.marks.Within.TheVariants.{Outside, InNumber, InValue}
 use Rattle.json_span.specs.declared.marks.Marks.{Marks}
 use Rattle.std.specs.Option.{option_map}
 use Rattle.json_span.specs.declared.Member.{Member}
 use Rattle.json_span.specs.declared.state.Kind.{Kind}
-use Rattle.json_span.specs.declared.state.Kind.TheVariants.{Array, Object}
-use Rattle.json_span.specs.declared.state.Role.{Role}
-use Rattle.json_span.specs.declared.state.Role.TheVariants.{Key, Item}
-use Rattle.json_span.specs.declared.state.StringAt.{StringAt}
-use Rattle.json_span.specs.declared.state.StringAt.TheVariants.{Plain, Escaped, Four, Three, Two, One}
 use Rattle.json_span.specs.declared.state.NumberAt.{NumberAt}
 use Rattle.json_span.specs.declared.state.NumberAt.TheVariants.{AfterMinus, AfterZero, InInteger, AfterPoint, InFraction, AfterE, AfterSign, InExponent}
-use Rattle.json_span.specs.declared.state.LiteralAt.{LiteralAt}
-use Rattle.json_span.specs.declared.state.LiteralAt.TheVariants.{Rue, Ue, Alse, Lse, Se, E, Ull, Ll, L}
 use Rattle.json_span.specs.declared.state.At.{At}
-use Rattle.json_span.specs.declared.state.At.TheVariants.{Begin, Fresh, Part, Colon, Value, After, Text, Number, Literal}
-use Rattle.json_span.proofs.BasicLaws.{bind_some, some_is, if_some, chosen, same_eqb, not_true}
-use Rattle.json_span.proofs.TakenLaws.{Takes, S, place_of, step_read, takes_event, takes_on, begun, named, settled, ended, InPart, in_value, in_number, in_name, takes_begin, takes_end, takes_spaces, fresh_self, part_self, value_self, colon_self, after_self, begin_self}
+use Rattle.json_span.specs.declared.state.At.TheVariants.{Part, After, Number}
+use Rattle.json_span.proofs.BasicLaws.{some_is, if_some, chosen, not_true}
+use Rattle.json_span.proofs.TakenLaws.{Takes, S, place_of, step_read, takes_event, takes_on, settled, ended}
 
 -- ---- what follows a number
 
@@ -62,7 +51,6 @@ num_stops InFraction c e p q r = rw (p, r) refl
 num_stops AfterE c e p q r = absurd cc
 num_stops AfterSign c e p q r = absurd cc
 num_stops InExponent c e p q r = rw p refl
-
 
 -- behind a value of the outermost list no byte leads into a part
 after_outside : (ks : List Kind) (d b : ℕ) (t : State) → is_deep ks ≡ false → after_step ks d b ≡ Some t → within t.at t.kinds ≡ Outside
@@ -112,8 +100,8 @@ flat_number n num ks d m c cs out e flat on =
     let v : within (Number num) ks ≡ InNumber = ap (λ (x : Bool). cond x InValue InNumber) flat in
     let t : within on.t.at on.t.kinds ≡ Outside = after_outside ks d c on.t flat (sym (after_on ks d c) ∙ on.is) in
     let reads : option_map (also None) (read n on.t no_marks cs) ≡ Some out =
-        sym (ap (λ (x : Within). option_map (also (finished p q x (within on.t.at on.t.kinds) no_marks)) (read n on.t (marked p q x (within on.t.at on.t.kinds) no_marks) cs)) w
-        ∙ ap (λ (x : Within). option_map (also (finished p q Outside x no_marks)) (read n on.t (marked p q Outside x no_marks) cs)) t) ∙ on.reads in
+    sym (ap (λ (x : Within). option_map (also (finished p q x (within on.t.at on.t.kinds) no_marks)) (read n on.t (marked p q x (within on.t.at on.t.kinds) no_marks) cs)) w
+    ∙ ap (λ (x : Within). option_map (also (finished p q Outside x no_marks)) (read n on.t (marked p q Outside x no_marks) cs)) t) ∙ on.reads in
     takes_event n (Number num) ks d c on.t m no_marks (Some (record { name = m.name; value = span_to m.from p })) cs out (e ∙ on.is)
     (ap (λ (x : Within). marked p q x (within on.t.at on.t.kinds) m) v ∙ ap (λ (x : Within). marked p q InNumber x m) t)
     (ap (λ (x : Within). finished p q x (within on.t.at on.t.kinds) m) v ∙ ap (λ (x : Within). finished p q InNumber x m) t)
@@ -195,8 +183,6 @@ zero_dot = refl
 int_dot : number_step InInteger 46 ≡ Some AfterPoint
 unfolding number_step
 int_dot = refl
-
-
 
 -- ---- the parts of a number
 

@@ -1,34 +1,22 @@
 -- Strings and literals are taken whole.
-use Rattle.std.proofs.Common.{◌≡◌, ◌≢◌, ℕ, zero, suc, ◌+◌, ◌<◌, ◌≤◌, Bool, true, false, cond, eqb, List, [], ◌∷◌, ◌++◌, length, Option, Some, None, refl, sym, ap, subst, ◌∙◌, append_assoc, arith, inl, inr, ◌⊎◌}
-use Rattle.std.specs.Prelude.{◌-◌}
-use Rattle.std.specs.List.{AllByRecursion}
-use Rattle.std.specs.Prelude.{codes}
-use Rattle.std.proofs.lemmas.Bool.{eqb-true, eqb-false, ne_eqb}
-use Rattle.std.proofs.lemmas.Bool.Decides.{nat_tests}
-use Rattle.json_span.specs.Grammar.{Each, is_space, is_digit, is_sign, is_power, is_minus, is_plain, is_escape, is_hex, IsString, Scalar, Chars, Digits, Whole, Optional, Fraction, Power, IsNumber, no_chars, plain_char, escaped_char, unicode_char, digits, nought, counted, absent, present, no_fraction, point_digits, no_power, power_digits, string_text, number_text, true_text, false_text, null_text, open_of, close_of, Piece, piece_text, IsColon, IsNamed, IsPiece, commas, Inside, IsList, IsValueText, IsPartText, Splits, places, IsSplit}
-use Rattle.json_span.specs.Machine.{◌>>=◌, State, go_to, hex_step, string_step, ends_string, behind, number_step, may_end, letter, next_letters, scalar_begin, push, value_begin, part_of, part_begin, fresh_of, fresh_step, after_of, after_step, number_goes, literal_goes, text_step, literal_step, begin_step, spaced_step, step, close_list, start, run}
-use Rattle.json_span.specs.Nest.{opened, closed, innermost, is_deep}
-use Rattle.json_span.specs.Machine.{read, within, within_part, marked, finished, also, no_marks, nowhere, span_to}
-use Rattle.json_span.specs.declared.marks.Within.{Within}
-use Rattle.json_span.specs.declared.marks.Within.TheVariants.{Outside, InName, InNumber, InValue}
+use Rattle.std.proofs.Common.{◌≡◌, ℕ, Bool, true, false, cond, List, ◌∷◌, ◌++◌, Option, Some, None, refl, ap, ◌∙◌}
+use Rattle.json_span.specs.Grammar.{is_escape, is_hex, Chars, no_chars, plain_char, escaped_char, unicode_char}
+use Rattle.json_span.specs.Machine.{go_to, string_step, ends_string, behind, letter, next_letters, literal_goes, step}
+use Rattle.json_span.specs.Nest.{is_deep}
+use Rattle.json_span.specs.Machine.{within, marked, finished, span_to}
+use Rattle.json_span.specs.declared.marks.Within.TheVariants.{Outside, InName, InValue}
 use Rattle.json_span.specs.declared.marks.Marks.{Marks}
-use Rattle.std.specs.Option.{option_map}
 use Rattle.json_span.specs.declared.Member.{Member}
 use Rattle.json_span.specs.declared.state.Kind.{Kind}
-use Rattle.json_span.specs.declared.state.Kind.TheVariants.{Array, Object}
 use Rattle.json_span.specs.declared.state.Role.{Role}
 use Rattle.json_span.specs.declared.state.Role.TheVariants.{Key, Item}
 use Rattle.json_span.specs.declared.state.StringAt.{StringAt}
 use Rattle.json_span.specs.declared.state.StringAt.TheVariants.{Plain, Escaped, Four, Three, Two, One}
-use Rattle.json_span.specs.declared.state.NumberAt.{NumberAt}
-use Rattle.json_span.specs.declared.state.NumberAt.TheVariants.{AfterMinus, AfterZero, InInteger, AfterPoint, InFraction, AfterE, AfterSign, InExponent}
 use Rattle.json_span.specs.declared.state.LiteralAt.{LiteralAt}
-use Rattle.json_span.specs.declared.state.LiteralAt.TheVariants.{Rue, Ue, Alse, Lse, Se, E, Ull, Ll, L}
-use Rattle.json_span.specs.declared.state.At.{At}
-use Rattle.json_span.specs.declared.state.At.TheVariants.{Begin, Fresh, Part, Colon, Value, After, Text, Number, Literal}
-use Rattle.json_span.proofs.BasicLaws.{bind_some, some_is, if_some, chosen, same_eqb, not_true}
-use Rattle.json_span.proofs.StringLaws.{InString, step_completes, ends_plain, plain_test, plain_step, escape_test}
-use Rattle.json_span.proofs.TakenLaws.{Takes, S, place_of, step_read, takes_event, takes_on, begun, named, settled, ended, InPart, in_value, in_number, in_name, takes_begin, takes_end, takes_spaces, fresh_self, part_self, value_self, colon_self, after_self, begin_self}
+use Rattle.json_span.specs.declared.state.At.TheVariants.{Colon, After, Text, Literal}
+use Rattle.json_span.proofs.BasicLaws.{same_eqb}
+use Rattle.json_span.proofs.StringLaws.{plain_test, plain_step, escape_test}
+use Rattle.json_span.proofs.TakenLaws.{Takes, S, place_of, takes_event, takes_on, named, settled, ended, takes_end}
 
 -- ---- the inside of a string
 
@@ -75,7 +63,6 @@ u_on : string_step Escaped 117 ≡ Some Four
 unfolding string_step
 u_on = refl
 
-
 pub takes_chars : (n : ℕ) (role : Role) (ks : List Kind) (d : ℕ) (x v : List ℕ) (m : Marks) (out : List Member) → Chars x → Takes n (S (Text role Plain) ks d) m (34 ∷ v) out → Takes n (S (Text role Plain) ks d) m (x ++ 34 ∷ v) out
 takes_chars n role ks d x v m out no_chars acc = acc
 takes_chars n role ks d x v m out (plain_char {b} {t} is more) acc = takes_char n role Plain Plain ks d b m (t ++ 34 ∷ v) out (plain_test b is).0 (plain_step b is) (takes_chars n role ks d t v m out more acc)
@@ -111,6 +98,7 @@ takes_key n ks d m v out a = takes_event n (Text Key Plain) ks d 34 (S Colon ks 
     marks : (deep : Bool) (p q : ℕ) (m : Marks) → marked p q (cond deep InValue InName) (cond deep InValue Outside) m ≡ cond deep m (record { name = span_to m.from q; from = q })
     marks true p q m = refl
     marks false p q m = refl
+
     part : (deep : Bool) (p q : ℕ) (m : Marks) → finished p q (cond deep InValue InName) (cond deep InValue Outside) m ≡ None
     part true p q m = refl
     part false p q m = refl

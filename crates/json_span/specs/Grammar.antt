@@ -1,10 +1,8 @@
 -- The texts of JSON, and how an array or an object splits into its parts.
-use Rattle.std.specs.Prelude.{◌≡◌, ◌≢◌, ℕ, ◌+◌, zero, suc, Bool, true, List, [], ◌∷◌, ◌++◌, length, codes, ◌==◌, ◌||◌, ◌&&◌, nat_lt, not, ◌⊎◌, map, ◌≤◌, ◌<◌, ⊤, take, drop}
+use Rattle.std.specs.Prelude.{◌≡◌, ◌≢◌, ℕ, ◌+◌, zero, suc, Bool, true, List, [], ◌∷◌, ◌++◌, length, codes, ◌==◌, ◌||◌, ◌&&◌, nat_lt, not, ◌⊎◌, map, ◌≤◌, ◌<◌, take, drop}
 use Rattle.std.specs.List.{AllByRecursion}
 use Rattle.json_span.specs.declared.Span.{Span}
 use Rattle.json_span.specs.declared.Member.{Member}
-use Rattle.json_span.specs.declared.SpanFault.{SpanFault}
-use Rattle.json_span.specs.declared.SpanFault.TheVariants.{Memory, NotSplit}
 use Rattle.json_span.specs.declared.state.Kind.{Kind}
 use Rattle.json_span.specs.declared.state.Kind.TheVariants.{Array, Object}
 
@@ -205,11 +203,6 @@ pub record IsRefusedAt (k : Kind) (text : List ℕ) (place : ℕ) : Type 0 where
   pub within : place ≤ length text
   pub front : IsFront k (take place text)
   pub longest : place < length text → IsFront k (take (place + 1) text) → ⊥
-
--- want of memory says nothing of the text
-abbrev pub Refuses : Kind → List ℕ → SpanFault → Type 0
-Refuses k text Memory = ⊤
-Refuses k text (NotSplit place) = IsRefusedAt k text place
 
 -- ---- what spans cut
 

@@ -1,7 +1,7 @@
 -- Reading a text byte by byte, as functions on lists. No part of the grammar: the laws in proofs/ tie the two.
-use Rattle.std.specs.Prelude.{◌≡◌, ℕ, suc, zero, ◌+◌, ◌-◌, ◌*◌, ◌/◌, ◌%◌, Bool, true, false, List, [], ◌∷◌, ◌++◌, Option, Some, None, ◌==◌, nat_lt, if◌then◌else◌, codes, not, ◌&&◌, length, map}
+use Rattle.std.specs.Prelude.{ℕ, ◌-◌, Bool, true, false, List, [], ◌∷◌, Option, Some, None, ◌==◌, if◌then◌else◌, length}
 use Rattle.std.specs.Option.{option_map}
-use Rattle.json_span.specs.Grammar.{is_space, is_digit, is_hex, is_plain, is_escape, is_minus, is_sign, is_power, open_of, close_of}
+use Rattle.json_span.specs.Grammar.{is_space, is_digit, is_hex, is_plain, is_escape, is_sign, is_power, open_of, close_of}
 use Rattle.json_span.specs.Nest.{opened, closed, innermost, is_deep}
 use Rattle.json_span.specs.declared.Span.{Span}
 use Rattle.json_span.specs.declared.Member.{Member}

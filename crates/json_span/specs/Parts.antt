@@ -1,9 +1,11 @@
 -- The parts of a text, as they stand in it.
-use Rattle.std.specs.Prelude.{◌≡◌, ℕ, List, Option, map}
+use Rattle.std.specs.Prelude.{◌≡◌, ℕ, List, Option, None, ⊤, map}
 use Rattle.std.specs.Option.{option_map}
-use Rattle.json_span.specs.Grammar.{Piece, Splits, cut_of}
+use Rattle.json_span.specs.Grammar.{Piece, Splits, IsRefusedAt, cut_of}
 use Rattle.json_span.specs.Machine.{split_of}
 use Rattle.json_span.specs.declared.Member.{Member}
+use Rattle.json_span.specs.declared.SpanFault.{SpanFault}
+use Rattle.json_span.specs.declared.SpanFault.TheVariants.{Memory, NotSplit}
 use Rattle.json_span.specs.declared.state.Kind.TheVariants.{Array, Object}
 
 -- the name and the value that a member's spans cut out of a text
@@ -25,3 +27,13 @@ HasMembers text parts = (front : List ℕ) × (pieces : List Piece) × Splits Ob
 -- The text is an array with these elements.
 abbrev pub HasElements : List ℕ → List (List ℕ) → Type 0
 HasElements text parts = (front : List ℕ) × (pieces : List Piece) × Splits Array text front pieces × (parts ≡ map (λ p. p.value) pieces)
+
+-- The text is no object, and the place is the length of its longest front with which an object begins; want of memory says nothing.
+abbrev pub RefusesMembers : List ℕ → SpanFault → Type 0
+RefusesMembers text Memory = ⊤
+RefusesMembers text (NotSplit place) = IsRefusedAt Object text place × (members_of text ≡ None)
+
+-- The text is no array, and the place is the length of its longest front with which an array begins; want of memory says nothing.
+abbrev pub RefusesElements : List ℕ → SpanFault → Type 0
+RefusesElements text Memory = ⊤
+RefusesElements text (NotSplit place) = IsRefusedAt Array text place × (elements_of text ≡ None)

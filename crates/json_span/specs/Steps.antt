@@ -1,5 +1,4 @@
 -- The code's machine as the state of the definitions.
-use Rattle.std.specs.Prelude.{List, ℕ}
 use Rattle.json_span.specs.Machine.{State}
 use Rattle.json_span.specs.declared.machine.Machine.{Machine}
 

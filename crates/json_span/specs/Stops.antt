@@ -1,5 +1,5 @@
 -- Where the machine stops.
-use Rattle.std.specs.Prelude.{◌≡◌, ℕ, ◌+◌, ◌<◌, ◌≤◌, List, Option, Some, None, length, take, ⊤}
+use Rattle.std.specs.Prelude.{◌≡◌, ℕ, ◌+◌, ◌<◌, ◌≤◌, List, Some, None, length, take, ⊤}
 use Rattle.json_span.specs.Machine.{State, start, run, split_of}
 use Rattle.json_span.specs.declared.SpanFault.{SpanFault}
 use Rattle.json_span.specs.declared.SpanFault.TheVariants.{Memory, NotSplit}

@@ -11,6 +11,7 @@ mod nest;
 mod split;
 mod state;
 
+pub use split::{elements, members};
 use std::alloc::{AllocError, AllocFailed};
 
 /// A part of a text: `len` bytes from the index `at`.

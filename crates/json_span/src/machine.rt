@@ -100,7 +100,11 @@ fn behind(role: Role) -> At
 fn exponent_begin(b: u8) -> Option<NumberAt>
     ensures { result ≡ Rattle.json_span.specs.Machine.exponent_begin b }
 {
-    if power(b) { Some(NumberAt::AfterE) } else { None }
+    if power(b) {
+        Some(NumberAt::AfterE)
+    } else {
+        None
+    }
 }
 
 /// A number's state behind the first byte that follows its integer.
@@ -167,7 +171,8 @@ fn may_end(at: NumberAt) -> bool
     ensures { result ≡ Rattle.json_span.specs.Machine.may_end at }
 {
     match at {
-        NumberAt::AfterZero | NumberAt::InInteger | NumberAt::InFraction | NumberAt::InExponent => true,
+        NumberAt::AfterZero | NumberAt::InInteger | NumberAt::InFraction | NumberAt::InExponent =>
+            true,
         _ => false,
     }
 }
@@ -311,10 +316,7 @@ fn after_step(nest: Nest, b: u8) -> Option<Machine>
     }
     let kind = nest.innermost()?;
     if b == b',' {
-        Some(Machine {
-            at: At::Part,
-            nest,
-        })
+        Some(Machine { at: At::Part, nest })
     } else if b == closing(kind) {
         close_list(nest)
     } else {

@@ -1,4 +1,4 @@
-use Rattle.std.proofs.Common.{◌≡◌, ◌++◌, ◌∷◌, [], List, Some, None, Option, sym, ap, ◌∙◌, Vec, Global}
+use Rattle.std.proofs.Common.{◌≡◌, sym, ap, ◌∙◌, Vec, Global}
 use Rattle.json_span.specs.Steps.{state_of}
 use Rattle.json_span.specs.declared.Member.{Member}
 use Rattle.json_span.proofs.ReadLaws.{gained, has_begun, has_gone_on, has_stopped, has_found, has_failed}
