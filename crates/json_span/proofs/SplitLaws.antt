@@ -1,9 +1,9 @@
 -- The machine finds a text's split, and only that.
-use Rattle.std.proofs.Common.{◌≡◌, ℕ, ◌+◌, ◌-◌, Bool, true, false, cond, List, [], ◌∷◌, ◌++◌, length, take, Option, Some, None, refl, sym, ap, subst, ◌∙◌, append_assoc, arith}
+use Rattle.std.proofs.Common.{◌≡◌, ℕ, ◌+◌, ◌-◌, Bool, true, false, cond, List, [], ◌∷◌, ◌++◌, length, take, Option, Some, None, refl, sym, ap, subst, ◌∙◌, append_assoc, arith, map}
 use Rattle.std.specs.List.{AllByRecursion}
 use Rattle.std.specs.Option.{option_map}
 use Rattle.std.proofs.lemmas.List.{append-nil, length-append}
-use Rattle.json_span.specs.Grammar.{Each, is_space, open_of, close_of, Piece, piece_text, IsPiece, commas, Inside, IsValueText, IsPartText, Splits, name_place, value_place, places, IsSplit, IsFront, IsRefusedAt}
+use Rattle.json_span.specs.Grammar.{Each, is_space, open_of, close_of, Piece, piece_text, IsPiece, commas, Inside, IsValueText, IsPartText, Splits, name_place, value_place, places, IsSplit, IsArray, IsFront, IsRefusedAt}
 use Rattle.json_span.specs.Machine.{◌>>=◌, State, go_to, step, begin_step, push, start, run, is_done, read, split_of, within, marked, finished, also, no_marks, nowhere, span_to}
 use Rattle.json_span.specs.Stops.{StopsAt}
 use Rattle.json_span.specs.declared.Member.{Member}
@@ -163,3 +163,6 @@ refused k text place s = record {
   front = viable k (take place text) s.state s.taken;
   longest = λ lt front. no_front k (take (place + 1) text) (s.stuck lt) front;
 }
+
+pub array_one : (text : List ℕ) (a b : List Span) → IsArray text a → IsArray text b → a ≡ b
+array_one text a b (ma, sa, ea) (mb, sb, eb) = ea ∙ ap (map (λ (m : Member). m.value)) (split_one Array text ma mb sa sb) ∙ sym eb

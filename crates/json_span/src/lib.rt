@@ -5,12 +5,14 @@ ghost use Rattle.std.specs.Prelude.{◌≡◌, ◌+◌, ◌≤◌, length, take,
 ghost use Rattle.json_span.specs.Grammar.{LiesIn, cut_of};
 
 mod bytes;
+mod laws;
 mod machine;
 mod marks;
 mod nest;
 mod split;
 mod state;
 
+pub use laws::{one_split, parts_by_grammar};
 pub use split::{elements, members};
 use std::alloc::{AllocError, AllocFailed};
 
@@ -67,3 +69,6 @@ impl Span {
         &text[self.at..self.at + self.len]
     }
 }
+
+#[cfg(test)]
+mod tests;
