@@ -2,7 +2,7 @@
 use Rattle.std.proofs.Common.{◌≡◌, ℕ, zero, suc, List, [], ◌∷◌, ◌++◌, ◌⊎◌}
 use Rattle.std.specs.List.{AllByRecursion}
 use Rattle.std.specs.Prelude.{codes}
-use Rattle.json_span.specs.Grammar.{Each, is_space, is_digit, is_sign, Digits, Whole, Optional, Fraction, Power, open_of, close_of, Piece, IsNamed, IsPiece, commas, IsValueText}
+use Rattle.json_span.specs.Grammar.{Each, is_space, is_digit, is_sign, Digits, Whole, Optional, Fraction, Power, open_of, close_of, Piece, IsNamed, IsPiece, commas, ValueWithin}
 use Rattle.json_span.specs.declared.state.Kind.{Kind}
 use Rattle.json_span.specs.declared.state.Role.{Role}
 use Rattle.json_span.specs.declared.state.Role.TheVariants.{Key, Item}
@@ -18,10 +18,10 @@ use Rattle.json_span.proofs.StringLaws.{InString}
 
 abbrev pub Afters : ℕ → List Kind → List ℕ → Type 0
 Afters d [] u = Each is_space u
-Afters d (k ∷ ks) u = (after : List ℕ) × (ps : List Piece) × (v : List ℕ) × Each is_space after × AllByRecursion (IsPiece k (IsValueText d)) ps × Afters (suc d) ks v × (u ≡ after ++ (commas ps ++ close_of k ∷ v))
+Afters d (k ∷ ks) u = (after : List ℕ) × (ps : List Piece) × (v : List ℕ) × Each is_space after × AllByRecursion (IsPiece k (ValueWithin d)) ps × Afters (suc d) ks v × (u ≡ after ++ (commas ps ++ close_of k ∷ v))
 
 abbrev pub Values : ℕ → List Kind → List ℕ → Type 0
-Values d ks u = (a : List ℕ) × (w : List ℕ) × IsValueText d a × Afters d ks w × (u ≡ a ++ w)
+Values d ks u = (a : List ℕ) × (w : List ℕ) × ValueWithin d a × Afters d ks w × (u ≡ a ++ w)
 
 abbrev pub Parts : ℕ → List Kind → List ℕ → Type 0
 Parts d [] u = ⊥

@@ -1,7 +1,7 @@
 -- What completes the state behind a byte completes, behind that byte, the state before it.
 use Rattle.std.proofs.Common.{◌≡◌, ℕ, zero, suc, true, eqb, List, [], ◌∷◌, ◌++◌, Option, Some, None, refl, sym, ap, subst, ◌∙◌, append_assoc, inl, inr}
 use Rattle.std.proofs.lemmas.Bool.{eqb-true}
-use Rattle.json_span.specs.Grammar.{Each, is_space, is_digit, is_minus, Scalar, Whole, Optional, Fraction, Power, IsNumber, nought, counted, absent, present, string_text, number_text, true_text, false_text, null_text, open_of, close_of, Piece, piece_text, IsColon, commas, IsValueText}
+use Rattle.json_span.specs.Grammar.{Each, is_space, is_digit, is_minus, Scalar, Whole, Optional, Fraction, Power, IsNumber, nought, counted, absent, present, string_text, number_text, true_text, false_text, null_text, open_of, close_of, Piece, piece_text, IsColon, commas, ValueWithin}
 use Rattle.json_span.specs.Machine.{◌>>=◌, State, go_to, string_step, ends_string, behind, number_step, may_end, letter, next_letters, scalar_begin, push, value_begin, part_begin, fresh_step, after_step, number_goes, literal_goes, literal_step, begin_step, step}
 use Rattle.json_span.specs.declared.state.Kind.{Kind}
 use Rattle.json_span.specs.declared.state.Kind.TheVariants.{Array, Object}
@@ -60,7 +60,7 @@ value_open d k ks before u sb (inr (name, middle, w, named, (a, x, is, (after, p
     )
 
 -- a value that is no list, at any depth
-pub scalar_value : (d : ℕ) (a : List ℕ) → Scalar a → IsValueText d a
+pub scalar_value : (d : ℕ) (a : List ℕ) → Scalar a → ValueWithin d a
 scalar_value zero a is = is
 scalar_value (suc d) a is = inl is
 

@@ -3,7 +3,7 @@ use Rattle.std.proofs.Common.{◌≡◌, ℕ, ◌+◌, ◌-◌, Bool, true, fals
 use Rattle.std.specs.List.{AllByRecursion}
 use Rattle.std.specs.Option.{option_map}
 use Rattle.std.proofs.lemmas.List.{append-nil, length-append}
-use Rattle.json_span.specs.Grammar.{Each, is_space, open_of, close_of, Piece, piece_text, IsPiece, commas, Inside, IsValueText, IsPartText, Splits, name_place, value_place, places, IsSplit, IsArray, IsFront, IsRefusedAt}
+use Rattle.json_span.specs.Grammar.{Each, is_space, open_of, close_of, Piece, piece_text, IsPiece, commas, Inside, ValueWithin, IsPartText, Splits, name_place, value_place, places, IsSplit, IsArray, IsFront, IsRefusedAt}
 use Rattle.json_span.specs.Machine.{◌>>=◌, State, go_to, step, begin_step, push, start, run, is_done, read, split_of, within, marked, finished, also, no_marks, nowhere, span_to}
 use Rattle.json_span.specs.Stops.{StopsAt}
 use Rattle.json_span.specs.declared.Member.{Member}
@@ -75,11 +75,11 @@ ended : (n d : ℕ) (v : List ℕ) → Each is_space v → Takes n (S After [] d
 unfolding read
 ended n d v each = subst (λ (x : List ℕ). Takes n (S After [] d) no_marks x []) (append-nil v) (takes_spaces n After [] d (after_self [] d) v [] no_marks [] each (record { is = refl }))
 
-within_parts : (k : Kind) (ps : List Piece) → AllByRecursion (IsPiece k IsPartText) ps → AllByRecursion (IsPiece k (IsValueText 100)) ps
+within_parts : (k : Kind) (ps : List Piece) → AllByRecursion (IsPiece k IsPartText) ps → AllByRecursion (IsPiece k (ValueWithin 100)) ps
 within_parts k [] all = tt
 within_parts k (p ∷ ps) all = (record { before = all.0.before; named = all.0.named; value = all.0.value.within; after = all.0.after }, within_parts k ps all.1)
 
-inside_within : (k : Kind) (inner : List ℕ) (ps : List Piece) → Inside k IsPartText inner ps → Inside k (IsValueText 100) inner ps
+inside_within : (k : Kind) (inner : List ℕ) (ps : List Piece) → Inside k IsPartText inner ps → Inside k (ValueWithin 100) inner ps
 inside_within k inner [] is = is
 inside_within k inner (p ∷ ps) is = let w = within_parts k (p ∷ ps) (is.0, is.1) in (w.0, w.1, is.2)
 

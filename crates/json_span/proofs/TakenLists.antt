@@ -4,7 +4,7 @@ use Rattle.std.specs.List.{AllByRecursion}
 use Rattle.std.specs.Prelude.{codes}
 use Rattle.std.proofs.lemmas.Bool.{eqb-true}
 use Rattle.std.proofs.lemmas.Bool.Decides.{nat_tests}
-use Rattle.json_span.specs.Grammar.{Each, is_space, is_digit, is_power, is_minus, Scalar, Whole, Optional, Fraction, Power, nought, counted, absent, present, string_text, number_text, true_text, false_text, null_text, open_of, close_of, Piece, piece_text, IsColon, IsNamed, IsPiece, commas, Inside, IsList, IsValueText}
+use Rattle.json_span.specs.Grammar.{Each, is_space, is_digit, is_power, is_minus, Scalar, Whole, Optional, Fraction, Power, nought, counted, absent, present, string_text, number_text, true_text, false_text, null_text, open_of, close_of, Piece, piece_text, IsColon, IsNamed, IsPiece, commas, Inside, IsList, ValueWithin}
 use Rattle.json_span.specs.Machine.{State, go_to, scalar_begin, push, value_begin, part_begin, fresh_step, after_step, begin_step, step}
 use Rattle.json_span.specs.Nest.{is_deep}
 use Rattle.json_span.specs.Machine.{within, no_marks, span_to}
@@ -244,7 +244,7 @@ tail_of k (b ∷ bs) ps v each = let t = space_stops b each.0 in record { c = b;
 
 -- a value stands at the front, with any text behind it with which no number goes on
 abbrev pub ValueStarts : ℕ → ℕ → Type 0
-ValueStarts n d = (a : List ℕ) → IsValueText d a → (k : Kind) (ks : List Kind) (m : Marks) (v : List ℕ) (out : List Member) → Tail v → Takes n (S After (k ∷ ks) d) (settled (k ∷ ks) m) v out → Start n (k ∷ ks) d m (a ++ v) (ended (k ∷ ks) m (place_of n v) out)
+ValueStarts n d = (a : List ℕ) → ValueWithin d a → (k : Kind) (ks : List Kind) (m : Marks) (v : List ℕ) (out : List Member) → Tail v → Takes n (S After (k ∷ ks) d) (settled (k ∷ ks) m) v out → Start n (k ∷ ks) d m (a ++ v) (ended (k ∷ ks) m (place_of n v) out)
 
 after_closes : (k : Kind) (ks : List Kind) (d : ℕ) → step After (k ∷ ks) d (close_of k) ≡ go_to After ks (suc d)
 unfolding step after_step
@@ -271,7 +271,7 @@ abbrev pub piece_marks : ℕ → List Kind → Kind → Piece → List ℕ → M
 piece_marks n ks k p r m = part_marks k ks (place_of n (p.name ++ (p.middle ++ (p.value ++ r)))) (place_of n (p.middle ++ (p.value ++ r))) (place_of n (p.value ++ r)) m
 
 -- a piece, from the state where it begins, and what follows it
-takes_piece : (n : ℕ) (at : At) → Opening at → (d : ℕ) → ValueStarts n d → (k : Kind) (ks : List Kind) (p : Piece) (ps : List Piece) (v : List ℕ) (m : Marks) (out : List Member) → IsPiece k (IsValueText d) p
+takes_piece : (n : ℕ) (at : At) → Opening at → (d : ℕ) → ValueStarts n d → (k : Kind) (ks : List Kind) (p : Piece) (ps : List Piece) (v : List ℕ) (m : Marks) (out : List Member) → IsPiece k (ValueWithin d) p
     → Takes n (S After (k ∷ ks) d) (settled (k ∷ ks) (piece_marks n (k ∷ ks) k p (p.after ++ (commas ps ++ close_of k ∷ v)) m)) (p.after ++ (commas ps ++ close_of k ∷ v)) out
     → Takes n (S at (k ∷ ks) d) m ((piece_text p ++ commas ps) ++ close_of k ∷ v) (ended (k ∷ ks) (piece_marks n (k ∷ ks) k p (p.after ++ (commas ps ++ close_of k ∷ v)) m) (place_of n (p.after ++ (commas ps ++ close_of k ∷ v))) out)
 takes_piece n at o d ih k ks p ps v m out is acc =
@@ -288,14 +288,14 @@ deep_marks : (n : ℕ) (k l : Kind) (ks : List Kind) (p : Piece) (r : List ℕ) 
 deep_marks n Array l ks p r m = refl
 deep_marks n Object l ks p r m = refl
 
-deep_piece : (n : ℕ) (at : At) → Opening at → (d : ℕ) → ValueStarts n d → (k l : Kind) (ks : List Kind) (p : Piece) (ps : List Piece) (v : List ℕ) (m : Marks) (out : List Member) → IsPiece k (IsValueText d) p
+deep_piece : (n : ℕ) (at : At) → Opening at → (d : ℕ) → ValueStarts n d → (k l : Kind) (ks : List Kind) (p : Piece) (ps : List Piece) (v : List ℕ) (m : Marks) (out : List Member) → IsPiece k (ValueWithin d) p
     → Takes n (S After (k ∷ l ∷ ks) d) m (p.after ++ (commas ps ++ close_of k ∷ v)) out → Takes n (S at (k ∷ l ∷ ks) d) m ((piece_text p ++ commas ps) ++ close_of k ∷ v) out
 deep_piece n at o d ih k l ks p ps v m out is acc =
     let w = p.after ++ (commas ps ++ close_of k ∷ v) in
     takes_piece n at o d ih k (l ∷ ks) p ps v m out is (subst (λ (x : Marks). Takes n (S After (k ∷ l ∷ ks) d) x w out) (sym (deep_marks n k l ks p w m)) acc)
 
 deep_tail : (n d : ℕ) → ValueStarts n d → (k l : Kind) (ks : List Kind) (v : List ℕ) (m : Marks) (out : List Member) → Takes n (S After (l ∷ ks) (suc d)) (settled (l ∷ ks) m) v out
-    → (ps : List Piece) (sp : List ℕ) → Each is_space sp → AllByRecursion (IsPiece k (IsValueText d)) ps → Takes n (S After (k ∷ l ∷ ks) d) m (sp ++ (commas ps ++ close_of k ∷ v)) (ended (l ∷ ks) m (place_of n v) out)
+    → (ps : List Piece) (sp : List ℕ) → Each is_space sp → AllByRecursion (IsPiece k (ValueWithin d)) ps → Takes n (S After (k ∷ l ∷ ks) d) m (sp ++ (commas ps ++ close_of k ∷ v)) (ended (l ∷ ks) m (place_of n v) out)
 deep_tail n d ih k l ks v m out acc [] sp each all =
     takes_spaces n After (k ∷ l ∷ ks) d (after_self (k ∷ l ∷ ks) d) sp (close_of k ∷ v) m (ended (l ∷ ks) m (place_of n v) out) each
     (takes_end n After (k ∷ l ∷ ks) (l ∷ ks) (suc d) d (close_of k) m v out (after_closes k (l ∷ ks) d) refl acc)
@@ -305,7 +305,7 @@ deep_tail n d ih k l ks v m out acc (p ∷ ps) sp each all =
     (deep_piece n Part opening_part d ih k l ks p ps v m (ended (l ∷ ks) m (place_of n v) out) all.0 (deep_tail n d ih k l ks v m out acc ps p.after all.0.after all.1)))
 
 deep_inside : (n d : ℕ) → ValueStarts n d → (k l : Kind) (ks : List Kind) (v : List ℕ) (m : Marks) (out : List Member) → Takes n (S After (l ∷ ks) (suc d)) (settled (l ∷ ks) m) v out
-    → (inner : List ℕ) (ps : List Piece) → Inside k (IsValueText d) inner ps → Takes n (S Fresh (k ∷ l ∷ ks) d) m (inner ++ close_of k ∷ v) (ended (l ∷ ks) m (place_of n v) out)
+    → (inner : List ℕ) (ps : List Piece) → Inside k (ValueWithin d) inner ps → Takes n (S Fresh (k ∷ l ∷ ks) d) m (inner ++ close_of k ∷ v) (ended (l ∷ ks) m (place_of n v) out)
 deep_inside n d ih k l ks v m out acc inner [] is =
     takes_spaces n Fresh (k ∷ l ∷ ks) d (fresh_self (k ∷ l ∷ ks) d) inner (close_of k ∷ v) m (ended (l ∷ ks) m (place_of n v) out) is
     (takes_end n Fresh (k ∷ l ∷ ks) (l ∷ ks) (suc d) d (close_of k) m v out (fresh_closes k (l ∷ ks) d) refl acc)
@@ -318,7 +318,7 @@ unfolding value_begin push
 list_begins Array ks d = refl
 list_begins Object ks d = refl
 
-list_start : (n d : ℕ) → ValueStarts n d → (k : Kind) (a : List ℕ) → IsList k (IsValueText d) a → (l : Kind) (ks : List Kind) (m : Marks) (v : List ℕ) (out : List Member)
+list_start : (n d : ℕ) → ValueStarts n d → (k : Kind) (a : List ℕ) → IsList k (ValueWithin d) a → (l : Kind) (ks : List Kind) (m : Marks) (v : List ℕ) (out : List Member)
     → Takes n (S After (l ∷ ks) (suc d)) (settled (l ∷ ks) m) v out → Start n (l ∷ ks) (suc d) m (a ++ v) (ended (l ∷ ks) m (place_of n v) out)
 list_start n d ih Array a is l ks m v out acc =
     moved n (l ∷ ks) (suc d) m (a ++ v) (91 ∷ (is.inner ++ 93 ∷ v)) (ended (l ∷ ks) m (place_of n v) out) (ap (λ (x : List ℕ). x ++ v) is.whole ∙ ap (λ (x : List ℕ). 91 ∷ x) (append_assoc is.inner (93 ∷ []) v))
@@ -343,7 +343,7 @@ placed n k (p ∷ ps) w =
     record { name = m.name; value = span_to m.from (place_of n r) } ∷ placed n k ps w
 
 top_tail : (n d : ℕ) → ValueStarts n d → (k : Kind) (v : List ℕ) → Takes n (S After [] (suc d)) no_marks v []
-    → (ps : List Piece) (sp : List ℕ) → Each is_space sp → AllByRecursion (IsPiece k (IsValueText d)) ps → Takes n (S After (k ∷ []) d) no_marks (sp ++ (commas ps ++ close_of k ∷ v)) (placed n k ps (close_of k ∷ v))
+    → (ps : List Piece) (sp : List ℕ) → Each is_space sp → AllByRecursion (IsPiece k (ValueWithin d)) ps → Takes n (S After (k ∷ []) d) no_marks (sp ++ (commas ps ++ close_of k ∷ v)) (placed n k ps (close_of k ∷ v))
 top_tail n d ih k v acc [] sp each all =
     takes_spaces n After (k ∷ []) d (after_self (k ∷ []) d) sp (close_of k ∷ v) no_marks [] each (takes_on n After (k ∷ []) d (close_of k) (S After [] (suc d)) no_marks v [] (after_closes k [] d) refl acc)
 top_tail n d ih k v acc (p ∷ ps) sp each all =
@@ -352,7 +352,7 @@ top_tail n d ih k v acc (p ∷ ps) sp each all =
     (takes_piece n Part opening_part d ih k [] p ps v no_marks (placed n k ps (close_of k ∷ v)) all.0 (top_tail n d ih k v acc ps p.after all.0.after all.1)))
 
 pub top_inside : (n d : ℕ) → ValueStarts n d → (k : Kind) (v : List ℕ) → Takes n (S After [] (suc d)) no_marks v []
-    → (inner : List ℕ) (ps : List Piece) → Inside k (IsValueText d) inner ps → Takes n (S Fresh (k ∷ []) d) no_marks (inner ++ close_of k ∷ v) (placed n k ps (close_of k ∷ v))
+    → (inner : List ℕ) (ps : List Piece) → Inside k (ValueWithin d) inner ps → Takes n (S Fresh (k ∷ []) d) no_marks (inner ++ close_of k ∷ v) (placed n k ps (close_of k ∷ v))
 top_inside n d ih k v acc inner [] is =
     takes_spaces n Fresh (k ∷ []) d (fresh_self (k ∷ []) d) inner (close_of k ∷ v) no_marks [] is (takes_on n Fresh (k ∷ []) d (close_of k) (S After [] (suc d)) no_marks v [] (fresh_closes k [] d) refl acc)
 top_inside n d ih k v acc inner (p ∷ ps) is =

@@ -3,7 +3,7 @@ use Rattle.std.proofs.Common.{◌≡◌, ℕ, zero, suc, ◌+◌, Bool, true, fa
 use Rattle.std.specs.List.{AllByRecursion}
 use Rattle.std.proofs.lemmas.List.{append-nil}
 use Rattle.std.specs.Prelude.{codes}
-use Rattle.json_span.specs.Grammar.{Each, is_space, is_digit, IsString, Fraction, Power, no_chars, escaped_char, digits, nought, absent, no_fraction, no_power, null_text, open_of, close_of, Piece, piece_text, IsPiece, commas, IsValueText, IsPartText, places, IsSplit}
+use Rattle.json_span.specs.Grammar.{Each, is_space, is_digit, IsString, Fraction, Power, no_chars, escaped_char, digits, nought, absent, no_fraction, no_power, null_text, open_of, close_of, Piece, piece_text, IsPiece, commas, ValueWithin, IsPartText, places, IsSplit}
 use Rattle.json_span.specs.Machine.{◌>>=◌, State, go_to, string_step, ends_string, behind, number_step, may_end, letter, next_letters, scalar_begin, push, value_begin, part_begin, fresh_step, after_step, number_goes, literal_goes, begin_step, step, start, run, is_done}
 use Rattle.json_span.specs.declared.Member.{Member}
 use Rattle.json_span.specs.declared.state.Kind.{Kind}
@@ -199,7 +199,7 @@ run_viable (b ∷ bs) s t sits e =
 
 -- ---- whole texts
 
-outside : (k : Kind) (ps : List Piece) → AllByRecursion (IsPiece k (IsValueText 100)) ps → AllByRecursion (IsPiece k IsPartText) ps
+outside : (k : Kind) (ps : List Piece) → AllByRecursion (IsPiece k (ValueWithin 100)) ps → AllByRecursion (IsPiece k IsPartText) ps
 outside k [] all = tt
 outside k (p ∷ ps) all = (record { before = all.0.before; named = all.0.named; value = record { within = all.0.value }; after = all.0.after }, outside k ps all.1)
 

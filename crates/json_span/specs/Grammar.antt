@@ -147,14 +147,18 @@ pub record IsList (k : Kind) (V : List ℕ → Type 0) (text : List ℕ) : Type 
   pub inside : Inside k V inner pieces
   pub whole : text ≡ open_of k ∷ inner ++ close_of k ∷ []
 
--- A value text with at most so many brackets open at one place.
-abbrev pub IsValueText : ℕ → List ℕ → Type 0
-IsValueText zero text = Scalar text
-IsValueText (suc d) text = Scalar text ⊎ ((k : Kind) × IsList k (IsValueText d) text)
+-- a value text with at most so many brackets open at one place, by cases
+abbrev pub ValueWithin : ℕ → List ℕ → Type 0
+ValueWithin zero text = Scalar text
+ValueWithin (suc d) text = Scalar text ⊎ ((k : Kind) × IsList k (ValueWithin d) text)
 
--- A value text with at most 100 brackets open at one place.
-pub record IsPartText (text : List ℕ) : Type 0 where
-  pub within : IsValueText 100 text
+-- A value text with at most so many brackets open at one place.
+pub record IsValueText (depth : ℕ) (text : List ℕ) : Type 0 where
+  pub within : ValueWithin depth text
+
+-- a value text that may be a part: at most 100 brackets are open at one place
+abbrev pub IsPartText : List ℕ → Type 0
+IsPartText text = IsValueText 100 text
 
 -- ---- splits
 
