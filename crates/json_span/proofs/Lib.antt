@@ -13,3 +13,5 @@ pub mod TakenLists
 pub mod SplitLaws
 pub mod CutLaws
 pub mod CallLaws
+pub mod JoinLaws
+pub mod ValueLaws

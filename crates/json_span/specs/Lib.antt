@@ -4,3 +4,4 @@ pub mod Nest
 pub mod Steps
 pub mod Stops
 pub mod Parts
+pub mod Joined
