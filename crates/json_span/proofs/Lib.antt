@@ -15,3 +15,5 @@ pub mod CutLaws
 pub mod CallLaws
 pub mod JoinLaws
 pub mod ValueLaws
+pub mod AgainLaws
+pub mod Utf8Laws
