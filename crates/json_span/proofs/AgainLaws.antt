@@ -1,15 +1,15 @@
 -- A value text that is a list splits again, into parts with one bracket fewer open; white space at a text's ends changes no part.
-use Rattle.std.proofs.Common.{◌≡◌, ◌≢◌, ℕ, zero, suc, ◌+◌, ◌<◌, ◌≤◌, Bool, true, false, eqb, List, [], ◌∷◌, ◌++◌, Option, Some, None, refl, sym, ap, subst, ◌∙◌, append_assoc, arith, map, inl, inr, ◌⊎◌}
+use Rattle.std.proofs.Common.{◌≡◌, ℕ, suc, ◌<◌, ◌≤◌, true, false, eqb, List, [], ◌∷◌, ◌++◌, Some, refl, sym, ap, subst, ◌∙◌, append_assoc, arith, map, inl, inr}
 use Rattle.std.specs.List.{AllByRecursion, All}
 use Rattle.std.proofs.lemmas.List.Elements.{All-nil, All-cons}
 use Rattle.std.proofs.lemmas.Bool.{eqb-true, cases_lt}
 use Rattle.std.proofs.lemmas.Bool.Decides.{nat_tests}
-use Rattle.std.proofs.lemmas.List.{append-nil}
-use Rattle.json_span.specs.Grammar.{Each, is_space, is_digit, IsString, IsNumber, Whole, Optional, Scalar, nought, counted, absent, present, string_text, number_text, true_text, false_text, null_text, open_of, close_of, Piece, IsPiece, Inside, IsList, ValueWithin, IsValueText, IsPartText, Splits}
+use Rattle.json_span.specs.Grammar.{Each, is_space, is_digit, Whole, Optional, Scalar, nought, counted, absent, present, string_text, number_text, true_text, false_text, null_text, open_of, close_of, Piece, IsPiece, Inside, IsList, ValueWithin, IsValueText, IsPartText, Splits}
+use Rattle.json_span.specs.Joined.{IsMemberOf}
 use Rattle.json_span.specs.Parts.{members_of, elements_of, HasMembers, HasElements}
 use Rattle.json_span.specs.declared.state.Kind.{Kind}
 use Rattle.json_span.specs.declared.state.Kind.TheVariants.{Array, Object}
-use Rattle.json_span.proofs.BasicLaws.{some_is, not_true}
+use Rattle.json_span.proofs.BasicLaws.{some_is}
 use Rattle.json_span.proofs.CutLaws.{members_taken, members_found, elements_taken, elements_found}
 use Rattle.json_span.proofs.ValueLaws.{deeper, inside_deeper}
 
@@ -65,20 +65,20 @@ all_pieces : (k : Kind) (V : List ℕ → Type 0) (inner : List ℕ) (ps : List 
 all_pieces k V inner [] is = tt
 all_pieces k V inner (p ∷ ps) is = (is.0, is.1)
 
-member_values : (d : ℕ) (V : List ℕ → Type 0) → ((t : List ℕ) → V t → IsValueText d t) → (ps : List Piece) → AllByRecursion (IsPiece Object V) ps → All (λ (m : List ℕ × List ℕ). IsValueText d m.1) (map (λ (p : Piece). (p.name, p.value)) ps)
-member_values d V f [] all = All-nil (λ (m : List ℕ × List ℕ). IsValueText d m.1)
-member_values d V f (p ∷ ps) all = All-cons (λ (m : List ℕ × List ℕ). IsValueText d m.1) (p.name, p.value) (map (λ (q : Piece). (q.name, q.value)) ps) (f p.value all.0.value) (member_values d V f ps all.1)
+member_values : (d : ℕ) (V : List ℕ → Type 0) → ((t : List ℕ) → V t → IsValueText d t) → (ps : List Piece) → AllByRecursion (IsPiece Object V) ps → All (IsMemberOf d) (map (λ (p : Piece). (p.name, p.value)) ps)
+member_values d V f [] all = All-nil (IsMemberOf d)
+member_values d V f (p ∷ ps) all = All-cons (IsMemberOf d) (p.name, p.value) (map (λ (q : Piece). (q.name, q.value)) ps) (all.0.named.0, f p.value all.0.value) (member_values d V f ps all.1)
 
 element_values : (d : ℕ) (V : List ℕ → Type 0) → ((t : List ℕ) → V t → IsValueText d t) → (ps : List Piece) → AllByRecursion (IsPiece Array V) ps → All (IsValueText d) (map (λ (p : Piece). p.value) ps)
 element_values d V f [] all = All-nil (IsValueText d)
 element_values d V f (p ∷ ps) all = All-cons (IsValueText d) p.value (map (λ (q : Piece). q.value) ps) (f p.value all.0.value) (element_values d V f ps all.1)
 
-below : (d : ℕ) (text : List ℕ) (parts : List (List ℕ × List ℕ)) → d ≤ 100 → ValueWithin (suc d) text → HasMembers text parts → All (λ (m : List ℕ × List ℕ). IsValueText d m.1) parts
+below : (d : ℕ) (text : List ℕ) (parts : List (List ℕ × List ℕ)) → d ≤ 100 → ValueWithin (suc d) text → HasMembers text parts → All (IsMemberOf d) parts
 below d text parts le (inl is) (front, pieces, s, e) = absurd (scalar_no_list Object text front pieces is s)
 below d text parts le (inr (Array, l)) (front, pieces, s, e) = absurd (let f : 91 ≡ 123 = split_begins Object text front pieces 91 (l.inner ++ 93 ∷ []) s l.whole refl in omega arith)
 below d text parts le (inr (Object, l)) has =
     let same : Some parts ≡ Some (map (λ (p : Piece). (p.name, p.value)) l.pieces) = sym (members_taken text parts has) ∙ members_taken text (map (λ (p : Piece). (p.name, p.value)) l.pieces) ([], l.pieces, list_splits Object d text le l, refl) in
-    subst (λ (x : List (List ℕ × List ℕ)). All (λ (m : List ℕ × List ℕ). IsValueText d m.1) x) (sym (some_is parts (map (λ (p : Piece). (p.name, p.value)) l.pieces) same))
+    subst (λ (x : List (List ℕ × List ℕ)). All (IsMemberOf d) x) (sym (some_is parts (map (λ (p : Piece). (p.name, p.value)) l.pieces) same))
     (member_values d (ValueWithin d) (λ t is. record { within = is }) l.pieces (all_pieces Object (ValueWithin d) l.inner l.pieces l.inside))
 
 below_elements : (d : ℕ) (text : List ℕ) (parts : List (List ℕ)) → d ≤ 100 → ValueWithin (suc d) text → HasElements text parts → All (IsValueText d) parts
@@ -90,13 +90,19 @@ below_elements d text parts le (inr (Array, l)) has =
     (element_values d (ValueWithin d) (λ t is. record { within = is }) l.pieces (all_pieces Array (ValueWithin d) l.inner l.pieces l.inside))
 
 -- parts of any list are value texts of depth 100, and so of each depth from there
-above : (d : ℕ) (text : List ℕ) (parts : List (List ℕ × List ℕ)) → 100 ≤ d → HasMembers text parts → All (λ (m : List ℕ × List ℕ). IsValueText d m.1) parts
-above d text parts le (front, pieces, s, e) = subst (λ (x : List (List ℕ × List ℕ)). All (λ (m : List ℕ × List ℕ). IsValueText d m.1) x) (sym e) (member_values d IsPartText (λ t is. deeper 100 d t le is) pieces (all_pieces Object IsPartText s.inner pieces s.inside))
+above : (d : ℕ) (text : List ℕ) (parts : List (List ℕ × List ℕ)) → 100 ≤ d → HasMembers text parts → All (IsMemberOf d) parts
+above d text parts le (front, pieces, s, e) = subst (λ (x : List (List ℕ × List ℕ)). All (IsMemberOf d) x) (sym e) (member_values d IsPartText (λ t is. deeper 100 d t le is) pieces (all_pieces Object IsPartText s.inner pieces s.inside))
 
 above_elements : (d : ℕ) (text : List ℕ) (parts : List (List ℕ)) → 100 ≤ d → HasElements text parts → All (IsValueText d) parts
 above_elements d text parts le (front, pieces, s, e) = subst (All (IsValueText d)) (sym e) (element_values d IsPartText (λ t is. deeper 100 d t le is) pieces (all_pieces Array IsPartText s.inner pieces s.inside))
 
-pub members_shallower : (d : ℕ) (text : List ℕ) (parts : List (List ℕ × List ℕ)) → IsValueText (suc d) text → members_of text ≡ Some parts → All (λ (m : List ℕ × List ℕ). IsValueText d m.1) parts
+pub members_limit : (text : List ℕ) (parts : List (List ℕ × List ℕ)) → members_of text ≡ Some parts → All (IsMemberOf 100) parts
+members_limit text parts e = above 100 text parts (omega arith) (members_found text parts e)
+
+pub elements_limit : (text : List ℕ) (parts : List (List ℕ)) → elements_of text ≡ Some parts → All IsPartText parts
+elements_limit text parts e = above_elements 100 text parts (omega arith) (elements_found text parts e)
+
+pub members_shallower : (d : ℕ) (text : List ℕ) (parts : List (List ℕ × List ℕ)) → IsValueText (suc d) text → members_of text ≡ Some parts → All (IsMemberOf d) parts
 members_shallower d text parts is e = elim (cases_lt 100 d) [
   | inl lt ↦ above d text parts (omega arith) (members_found text parts e)
   | inr le ↦ below d text parts le is.within (members_found text parts e)

@@ -1,9 +1,9 @@
 -- What is joined of value texts is an array or an object of exactly these parts.
-use Rattle.std.proofs.Common.{◌≡◌, ℕ, zero, suc, List, [], ◌∷◌, ◌++◌, Option, Some, refl, sym, ap, subst, ◌∙◌, append_assoc, arith, map, inl, inr, ◌⊎◌}
+use Rattle.std.proofs.Common.{◌≡◌, ℕ, suc, List, [], ◌∷◌, ◌++◌, Some, refl, sym, ap, ◌∙◌, map, inr}
 use Rattle.std.specs.List.{AllByRecursion, All}
 use Rattle.std.proofs.lemmas.List.{append-nil}
 use Rattle.std.proofs.lemmas.List.Elements.{All-head, All-tail}
-use Rattle.json_span.specs.Grammar.{Each, is_space, IsString, IsPiece, IsValueText, ValueWithin, IsPartText, Piece, piece_text, commas, Inside, IsList, Splits}
+use Rattle.json_span.specs.Grammar.{IsPiece, IsValueText, ValueWithin, IsPartText, Piece, piece_text, commas, Inside}
 use Rattle.json_span.specs.Joined.{behind_commas, joined, array_text, member_text, object_text, IsMemberOf}
 use Rattle.json_span.specs.Parts.{members_of, elements_of, HasMembers, HasElements}
 use Rattle.json_span.specs.declared.state.Kind.{Kind}

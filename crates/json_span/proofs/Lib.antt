@@ -17,3 +17,4 @@ pub mod JoinLaws
 pub mod ValueLaws
 pub mod AgainLaws
 pub mod Utf8Laws
+pub mod OrderLaws

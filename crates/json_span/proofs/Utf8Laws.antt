@@ -1,5 +1,5 @@
 -- A part of a UTF-8 text is UTF-8.
-use Rattle.std.proofs.Common.{◌≡◌, ℕ, zero, suc, ◌+◌, ◌-◌, ◌<◌, ◌≤◌, Bool, true, false, List, [], ◌∷◌, ◌++◌, length, take, drop, get_or, Option, Some, refl, sym, ap, subst, ◌∙◌, append_assoc, arith, map, inl, inr, ◌⊎◌}
+use Rattle.std.proofs.Common.{◌≡◌, ℕ, zero, suc, ◌+◌, ◌-◌, ◌<◌, true, List, [], ◌∷◌, ◌++◌, length, take, drop, get_or, Some, refl, sym, ap, subst, ◌∙◌, append_assoc, arith, map, inl, inr}
 use Rattle.std.specs.List.{AllByRecursion, All}
 use Rattle.std.specs.Str.{IsUtf8, IsCharBoundary}
 use Rattle.std.proofs.lemmas.List.{length-append}
@@ -7,7 +7,7 @@ use Rattle.std.proofs.lemmas.List.Elements.{All-nil, All-cons}
 use Rattle.std.proofs.lemmas.Str.{IsUtf8-between, IsCharBoundary-before_ascii}
 use Rattle.std.proofs.lemmas.Bool.Decides.{nat_tests}
 use Rattle.std.proofs.Math.Seq.{take-append_seam, drop-append_seam, get_or-append_seam}
-use Rattle.json_span.specs.Grammar.{Each, is_space, IsString, IsColon, IsNamed, IsPiece, IsPartText, ValueWithin, Piece, piece_text, commas, open_of, close_of, Splits}
+use Rattle.json_span.specs.Grammar.{Each, is_space, IsColon, IsPiece, IsPartText, ValueWithin, Piece, piece_text, commas, close_of, Splits}
 use Rattle.json_span.specs.Parts.{members_of, elements_of}
 use Rattle.json_span.specs.declared.state.Kind.{Kind}
 use Rattle.json_span.specs.declared.state.Kind.TheVariants.{Array, Object}

@@ -1,12 +1,11 @@
 -- Which texts are value texts, and of which depth.
-use Rattle.std.proofs.Common.{◌≡◌, ◌≢◌, ℕ, zero, suc, ◌+◌, ◌-◌, ◌/◌, ◌%◌, ◌<◌, ◌≤◌, ◌^◌, Bool, true, false, eqb, List, [], ◌∷◌, ◌++◌, refl, sym, ap, subst, ◌∙◌, append_assoc, arith, inl, inr, ◌⊎◌}
+use Rattle.std.proofs.Common.{◌≡◌, ℕ, zero, suc, ◌+◌, ◌-◌, ◌/◌, ◌%◌, ◌<◌, ◌≤◌, ◌^◌, true, false, eqb, List, [], ◌∷◌, ◌++◌, refl, sym, ap, subst, arith, inl, inr}
 use Rattle.std.specs.List.{AllByRecursion}
-use Rattle.std.specs.Prelude.{codes}
 use Rattle.std.specs.Fmt.{decimal}
 use Rattle.std.proofs.lemmas.Fmt.{decimal_by_steps, decimal_digit}
 use Rattle.std.proofs.lemmas.List.{append-nil}
 use Rattle.std.proofs.lemmas.Bool.Decides.{nat_tests}
-use Rattle.json_span.specs.Grammar.{Each, is_digit, Chars, no_chars, plain_char, escaped_char, unicode_char, IsString, Whole, nought, counted, absent, no_fraction, no_power, IsNumber, Scalar, string_text, number_text, true_text, false_text, null_text, Piece, IsPiece, Inside, IsList, ValueWithin, IsValueText}
+use Rattle.json_span.specs.Grammar.{Each, is_digit, Chars, no_chars, plain_char, escaped_char, unicode_char, IsString, Whole, nought, counted, absent, no_fraction, no_power, IsNumber, Scalar, string_text, number_text, Piece, IsPiece, Inside, ValueWithin, IsValueText}
 use Rattle.json_span.specs.declared.state.Kind.{Kind}
 
 -- ---- scalars

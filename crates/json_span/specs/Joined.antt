@@ -1,5 +1,5 @@
 -- Texts of arrays and objects that are joined of parts, with no white space.
-use Rattle.std.specs.Prelude.{◌≡◌, ℕ, List, [], ◌∷◌, ◌++◌, map}
+use Rattle.std.specs.Prelude.{ℕ, List, [], ◌∷◌, ◌++◌, map}
 use Rattle.json_span.specs.Grammar.{IsString, IsValueText}
 
 -- each text behind a comma

@@ -5,3 +5,4 @@ pub mod Steps
 pub mod Stops
 pub mod Parts
 pub mod Joined
+pub mod Order

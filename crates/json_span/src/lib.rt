@@ -12,7 +12,10 @@ mod nest;
 mod split;
 mod state;
 
-pub use laws::{one_split, parts_by_grammar};
+pub use laws::{
+    joined_splits, lists_are_values, lists_split, one_split, parts_are_shallower, parts_are_utf8,
+    parts_by_grammar, scalars_are_values, spaces_change_nothing, spans_ascend, strings_are_joined,
+};
 pub use split::{elements, members};
 use std::alloc::{AllocError, AllocFailed};
 
