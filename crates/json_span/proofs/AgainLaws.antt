@@ -4,7 +4,7 @@ use Rattle.std.specs.List.{AllByRecursion, All}
 use Rattle.std.proofs.lemmas.List.Elements.{All-nil, All-cons}
 use Rattle.std.proofs.lemmas.Bool.{eqb-true, cases_lt}
 use Rattle.std.proofs.lemmas.Bool.Decides.{nat_tests}
-use Rattle.json_span.specs.Grammar.{Each, is_space, is_digit, Whole, Optional, Scalar, nought, counted, absent, present, string_text, number_text, true_text, false_text, null_text, open_of, close_of, Piece, IsPiece, Inside, IsList, ValueWithin, IsValueText, IsPartText, Splits}
+use Rattle.json_span.specs.Grammar.{Each, is_space, is_digit, Integer, Optional, Scalar, zero_digit, no_zero_first, absent, present, string_text, number_text, true_text, false_text, null_text, open_of, close_of, Piece, IsPiece, Inside, IsList, ValueWithin, IsValueText, IsPartText, Splits}
 use Rattle.json_span.specs.Joined.{IsMemberOf}
 use Rattle.json_span.specs.Parts.{members_of, elements_of, HasMembers, HasElements}
 use Rattle.json_span.specs.declared.state.Kind.{Kind}
@@ -28,9 +28,9 @@ pub record Begins (t : List ℕ) : Type 0 where
 digit_begins : (b : ℕ) (bs : List ℕ) → is_digit b ≡ true → Begins (b ∷ bs)
 digit_begins b bs is = record { b = b; bs = bs; at = refl; ascii = grind (arith, nat_tests); no_space = grind (arith, nat_tests); no_array = grind (arith, nat_tests); no_object = grind (arith, nat_tests) }
 
-number_begins : (s i r : List ℕ) → Optional (λ b. eqb b 45) s → Whole i → Begins (s ++ (i ++ r))
-number_begins s i r absent nought = record { b = 48; bs = r; at = refl; ascii = omega arith; no_space = refl; no_array = refl; no_object = refl }
-number_begins s i r absent (counted {b} {t} is ne each) = digit_begins b (t ++ r) is
+number_begins : (s i r : List ℕ) → Optional (λ b. eqb b 45) s → Integer i → Begins (s ++ (i ++ r))
+number_begins s i r absent zero_digit = record { b = 48; bs = r; at = refl; ascii = omega arith; no_space = refl; no_array = refl; no_object = refl }
+number_begins s i r absent (no_zero_first {b} {t} is ne each) = digit_begins b (t ++ r) is
 number_begins s i r (present {b} e) w = record { b = 45; bs = i ++ r; at = ap (λ (x : ℕ). x ∷ (i ++ r)) (eqb-true b 45 e); ascii = omega arith; no_space = refl; no_array = refl; no_object = refl }
 
 pub scalar_begins : (t : List ℕ) → Scalar t → Begins t

@@ -2,7 +2,7 @@
 use Rattle.std.proofs.Common.{◌≡◌, ℕ, zero, suc, List, [], ◌∷◌, ◌++◌, ◌⊎◌}
 use Rattle.std.specs.List.{AllByRecursion}
 use Rattle.std.specs.Prelude.{codes}
-use Rattle.json_span.specs.Grammar.{Each, is_space, is_digit, is_sign, Digits, Whole, Optional, Fraction, Power, open_of, close_of, Piece, IsNamed, IsPiece, commas, ValueWithin}
+use Rattle.json_span.specs.Grammar.{Each, is_space, is_digit, is_sign, Digits, Integer, Optional, Fraction, Exponent, open_of, close_of, Piece, IsNamed, IsPiece, commas, ValueWithin}
 use Rattle.json_span.specs.declared.state.Kind.{Kind}
 use Rattle.json_span.specs.declared.state.Role.{Role}
 use Rattle.json_span.specs.declared.state.Role.TheVariants.{Key, Item}
@@ -57,11 +57,11 @@ pub record Byte (b : ℕ) (Q : List ℕ → Type 0) (u : List ℕ) : Type 0 wher
 
 -- what completes a number
 abbrev pub NumRest : NumberAt → List ℕ → Type 0
-NumRest AfterMinus u = Then Whole (Then Fraction Power) u
-NumRest AfterZero u = Then Fraction Power u
-NumRest InInteger u = Then (Each is_digit) (Then Fraction Power) u
-NumRest AfterPoint u = Then Digits Power u
-NumRest InFraction u = Then (Each is_digit) Power u
+NumRest AfterMinus u = Then Integer (Then Fraction Exponent) u
+NumRest AfterZero u = Then Fraction Exponent u
+NumRest InInteger u = Then (Each is_digit) (Then Fraction Exponent) u
+NumRest AfterPoint u = Then Digits Exponent u
+NumRest InFraction u = Then (Each is_digit) Exponent u
 NumRest AfterE u = Then (Optional is_sign) Digits u
 NumRest AfterSign u = Digits u
 NumRest InExponent u = Each is_digit u

@@ -17,12 +17,12 @@ kinds_pushed : (n bits : ℕ) (k : Kind) → kinds_of (suc n) (2 * bits + bit_of
 kinds_pushed n bits Array = let h : (2 * bits + 0) / 2 ≡ bits = omega arith in let o : (2 * bits + 0) % 2 ≡ 0 = omega arith in rw (h, o) refl
 kinds_pushed n bits Object = let h : (2 * bits + 1) / 2 ≡ bits = omega arith in let o : (2 * bits + 1) % 2 ≡ 1 = omega arith in rw (h, o) refl
 
+opened_by : (bits bit n a r s : ℕ) (k : Kind) → a ≡ suc n → r ≡ suc s → bit ≡ bit_of k → Some (kinds_of a (2 * bits + bit), s) ≡ opened k (kinds_of n bits) r
+opened_by bits bit n a r s k ea er eb =
+    ap (λ (x : ℕ). Some (kinds_of x (2 * bits + bit), s)) ea ∙ ap (λ (x : ℕ). Some (kinds_of (suc n) (2 * bits + x), s)) eb ∙ ap (λ (x : List Kind). Some (x, s)) (kinds_pushed n bits k) ∙ ap (opened k (kinds_of n bits)) (sym er)
+
 pub opened_is : (bits room bit : ℕ) (k : Kind) → room ≤ 101 → room ≢ 0 → bit ≡ bit_of k → Some (kinds_of (101 - (room - 1)) (2 * bits + bit), room - 1) ≡ opened k (kinds_of (101 - room) bits) room
-opened_is bits room bit k le ne is =
-    let e : 101 - (room - 1) ≡ suc (101 - room) = omega arith in
-    let one : room ≡ suc (room - 1) = omega arith in
-    ap (λ (n : ℕ). Some (kinds_of n (2 * bits + bit), room - 1)) e ∙ ap (λ (x : ℕ). Some (kinds_of (suc (101 - room)) (2 * bits + x), room - 1)) is
-    ∙ ap (λ (x : List Kind). Some (x, room - 1)) (kinds_pushed (101 - room) bits k) ∙ ap (λ (n : ℕ). opened k (kinds_of (101 - room) bits) n) (sym one)
+opened_is bits room bit k le ne is = opened_by bits bit (101 - room) (101 - (room - 1)) room (room - 1) k (omega arith) (omega arith) is
 
 deep_of : (n bits : ℕ) → is_deep (kinds_of n bits) ≡ nat_lt 1 n
 deep_of zero bits = grind (arith, nat_tests)

@@ -1,7 +1,7 @@
 -- What completes the state behind a byte completes, behind that byte, the state before it.
 use Rattle.std.proofs.Common.{◌≡◌, ℕ, zero, suc, true, eqb, List, [], ◌∷◌, ◌++◌, Option, Some, None, refl, sym, ap, subst, ◌∙◌, append_assoc, inl, inr}
 use Rattle.std.proofs.lemmas.Bool.{eqb-true}
-use Rattle.json_span.specs.Grammar.{Each, is_space, is_digit, is_minus, Scalar, Whole, Optional, Fraction, Power, IsNumber, nought, counted, absent, present, string_text, number_text, true_text, false_text, null_text, open_of, close_of, Piece, piece_text, IsColon, commas, ValueWithin}
+use Rattle.json_span.specs.Grammar.{Each, is_space, is_digit, is_minus, Scalar, Integer, Optional, Fraction, Exponent, IsNumber, zero_digit, no_zero_first, absent, present, string_text, number_text, true_text, false_text, null_text, open_of, close_of, Piece, piece_text, IsColon, commas, ValueWithin}
 use Rattle.json_span.specs.Machine.{◌>>=◌, State, go_to, string_step, ends_string, behind, number_step, may_end, letter, next_letters, scalar_begin, push, value_begin, part_begin, fresh_step, after_step, number_goes, literal_goes, literal_step, begin_step, step}
 use Rattle.json_span.specs.declared.state.Kind.{Kind}
 use Rattle.json_span.specs.declared.state.Kind.TheVariants.{Array, Object}
@@ -103,7 +103,7 @@ push_sound k ks (suc d) s u e c =
     let f = goes Fresh (k ∷ ks) d s u e c in
     subst (λ (x : List ℕ). Values (suc d) ks (open_of k ∷ x)) (sym f.whole) (value_open d k ks f.sp f.v f.each f.is)
 
-pub number_made : (sign integer x : List ℕ) → Optional is_minus sign → Whole integer → (r : Then Fraction Power x) → IsNumber (sign ++ (integer ++ x))
+pub number_made : (sign integer x : List ℕ) → Optional is_minus sign → Integer integer → (r : Then Fraction Exponent x) → IsNumber (sign ++ (integer ++ x))
 number_made sign integer x s w r = record { sign = sign; integer = integer; fraction = r.x; exponent = r.v; is_sign = s; is_integer = w; is_fraction = r.first; is_exponent = r.then; whole = ap (λ (y : List ℕ). sign ++ (integer ++ y)) r.whole }
 
 -- a scalar in front of what follows it
@@ -127,7 +127,7 @@ begun at d ks b u e c = elim (chosen (eqb b 34) (Some (Text Item Plain)) _ (Some
         scalar_then d ks 45 q.x q.v u (number_text (subst (λ (y : List ℕ). IsNumber (45 ∷ y)) (sym q.first.whole) (number_made (45 ∷ []) q.first.x q.first.v (present refl) q.first.first q.first.then))) q.then q.whole)
     | inr i ↦ elim (chosen (eqb b 48) (Some (Number AfterZero)) _ (Some at) i.1) [
       | inl j ↦ at_byte (Values d ks) b 48 u j.0 (let q : Completes (Number AfterZero) d ks u = subst (λ (x : At). Completes x d ks u) (sym (some_is (Number AfterZero) at j.1)) c in
-          scalar_then d ks 48 q.x q.v u (number_text (number_made [] (48 ∷ []) q.x absent nought q.first)) q.then q.whole)
+          scalar_then d ks 48 q.x q.v u (number_text (number_made [] (48 ∷ []) q.x absent zero_digit q.first)) q.then q.whole)
       | inr j ↦ elim (chosen (eqb b 116) (Some (Literal Rue)) _ (Some at) j.1) [
         | inl l ↦ at_byte (Values d ks) b 116 u l.0 (letters_then d ks 116 Rue u true_text (subst (λ (x : At). Completes x d ks u) (sym (some_is (Literal Rue) at l.1)) c))
         | inr l ↦ elim (chosen (eqb b 102) (Some (Literal Alse)) _ (Some at) l.1) [
@@ -135,7 +135,7 @@ begun at d ks b u e c = elim (chosen (eqb b 34) (Some (Text Item Plain)) _ (Some
           | inr m ↦ elim (chosen (eqb b 110) (Some (Literal Ull)) _ (Some at) m.1) [
             | inl n ↦ at_byte (Values d ks) b 110 u n.0 (letters_then d ks 110 Ull u null_text (subst (λ (x : At). Completes x d ks u) (sym (some_is (Literal Ull) at n.1)) c))
             | inr n ↦ (let k = if_some (is_digit b) (Number InInteger) at n.1 in let q : Completes (Number InInteger) d ks u = subst (λ (x : At). Completes x d ks u) (sym k.1) c in
-                scalar_then d ks b q.x q.v u (number_text (subst (λ (y : List ℕ). IsNumber (b ∷ y)) (sym q.first.whole) (number_made [] (b ∷ q.first.x) q.first.v absent (counted k.0 (λ same. absurd (let f = j.0 in cc)) q.first.first) q.first.then))) q.then q.whole)
+                scalar_then d ks b q.x q.v u (number_text (subst (λ (y : List ℕ). IsNumber (b ∷ y)) (sym q.first.whole) (number_made [] (b ∷ q.first.x) q.first.v absent (no_zero_first k.0 (λ same. absurd (let f = j.0 in cc)) q.first.first) q.first.then))) q.then q.whole)
           ]
         ]
       ]

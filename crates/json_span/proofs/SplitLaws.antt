@@ -109,6 +109,29 @@ map_some : (o : Option (List Member)) (f : List Member → List Member) (y : Lis
 map_some None f y e = absurd cc
 map_some (Some x) f y e = (x, refl)
 
+-- the first step of a reading to the end, and what the rest gives
+record FirstStep (n : ℕ) (s : State) (b : ℕ) (bs : List ℕ) : Type 0 where
+  t : State
+  m : Marks
+  rest : List Member
+  is : step s.at s.kinds s.room b ≡ Some t
+  reads : read n t m bs ≡ Some rest
+
+first_step : (n b : ℕ) (bs : List ℕ) (s : State) (m : Marks) (out : List Member) → read n s m (b ∷ bs) ≡ Some out → FirstStep n s b bs
+unfolding read
+first_step n b bs s m out e =
+    let p = n - length (b ∷ bs) in
+    let q = n - length bs in
+    let w = within s.at s.kinds in
+    let t = bind_some (step s.at s.kinds s.room b) (λ x. option_map (also (finished p q w (within x.at x.kinds) m)) (read n x (marked p q w (within x.at x.kinds) m) bs)) out e in
+    let v = within t.0.at t.0.kinds in
+    let more = map_some (read n t.0 (marked p q w v m) bs) (also (finished p q w v m)) out t.2 in
+    record { t = t.0; m = marked p q w v m; rest = more.0; is = t.1; reads = more.1 }
+
+run_on : (s t u : State) (b : ℕ) (bs : List ℕ) → step s.at s.kinds s.room b ≡ Some t → run t bs ≡ Some u → run s (b ∷ bs) ≡ Some u
+unfolding run
+run_on s t u b bs e f = rw e f
+
 read_run : (n : ℕ) (u : List ℕ) (s : State) (m : Marks) (out : List Member) → read n s m u ≡ Some out → (t : State) × (run s u ≡ Some t) × (is_done t.at t.kinds ≡ true)
 unfolding read run
 read_run n [] s m out e = (s, refl, done (is_done s.at s.kinds) e)
@@ -117,10 +140,9 @@ read_run n [] s m out e = (s, refl, done (is_done s.at s.kinds) e)
     done true e = refl
     done false e = absurd cc
 read_run n (b ∷ bs) s m out e =
-    let t = bind_some (step s.at s.kinds s.room b) (λ x. option_map (also (finished (n - length (b ∷ bs)) (n - length bs) (within s.at s.kinds) (within x.at x.kinds) m)) (read n x (marked (n - length (b ∷ bs)) (n - length bs) (within s.at s.kinds) (within x.at x.kinds) m) bs)) out e in
-    let more = map_some (read n t.0 (marked (n - length (b ∷ bs)) (n - length bs) (within s.at s.kinds) (within t.0.at t.0.kinds) m) bs) (also (finished (n - length (b ∷ bs)) (n - length bs) (within s.at s.kinds) (within t.0.at t.0.kinds) m)) out t.2 in
-    let r = read_run n bs t.0 (marked (n - length (b ∷ bs)) (n - length bs) (within s.at s.kinds) (within t.0.at t.0.kinds) m) more.0 more.1 in
-    (r.0, ap (λ (o : Option State). o >>= λ x. run x bs) t.1 ∙ r.1, r.2)
+    let f = first_step n b bs s m out e in
+    let r = read_run n bs f.t f.m f.rest f.reads in
+    (r.0, run_on s f.t r.0 b bs f.is r.1, r.2)
 
 -- The machine finds no other parts.
 pub split_found : (k : Kind) (text : List ℕ) (ms : List Member) → split_of k text ≡ Some ms → IsSplit k text ms

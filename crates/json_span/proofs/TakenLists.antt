@@ -4,7 +4,7 @@ use Rattle.std.specs.List.{AllByRecursion}
 use Rattle.std.specs.Prelude.{codes}
 use Rattle.std.proofs.lemmas.Bool.{eqb-true}
 use Rattle.std.proofs.lemmas.Bool.Decides.{nat_tests}
-use Rattle.json_span.specs.Grammar.{Each, is_space, is_digit, is_power, is_minus, Scalar, Whole, Optional, Fraction, Power, nought, counted, absent, present, string_text, number_text, true_text, false_text, null_text, open_of, close_of, Piece, piece_text, IsColon, IsNamed, IsPiece, commas, Inside, IsList, ValueWithin}
+use Rattle.json_span.specs.Grammar.{Each, is_space, is_digit, is_exponent_letter, is_minus, Scalar, Integer, Optional, Fraction, Exponent, zero_digit, no_zero_first, absent, present, string_text, number_text, true_text, false_text, null_text, open_of, close_of, Piece, piece_text, IsColon, IsNamed, IsPiece, commas, Inside, IsList, ValueWithin}
 use Rattle.json_span.specs.Machine.{State, go_to, scalar_begin, push, value_begin, part_begin, fresh_step, after_step, begin_step, step}
 use Rattle.json_span.specs.Nest.{is_deep}
 use Rattle.json_span.specs.Machine.{within, no_marks, span_to}
@@ -89,10 +89,10 @@ digit_begins : (ks : List Kind) (d b : ℕ) → is_digit b ≡ true → eqb b 48
 unfolding value_begin
 digit_begins ks d b t z = let g = digit_tests b t in let a = g.a in let o = g.o in let sc = scalar_digit b t z in rw (a, o, sc) refl
 
-number_start : (n : ℕ) (ks : List Kind) (d : ℕ) (m : Marks) (out : List Member) (s i f e v : List ℕ) → Optional is_minus s → Whole i → Fraction f → Power e → EndsHere n ks d m v out → Start n ks d m (s ++ (i ++ (f ++ (e ++ v)))) out
-number_start n ks d m out s i f e v absent nought fr po here =
+number_start : (n : ℕ) (ks : List Kind) (d : ℕ) (m : Marks) (out : List Member) (s i f e v : List ℕ) → Optional is_minus s → Integer i → Fraction f → Exponent e → EndsHere n ks d m v out → Start n ks d m (s ++ (i ++ (f ++ (e ++ v)))) out
+number_start n ks d m out s i f e v absent zero_digit fr po here =
     record { b = 48; bs = f ++ (e ++ v); at = refl; no_space = refl; no_array = refl; no_object = refl; t = S (Number AfterZero) ks d; is = zero_begins ks d; part = in_number refl; acc = takes_zero n ks d m out f e v fr po here }
-number_start n ks d m out s i f e v absent (counted {b} {t} is ne each) fr po here =
+number_start n ks d m out s i f e v absent (no_zero_first {b} {t} is ne each) fr po here =
     let g = digit_tests b is in
     record { b = b; bs = t ++ (f ++ (e ++ v)); at = refl; no_space = g.s; no_array = g.ca; no_object = g.co; t = S (Number InInteger) ks d; is = digit_begins ks d b is (not_true (eqb b 48) ne); part = in_number refl; acc = takes_integer n ks d m out t f e v each fr po here }
 number_start n ks d m out s i f e v (present {b = c} ism) w fr po here =
@@ -233,14 +233,14 @@ takes_front n at o Object ks d m name middle u out named s =
 
 -- ---- parts
 
-space_stops : (b : ℕ) → is_space b ≡ true → (is_digit b ≡ false) × (eqb b 46 ≡ false) × (is_power b ≡ false)
+space_stops : (b : ℕ) → is_space b ≡ true → (is_digit b ≡ false) × (eqb b 46 ≡ false) × (is_exponent_letter b ≡ false)
 space_stops b t = (grind (arith, nat_tests), grind (arith, nat_tests), grind (arith, nat_tests))
 
 tail_of : (k : Kind) (before : List ℕ) (ps : List Piece) (v : List ℕ) → Each is_space before → Tail (before ++ (commas ps ++ close_of k ∷ v))
-tail_of Array [] [] v each = record { c = 93; cs = v; at = refl; no_digit = refl; no_point = refl; no_power = refl }
-tail_of Object [] [] v each = record { c = 125; cs = v; at = refl; no_digit = refl; no_point = refl; no_power = refl }
-tail_of k [] (p ∷ ps) v each = record { c = 44; cs = (piece_text p ++ commas ps) ++ close_of k ∷ v; at = refl; no_digit = refl; no_point = refl; no_power = refl }
-tail_of k (b ∷ bs) ps v each = let t = space_stops b each.0 in record { c = b; cs = bs ++ (commas ps ++ close_of k ∷ v); at = refl; no_digit = t.0; no_point = t.1; no_power = t.2 }
+tail_of Array [] [] v each = record { c = 93; cs = v; at = refl; no_digit = refl; no_point = refl; no_exponent = refl }
+tail_of Object [] [] v each = record { c = 125; cs = v; at = refl; no_digit = refl; no_point = refl; no_exponent = refl }
+tail_of k [] (p ∷ ps) v each = record { c = 44; cs = (piece_text p ++ commas ps) ++ close_of k ∷ v; at = refl; no_digit = refl; no_point = refl; no_exponent = refl }
+tail_of k (b ∷ bs) ps v each = let t = space_stops b each.0 in record { c = b; cs = bs ++ (commas ps ++ close_of k ∷ v); at = refl; no_digit = t.0; no_point = t.1; no_exponent = t.2 }
 
 -- a value stands at the front, with any text behind it with which no number goes on
 abbrev pub ValueStarts : ℕ → ℕ → Type 0

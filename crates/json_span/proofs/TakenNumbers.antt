@@ -1,7 +1,7 @@
 -- Numbers are taken whole.
 use Rattle.std.proofs.Common.{◌≡◌, ℕ, suc, Bool, true, false, cond, eqb, List, [], ◌∷◌, ◌++◌, Option, Some, None, refl, sym, ap, subst, ◌∙◌, append_assoc, arith, inl, inr}
 use Rattle.std.proofs.lemmas.Bool.Decides.{nat_tests}
-use Rattle.json_span.specs.Grammar.{Each, is_space, is_digit, is_sign, is_power, Digits, Whole, Optional, Fraction, Power, digits, nought, counted, absent, present, no_fraction, point_digits, no_power, power_digits, close_of}
+use Rattle.json_span.specs.Grammar.{Each, is_space, is_digit, is_sign, is_exponent_letter, Digits, Integer, Optional, Fraction, Exponent, digits, zero_digit, no_zero_first, absent, present, no_fraction, point_digits, no_exponent, exponent_digits, close_of}
 use Rattle.json_span.specs.Machine.{◌>>=◌, State, go_to, number_step, may_end, after_step, step}
 use Rattle.json_span.specs.Nest.{is_deep}
 use Rattle.json_span.specs.Machine.{read, within, marked, finished, also, no_marks, span_to}
@@ -27,7 +27,7 @@ pub record Tail (v : List ℕ) : Type 0 where
   pub at : v ≡ c ∷ cs
   pub no_digit : is_digit c ≡ false
   pub no_point : eqb c 46 ≡ false
-  pub no_power : is_power c ≡ false
+  pub no_exponent : is_exponent_letter c ≡ false
 
 num_on : (n m : NumberAt) (ks : List Kind) (d b : ℕ) → number_step n b ≡ Some m → step (Number n) ks d b ≡ go_to (Number m) ks d
 unfolding step
@@ -41,7 +41,7 @@ after_on : (ks : List Kind) (d b : ℕ) → step After ks d b ≡ after_step ks 
 unfolding step
 after_on ks d b = refl
 
-num_stops : (n : NumberAt) (c : ℕ) → may_end n ≡ true → is_digit c ≡ false → eqb c 46 ≡ false → is_power c ≡ false → number_step n c ≡ None
+num_stops : (n : NumberAt) (c : ℕ) → may_end n ≡ true → is_digit c ≡ false → eqb c 46 ≡ false → is_exponent_letter c ≡ false → number_step n c ≡ None
 unfolding number_step
 num_stops AfterMinus c e p q r = absurd cc
 num_stops AfterZero c e p q r = rw (q, r) refl
@@ -110,7 +110,7 @@ flat_number n num ks d m c cs out e flat on =
 -- a byte that ends a number leads where it leads behind a value
 pub takes_behind : (n : ℕ) (num : NumberAt) (ks : List Kind) (d : ℕ) (m : Marks) (v : List ℕ) (out : List Member) → may_end num ≡ true → Tail v → Takes n (S After ks d) (settled ks m) v out → Takes n (S (Number num) ks d) m v (ended ks m (place_of n v) out)
 takes_behind n num ks d m v out e tail a = subst (λ (x : List ℕ). Takes n (S (Number num) ks d) m x (ended ks m (place_of n x) out)) (sym tail.at)
-    (go (is_deep ks) refl (num_off num ks d tail.c (num_stops num tail.c e tail.no_digit tail.no_point tail.no_power) e ∙ sym (after_on ks d tail.c))
+    (go (is_deep ks) refl (num_off num ks d tail.c (num_stops num tail.c e tail.no_digit tail.no_point tail.no_exponent) e ∙ sym (after_on ks d tail.c))
     (subst (λ (x : List ℕ). Takes n (S After ks d) (settled ks m) x out) tail.at a))
   where
     go : (deep : Bool) → is_deep ks ≡ deep → step (Number num) ks d tail.c ≡ step After ks d tail.c → Takes n (S After ks d) (settled ks m) (tail.c ∷ tail.cs) out → Takes n (S (Number num) ks d) m (tail.c ∷ tail.cs) (ended ks m (place_of n (tail.c ∷ tail.cs)) out)
@@ -158,23 +158,23 @@ exp_sign : (b : ℕ) → is_sign b ≡ true → number_step AfterE b ≡ Some Af
 unfolding number_step
 exp_sign b t = rw t refl
 
-power_tests : (b : ℕ) → is_power b ≡ true → (is_digit b ≡ false) × (eqb b 46 ≡ false)
+power_tests : (b : ℕ) → is_exponent_letter b ≡ true → (is_digit b ≡ false) × (eqb b 46 ≡ false)
 power_tests b t = (grind (arith, nat_tests), grind (arith, nat_tests))
 
-frac_power : (b : ℕ) → is_power b ≡ true → number_step InFraction b ≡ Some AfterE
+frac_power : (b : ℕ) → is_exponent_letter b ≡ true → number_step InFraction b ≡ Some AfterE
 unfolding number_step
-frac_power b t = let p = power_tests b t in subst (λ (x : Bool). cond x (Some InFraction) (cond (is_power b) (Some AfterE) None) ≡ Some AfterE) (sym p.0) (rw t refl)
+frac_power b t = let p = power_tests b t in subst (λ (x : Bool). cond x (Some InFraction) (cond (is_exponent_letter b) (Some AfterE) None) ≡ Some AfterE) (sym p.0) (rw t refl)
 
-tail_power : (b : ℕ) → is_power b ≡ true → cond (eqb b 46) (Some AfterPoint) (cond (is_power b) (Some AfterE) None) ≡ Some AfterE
-tail_power b t = let p = power_tests b t in subst (λ (x : Bool). cond x (Some AfterPoint) (cond (is_power b) (Some AfterE) None) ≡ Some AfterE) (sym p.1) (rw t refl)
+tail_power : (b : ℕ) → is_exponent_letter b ≡ true → cond (eqb b 46) (Some AfterPoint) (cond (is_exponent_letter b) (Some AfterE) None) ≡ Some AfterE
+tail_power b t = let p = power_tests b t in subst (λ (x : Bool). cond x (Some AfterPoint) (cond (is_exponent_letter b) (Some AfterE) None) ≡ Some AfterE) (sym p.1) (rw t refl)
 
-zero_power : (b : ℕ) → is_power b ≡ true → number_step AfterZero b ≡ Some AfterE
+zero_power : (b : ℕ) → is_exponent_letter b ≡ true → number_step AfterZero b ≡ Some AfterE
 unfolding number_step
 zero_power b t = tail_power b t
 
-int_power : (b : ℕ) → is_power b ≡ true → number_step InInteger b ≡ Some AfterE
+int_power : (b : ℕ) → is_exponent_letter b ≡ true → number_step InInteger b ≡ Some AfterE
 unfolding number_step
-int_power b t = let p = power_tests b t in subst (λ (x : Bool). cond x (Some InInteger) (cond (eqb b 46) (Some AfterPoint) (cond (is_power b) (Some AfterE) None)) ≡ Some AfterE) (sym p.0) (tail_power b t)
+int_power b t = let p = power_tests b t in subst (λ (x : Bool). cond x (Some InInteger) (cond (eqb b 46) (Some AfterPoint) (cond (is_exponent_letter b) (Some AfterE) None)) ≡ Some AfterE) (sym p.0) (tail_power b t)
 
 zero_dot : number_step AfterZero 46 ≡ Some AfterPoint
 unfolding number_step
@@ -199,14 +199,14 @@ takes_signed n ks d m out sign x v absent ds here = takes_exponent_digits n Afte
 takes_signed n ks d m out sign x v (present {b} is) ds here =
     takes_on n (Number AfterE) ks d b (S (Number AfterSign) ks d) m (x ++ v) out (num_on AfterE AfterSign ks d b (exp_sign b is)) refl (takes_exponent_digits n AfterSign ks d m out sign_digit x v ds here)
 
-takes_exponent : (n : ℕ) (num : NumberAt) (ks : List Kind) (d : ℕ) (m : Marks) (out : List Member) → may_end num ≡ true → ((b : ℕ) → is_power b ≡ true → number_step num b ≡ Some AfterE) → (x v : List ℕ) → Power x → EndsHere n ks d m v out → Takes n (S (Number num) ks d) m (x ++ v) out
-takes_exponent n num ks d m out e go x v no_power here = here num e
-takes_exponent n num ks d m out e go x v (power_digits {b} {sign} {t} is sg ds) here =
+takes_exponent : (n : ℕ) (num : NumberAt) (ks : List Kind) (d : ℕ) (m : Marks) (out : List Member) → may_end num ≡ true → ((b : ℕ) → is_exponent_letter b ≡ true → number_step num b ≡ Some AfterE) → (x v : List ℕ) → Exponent x → EndsHere n ks d m v out → Takes n (S (Number num) ks d) m (x ++ v) out
+takes_exponent n num ks d m out e go x v no_exponent here = here num e
+takes_exponent n num ks d m out e go x v (exponent_digits {b} {sign} {t} is sg ds) here =
     takes_on n (Number num) ks d b (S (Number AfterE) ks d) m ((sign ++ t) ++ v) out (num_on num AfterE ks d b (go b is)) refl
     (subst (λ (y : List ℕ). Takes n (S (Number AfterE) ks d) m y out) (sym (append_assoc sign t v)) (takes_signed n ks d m out sign t v sg ds here))
 
-takes_fraction : (n : ℕ) (num : NumberAt) (ks : List Kind) (d : ℕ) (m : Marks) (out : List Member) → may_end num ≡ true → number_step num 46 ≡ Some AfterPoint → ((b : ℕ) → is_power b ≡ true → number_step num b ≡ Some AfterE)
-    → (x y v : List ℕ) → Fraction x → Power y → EndsHere n ks d m v out → Takes n (S (Number num) ks d) m (x ++ (y ++ v)) out
+takes_fraction : (n : ℕ) (num : NumberAt) (ks : List Kind) (d : ℕ) (m : Marks) (out : List Member) → may_end num ≡ true → number_step num 46 ≡ Some AfterPoint → ((b : ℕ) → is_exponent_letter b ≡ true → number_step num b ≡ Some AfterE)
+    → (x y v : List ℕ) → Fraction x → Exponent y → EndsHere n ks d m v out → Takes n (S (Number num) ks d) m (x ++ (y ++ v)) out
 takes_fraction n num ks d m out e dot go x y v no_fraction p here = takes_exponent n num ks d m out e go y v p here
 takes_fraction n num ks d m out e dot go x y v (point_digits {t} ds) p here = takes_on n (Number num) ks d 46 (S (Number AfterPoint) ks d) m (t ++ (y ++ v)) out (num_on num AfterPoint ks d 46 dot) refl (dotted t ds)
   where
@@ -215,10 +215,10 @@ takes_fraction n num ks d m out e dot go x y v (point_digits {t} ds) p here = ta
         takes_on n (Number AfterPoint) ks d b (S (Number InFraction) ks d) m (u ++ (y ++ v)) out (num_on AfterPoint InFraction ks d b (dot_digit b is)) refl
         (takes_digits n InFraction ks d m out frac_self u (y ++ v) each (takes_exponent n InFraction ks d m out refl frac_power y v p here))
 
-pub takes_zero : (n : ℕ) (ks : List Kind) (d : ℕ) (m : Marks) (out : List Member) (f e v : List ℕ) → Fraction f → Power e → EndsHere n ks d m v out → Takes n (S (Number AfterZero) ks d) m (f ++ (e ++ v)) out
+pub takes_zero : (n : ℕ) (ks : List Kind) (d : ℕ) (m : Marks) (out : List Member) (f e v : List ℕ) → Fraction f → Exponent e → EndsHere n ks d m v out → Takes n (S (Number AfterZero) ks d) m (f ++ (e ++ v)) out
 takes_zero n ks d m out f e v fr po here = takes_fraction n AfterZero ks d m out refl zero_dot zero_power f e v fr po here
 
-pub takes_integer : (n : ℕ) (ks : List Kind) (d : ℕ) (m : Marks) (out : List Member) (x f e v : List ℕ) → Each is_digit x → Fraction f → Power e → EndsHere n ks d m v out → Takes n (S (Number InInteger) ks d) m (x ++ (f ++ (e ++ v))) out
+pub takes_integer : (n : ℕ) (ks : List Kind) (d : ℕ) (m : Marks) (out : List Member) (x f e v : List ℕ) → Each is_digit x → Fraction f → Exponent e → EndsHere n ks d m v out → Takes n (S (Number InInteger) ks d) m (x ++ (f ++ (e ++ v))) out
 takes_integer n ks d m out x f e v each fr po here = takes_digits n InInteger ks d m out int_self x (f ++ (e ++ v)) each (takes_fraction n InInteger ks d m out refl int_dot int_power f e v fr po here)
 
 minus_zero : number_step AfterMinus 48 ≡ Some AfterZero
@@ -229,7 +229,7 @@ minus_digit : (b : ℕ) → is_digit b ≡ true → eqb b 48 ≡ false → numbe
 unfolding number_step
 minus_digit b t z = rw (z, t) refl
 
-pub takes_minus : (n : ℕ) (ks : List Kind) (d : ℕ) (m : Marks) (out : List Member) (i f e v : List ℕ) → Whole i → Fraction f → Power e → EndsHere n ks d m v out → Takes n (S (Number AfterMinus) ks d) m (i ++ (f ++ (e ++ v))) out
-takes_minus n ks d m out i f e v nought fr po here = takes_on n (Number AfterMinus) ks d 48 (S (Number AfterZero) ks d) m (f ++ (e ++ v)) out (num_on AfterMinus AfterZero ks d 48 minus_zero) refl (takes_zero n ks d m out f e v fr po here)
-takes_minus n ks d m out i f e v (counted {b} {t} is ne each) fr po here =
+pub takes_minus : (n : ℕ) (ks : List Kind) (d : ℕ) (m : Marks) (out : List Member) (i f e v : List ℕ) → Integer i → Fraction f → Exponent e → EndsHere n ks d m v out → Takes n (S (Number AfterMinus) ks d) m (i ++ (f ++ (e ++ v))) out
+takes_minus n ks d m out i f e v zero_digit fr po here = takes_on n (Number AfterMinus) ks d 48 (S (Number AfterZero) ks d) m (f ++ (e ++ v)) out (num_on AfterMinus AfterZero ks d 48 minus_zero) refl (takes_zero n ks d m out f e v fr po here)
+takes_minus n ks d m out i f e v (no_zero_first {b} {t} is ne each) fr po here =
     takes_on n (Number AfterMinus) ks d b (S (Number InInteger) ks d) m (t ++ (f ++ (e ++ v))) out (num_on AfterMinus InInteger ks d b (minus_digit b is (not_true (eqb b 48) ne))) refl (takes_integer n ks d m out t f e v each fr po here)

@@ -5,7 +5,7 @@ use Rattle.std.specs.Fmt.{decimal}
 use Rattle.std.proofs.lemmas.Fmt.{decimal_by_steps, decimal_digit}
 use Rattle.std.proofs.lemmas.List.{append-nil}
 use Rattle.std.proofs.lemmas.Bool.Decides.{nat_tests}
-use Rattle.json_span.specs.Grammar.{Each, is_digit, Chars, no_chars, plain_char, escaped_char, unicode_char, IsString, Whole, nought, counted, absent, no_fraction, no_power, IsNumber, Scalar, string_text, number_text, Piece, IsPiece, Inside, ValueWithin, IsValueText}
+use Rattle.json_span.specs.Grammar.{Each, is_digit, Chars, no_chars, plain_char, escaped_char, unicode_char, IsString, Integer, zero_digit, no_zero_first, absent, no_fraction, no_exponent, IsNumber, Scalar, string_text, number_text, Piece, IsPiece, Inside, ValueWithin, IsValueText}
 use Rattle.json_span.specs.declared.state.Kind.{Kind}
 
 -- ---- scalars
@@ -31,7 +31,7 @@ chars_joined a b (unicode_char {t} p q r s is) more = unicode_char p q r s (char
 
 -- ---- decimals
 
--- the digits of a number: no zero in front, but for the number nought
+-- the digits of a number: no zero in front, but for the number zero_digit
 record Decimal (n : ℕ) (ds : List ℕ) : Type 0 where
   b : ℕ
   t : List ℕ
@@ -62,15 +62,15 @@ more_digits n ds le is =
 decimal_is : (n : ℕ) → n < 2 ^ 64 → Decimal n (decimal n)
 decimal_is n lt = decimal_by_steps Decimal one_digit more_digits n lt
 
-whole_decimal : (n : ℕ) → n < 2 ^ 64 → Whole (decimal n)
-whole_decimal zero lt = subst Whole (sym (decimal_digit 0 (omega arith))) nought
+whole_decimal : (n : ℕ) → n < 2 ^ 64 → Integer (decimal n)
+whole_decimal zero lt = subst Integer (sym (decimal_digit 0 (omega arith))) zero_digit
 whole_decimal (suc n) lt =
     let is = decimal_is (suc n) lt in
     let f : eqb is.b 48 ≡ false = is.first (omega arith) in
-    subst Whole (sym is.at) (counted is.digit (λ same. absurd cc) is.each)
+    subst Integer (sym is.at) (no_zero_first is.digit (λ same. absurd cc) is.each)
 
-integer_number : (t : List ℕ) → Whole t → IsNumber t
-integer_number t is = record { sign = []; integer = t; fraction = []; exponent = []; is_sign = absent; is_integer = is; is_fraction = no_fraction; is_exponent = no_power; whole = sym (append-nil t) }
+integer_number : (t : List ℕ) → Integer t → IsNumber t
+integer_number t is = record { sign = []; integer = t; fraction = []; exponent = []; is_sign = absent; is_integer = is; is_fraction = no_fraction; is_exponent = no_exponent; whole = sym (append-nil t) }
 
 pub decimal_value : (d n : ℕ) → n < 2 ^ 64 → IsValueText d (decimal n)
 decimal_value d n lt = scalar_is d (decimal n) (number_text (integer_number (decimal n) (whole_decimal n lt)))

@@ -3,7 +3,7 @@ use Rattle.std.proofs.Common.{◌≡◌, ℕ, zero, suc, ◌+◌, Bool, true, fa
 use Rattle.std.specs.List.{AllByRecursion}
 use Rattle.std.proofs.lemmas.List.{append-nil}
 use Rattle.std.specs.Prelude.{codes}
-use Rattle.json_span.specs.Grammar.{Each, is_space, is_digit, IsString, Fraction, Power, no_chars, escaped_char, digits, nought, absent, no_fraction, no_power, null_text, open_of, close_of, Piece, piece_text, IsPiece, commas, ValueWithin, IsPartText, places, IsSplit}
+use Rattle.json_span.specs.Grammar.{Each, is_space, is_digit, IsString, Fraction, Exponent, no_chars, escaped_char, digits, zero_digit, absent, no_fraction, no_exponent, null_text, open_of, close_of, Piece, piece_text, IsPiece, commas, ValueWithin, IsPartText, places, IsSplit}
 use Rattle.json_span.specs.Machine.{◌>>=◌, State, go_to, string_step, ends_string, behind, number_step, may_end, letter, next_letters, scalar_begin, push, value_begin, part_begin, fresh_step, after_step, number_goes, literal_goes, begin_step, step, start, run, is_done}
 use Rattle.json_span.specs.declared.Member.{Member}
 use Rattle.json_span.specs.declared.state.Kind.{Kind}
@@ -54,14 +54,14 @@ some_chars Three = (48 ∷ 48 ∷ 48 ∷ [], (refl, (refl, (refl, no_chars))))
 some_chars Two = (48 ∷ 48 ∷ [], (refl, (refl, no_chars)))
 some_chars One = (48 ∷ [], (refl, no_chars))
 
-pub ends_now : Then Fraction Power []
-ends_now = record { x = []; v = []; first = no_fraction; then = no_power; whole = refl }
+pub ends_now : Then Fraction Exponent []
+ends_now = record { x = []; v = []; first = no_fraction; then = no_exponent; whole = refl }
 
 pub some_num : (n : NumberAt) → (u : List ℕ) × NumRest n u
-some_num AfterMinus = (48 ∷ [], record { x = 48 ∷ []; v = []; first = nought; then = ends_now; whole = refl })
+some_num AfterMinus = (48 ∷ [], record { x = 48 ∷ []; v = []; first = zero_digit; then = ends_now; whole = refl })
 some_num AfterZero = ([], num_ended AfterZero refl)
 some_num InInteger = ([], num_ended InInteger refl)
-some_num AfterPoint = (48 ∷ [], record { x = 48 ∷ []; v = []; first = digits refl tt; then = no_power; whole = refl })
+some_num AfterPoint = (48 ∷ [], record { x = 48 ∷ []; v = []; first = digits refl tt; then = no_exponent; whole = refl })
 some_num InFraction = ([], num_ended InFraction refl)
 some_num AfterE = (48 ∷ [], record { x = []; v = 48 ∷ []; first = absent; then = digits refl tt; whole = refl })
 some_num AfterSign = (48 ∷ [], digits refl tt)

@@ -8,12 +8,15 @@ use Rattle.json_span.specs.declared.state.Kind.TheVariants.{Array, Object}
 
 -- ---- bytes
 
+-- white space: space, tab, line feed, carriage return (RFC 8259, section 2)
 abbrev pub is_space : ℕ → Bool
 is_space b = (b == 32) || (b == 9) || (b == 10) || (b == 13)
 
+-- a decimal digit
 abbrev pub is_digit : ℕ → Bool
 is_digit b = not (nat_lt b 48) && nat_lt b 58
 
+-- a hexadecimal digit of either case
 abbrev pub is_hex : ℕ → Bool
 is_hex b = is_digit b || (not (nat_lt b 65) && nat_lt b 71) || (not (nat_lt b 97) && nat_lt b 103)
 
@@ -25,17 +28,20 @@ is_plain b = not (nat_lt b 32) && not (b == 34) && not (b == 92)
 abbrev pub is_escape : ℕ → Bool
 is_escape b = (b == 34) || (b == 92) || (b == 47) || (b == 98) || (b == 102) || (b == 110) || (b == 114) || (b == 116)
 
+-- each byte of the text passes
 abbrev pub Each : (ℕ → Bool) → List ℕ → Type 0
 Each p text = AllByRecursion (λ b. p b ≡ true) text
 
 -- ---- strings
 
+-- the inside of a string: bytes that stand for themselves, and escapes (RFC 8259, section 7)
 pub data Chars : List ℕ → Type 0 where
   no_chars : Chars []
   plain_char : {b : ℕ} {t : List ℕ} → is_plain b ≡ true → Chars t → Chars (b ∷ t)
   escaped_char : {b : ℕ} {t : List ℕ} → is_escape b ≡ true → Chars t → Chars (92 ∷ b ∷ t)
   unicode_char : {a b c d : ℕ} {t : List ℕ} → is_hex a ≡ true → is_hex b ≡ true → is_hex c ≡ true → is_hex d ≡ true → Chars t → Chars (92 ∷ 117 ∷ a ∷ b ∷ c ∷ d ∷ t)
 
+-- a string: its inside between quotes
 pub record IsString (text : List ℕ) : Type 0 where
   pub inner : List ℕ
   pub chars : Chars inner
@@ -43,49 +49,57 @@ pub record IsString (text : List ℕ) : Type 0 where
 
 -- ---- numbers
 
+-- one or more digits
 pub data Digits : List ℕ → Type 0 where
   digits : {b : ℕ} {t : List ℕ} → is_digit b ≡ true → Each is_digit t → Digits (b ∷ t)
 
 -- no zero in front of a digit
-pub data Whole : List ℕ → Type 0 where
-  nought : Whole (48 ∷ [])
-  counted : {b : ℕ} {t : List ℕ} → is_digit b ≡ true → (b == 48) ≢ true → Each is_digit t → Whole (b ∷ t)
+pub data Integer : List ℕ → Type 0 where
+  zero_digit : Integer (48 ∷ [])
+  no_zero_first : {b : ℕ} {t : List ℕ} → is_digit b ≡ true → (b == 48) ≢ true → Each is_digit t → Integer (b ∷ t)
 
 -- one byte, or none
 pub data Optional (p : ℕ → Bool) : List ℕ → Type 0 where
   absent : Optional p []
   present : {b : ℕ} → p b ≡ true → Optional p (b ∷ [])
 
+-- a point and digits, or nothing (RFC 8259, section 6)
 pub data Fraction : List ℕ → Type 0 where
   no_fraction : Fraction []
   point_digits : {t : List ℕ} → Digits t → Fraction (46 ∷ t)
 
+-- the sign in front of a number
 abbrev pub is_minus : ℕ → Bool
 is_minus b = b == 45
 
+-- the sign of an exponent
 abbrev pub is_sign : ℕ → Bool
 is_sign b = (b == 43) || (b == 45)
 
-abbrev pub is_power : ℕ → Bool
-is_power b = (b == 69) || (b == 101)
+-- the letter before an exponent
+abbrev pub is_exponent_letter : ℕ → Bool
+is_exponent_letter b = (b == 69) || (b == 101)
 
-pub data Power : List ℕ → Type 0 where
-  no_power : Power []
-  power_digits : {b : ℕ} {sign t : List ℕ} → is_power b ≡ true → Optional is_sign sign → Digits t → Power (b ∷ sign ++ t)
+-- a letter, an optional sign and digits, or nothing
+pub data Exponent : List ℕ → Type 0 where
+  no_exponent : Exponent []
+  exponent_digits : {b : ℕ} {sign t : List ℕ} → is_exponent_letter b ≡ true → Optional is_sign sign → Digits t → Exponent (b ∷ sign ++ t)
 
+-- a number: an optional minus, an integer, a fraction and an exponent
 pub record IsNumber (text : List ℕ) : Type 0 where
   pub sign : List ℕ
   pub integer : List ℕ
   pub fraction : List ℕ
   pub exponent : List ℕ
   pub is_sign : Optional is_minus sign
-  pub is_integer : Whole integer
+  pub is_integer : Integer integer
   pub is_fraction : Fraction fraction
-  pub is_exponent : Power exponent
+  pub is_exponent : Exponent exponent
   pub whole : text ≡ sign ++ (integer ++ (fraction ++ exponent))
 
 -- ---- values
 
+-- a value that is no list: a string, a number or a literal (RFC 8259, section 3)
 pub data Scalar : List ℕ → Type 0 where
   string_text : {t : List ℕ} → IsString t → Scalar t
   number_text : {t : List ℕ} → IsNumber t → Scalar t
@@ -93,10 +107,12 @@ pub data Scalar : List ℕ → Type 0 where
   false_text : Scalar (codes "false")
   null_text : Scalar (codes "null")
 
+-- the bracket that opens a list
 abbrev pub open_of : Kind → ℕ
 open_of Array = 91
 open_of Object = 123
 
+-- the bracket that closes a list
 abbrev pub close_of : Kind → ℕ
 close_of Array = 93
 close_of Object = 125
@@ -109,6 +125,7 @@ pub record Piece : Type 0 where
   pub value : List ℕ
   pub after : List ℕ
 
+-- the text of a piece
 abbrev pub piece_text : Piece → List ℕ
 piece_text p = p.before ++ (p.name ++ (p.middle ++ (p.value ++ p.after)))
 
@@ -120,6 +137,7 @@ pub record IsColon (text : List ℕ) : Type 0 where
   pub is_after : Each is_space after
   pub whole : text ≡ before ++ 58 ∷ after
 
+-- in an object a string stands before the value, and a colon between them; in an array nothing does
 abbrev pub IsNamed : Kind → List ℕ → List ℕ → Type 0
 IsNamed Array name middle = (name ≡ []) × (middle ≡ [])
 IsNamed Object name middle = IsString name × IsColon middle
@@ -141,6 +159,7 @@ abbrev pub Inside : Kind → (List ℕ → Type 0) → List ℕ → List Piece �
 Inside k V inner [] = Each is_space inner
 Inside k V inner (p ∷ ps) = IsPiece k V p × AllByRecursion (IsPiece k V) ps × (inner ≡ piece_text p ++ commas ps)
 
+-- an array or an object, of pieces whose values are such texts (RFC 8259, sections 4 and 5)
 pub record IsList (k : Kind) (V : List ℕ → Type 0) (text : List ℕ) : Type 0 where
   pub inner : List ℕ
   pub pieces : List Piece

@@ -1,7 +1,7 @@
 -- Reading a text byte by byte, as functions on lists. No part of the grammar: the laws in proofs/ tie the two.
 use Rattle.std.specs.Prelude.{ℕ, ◌-◌, Bool, true, false, List, [], ◌∷◌, Option, Some, None, ◌==◌, if◌then◌else◌, length}
 use Rattle.std.specs.Option.{option_map}
-use Rattle.json_span.specs.Grammar.{is_space, is_digit, is_hex, is_plain, is_escape, is_sign, is_power, open_of, close_of}
+use Rattle.json_span.specs.Grammar.{is_space, is_digit, is_hex, is_plain, is_escape, is_sign, is_exponent_letter, open_of, close_of}
 use Rattle.json_span.specs.Nest.{opened, closed, innermost, is_deep}
 use Rattle.json_span.specs.declared.Span.{Span}
 use Rattle.json_span.specs.declared.Member.{Member}
@@ -22,6 +22,7 @@ use Rattle.json_span.specs.declared.marks.Within.TheVariants.{Outside, InName, I
 use Rattle.json_span.specs.declared.marks.Marks.{Marks}
 
 infixl 10 ◌>>=◌
+-- what follows where there is a value
 abbrev pub ◌>>=◌ : {A B : Type 0} → Option A → (A → Option B) → Option B
 (Some x) >>= f = f x
 None >>= f = None
@@ -32,14 +33,17 @@ pub record State : Type 0 where
   pub kinds : List Kind
   pub room : ℕ
 
+-- a state that is reached
 abbrev pub go_to : At → List Kind → ℕ → Option State
 go_to at kinds room = Some (record { at = at; kinds = kinds; room = room })
 
 -- ---- strings
 
+-- behind one more hexadecimal digit
 abbrev pub hex_step : StringAt → ℕ → Option StringAt
 hex_step next b = if is_hex b then Some next else None
 
+-- a string's state behind a byte that does not end it
 unfoldable pub string_step : StringAt → ℕ → Option StringAt
 string_step Plain b = if b == 92 then Some Escaped else if is_plain b then Some Plain else None
 string_step Escaped b = if b == 117 then Some Four else if is_escape b then Some Plain else None
@@ -62,15 +66,17 @@ behind Item = After
 
 -- the byte begins an exponent
 abbrev pub exponent_begin : ℕ → Option NumberAt
-exponent_begin b = if is_power b then Some AfterE else None
+exponent_begin b = if is_exponent_letter b then Some AfterE else None
 
 -- the byte begins a fraction or an exponent
 abbrev pub fraction_begin : ℕ → Option NumberAt
 fraction_begin b = if b == 46 then Some AfterPoint else exponent_begin b
 
+-- a number's state behind a digit
 abbrev pub digit_step : NumberAt → ℕ → Option NumberAt
 digit_step next b = if is_digit b then Some next else None
 
+-- a number's state behind a byte that belongs to it
 unfoldable pub number_step : NumberAt → ℕ → Option NumberAt
 number_step AfterMinus b = if b == 48 then Some AfterZero else digit_step InInteger b
 number_step AfterZero b = fraction_begin b
@@ -117,6 +123,7 @@ next_letters L = None
 
 -- ---- steps
 
+-- behind the first byte of a value that is no list
 unfoldable pub scalar_begin : ℕ → Option At
 scalar_begin b =
     if b == 34 then Some (Text Item Plain)
@@ -132,6 +139,7 @@ scalar_begin b =
 unfoldable pub push : Kind → List Kind → ℕ → Option State
 push k kinds room = opened k kinds room >>= λ nest. go_to Fresh nest.0 nest.1
 
+-- behind the first byte of a value
 unfoldable pub value_begin : List Kind → ℕ → ℕ → Option State
 value_begin kinds room b =
     if b == 91 then push Array kinds room
@@ -142,21 +150,26 @@ value_begin kinds room b =
 abbrev pub close_list : List Kind → ℕ → Option State
 close_list kinds room = closed kinds room >>= λ nest. go_to After nest.0 nest.1
 
+-- behind the first byte of a part, by the kind of its list
 abbrev pub part_of : Option Kind → List Kind → ℕ → ℕ → Option State
 part_of None kinds room b = None
 part_of (Some Array) kinds room b = value_begin kinds room b
 part_of (Some Object) kinds room b = if b == 34 then go_to (Text Key Plain) kinds room else None
 
+-- behind the first byte of a part
 unfoldable pub part_begin : List Kind → ℕ → ℕ → Option State
 part_begin kinds room b = part_of (innermost kinds) kinds room b
 
+-- behind a list's first byte that is no white space, by its kind
 abbrev pub fresh_of : Option Kind → List Kind → ℕ → ℕ → Option State
 fresh_of None kinds room b = None
 fresh_of (Some k) kinds room b = if b == close_of k then close_list kinds room else part_begin kinds room b
 
+-- behind a list's first byte that is no white space
 unfoldable pub fresh_step : List Kind → ℕ → ℕ → Option State
 fresh_step kinds room b = fresh_of (innermost kinds) kinds room b
 
+-- behind a byte that follows a value and is no white space, by the kind of the list
 abbrev pub after_of : Option Kind → List Kind → ℕ → ℕ → Option State
 after_of None kinds room b = None
 after_of (Some k) kinds room b =
@@ -164,20 +177,25 @@ after_of (Some k) kinds room b =
     else if b == close_of k then close_list kinds room
     else None
 
+-- behind a byte that follows a value
 unfoldable pub after_step : List Kind → ℕ → ℕ → Option State
 after_step kinds room b = if is_space b then go_to After kinds room else after_of (innermost kinds) kinds room b
 
+-- behind a byte in a number: it belongs to the number, or to what follows it
 abbrev pub number_goes : NumberAt → List Kind → ℕ → ℕ → Option NumberAt → Option State
 number_goes n kinds room b (Some m) = go_to (Number m) kinds room
 number_goes n kinds room b None = if may_end n then after_step kinds room b else None
 
+-- behind a letter of a literal, by the letters that are to come
 abbrev pub literal_goes : Option LiteralAt → List Kind → ℕ → Option State
 literal_goes (Some l) kinds room = go_to (Literal l) kinds room
 literal_goes None kinds room = go_to After kinds room
 
+-- behind a byte of a string
 abbrev pub text_step : Role → StringAt → List Kind → ℕ → ℕ → Option State
 text_step role c kinds room b = if ends_string c b then go_to (behind role) kinds room else (string_step c b >>= λ d. go_to (Text role d) kinds room)
 
+-- behind a letter of a literal
 abbrev pub literal_step : LiteralAt → List Kind → ℕ → ℕ → Option State
 literal_step l kinds room b = if b == letter l then literal_goes (next_letters l) kinds room else None
 
@@ -190,9 +208,11 @@ begin_step Colon kinds room b = if b == 58 then go_to Value kinds room else None
 begin_step Value kinds room b = value_begin kinds room b
 begin_step _ kinds room b = None
 
+-- behind a byte where white space may stand
 abbrev pub spaced_step : At → List Kind → ℕ → ℕ → Option State
 spaced_step at kinds room b = if is_space b then go_to at kinds room else begin_step at kinds room b
 
+-- behind one more byte, or None where no text with a split goes on with it
 unfoldable pub step : At → List Kind → ℕ → ℕ → Option State
 step After kinds room b = after_step kinds room b
 step (Text role c) kinds room b = text_step role c kinds room b
@@ -220,6 +240,7 @@ run s (b ∷ bs) = step s.at s.kinds s.room b >>= λ t. run t bs
 
 -- ---- the parts of the outermost list
 
+-- the part of the outermost list, where no other list is open
 abbrev pub within_part : At → Within
 within_part (Text Key c) = InName
 within_part (Text Item c) = InValue
@@ -258,6 +279,7 @@ finished place next InNumber Outside m = Some (record { name = m.name; value = s
 finished place next InValue Outside m = Some (record { name = m.name; value = span_to m.from next })
 finished place next _ _ m = None
 
+-- a part that is whole in front of those that follow
 abbrev pub also : Option Member → List Member → List Member
 also None ms = ms
 also (Some m) ms = m ∷ ms

@@ -1,7 +1,7 @@
 //! The classes of bytes that JSON tells apart.
 
 ghost use Rattle.std.specs.Prelude.{◌≡◌};
-ghost use Rattle.json_span.specs.Grammar.{is_space, is_digit, is_hex, is_escape, is_plain, is_sign, is_power};
+ghost use Rattle.json_span.specs.Grammar.{is_space, is_digit, is_hex, is_escape, is_plain, is_sign, is_exponent_letter};
 
 /// White space: space, tab, line feed, carriage return (RFC 8259, section 2).
 pub fn space(b: u8) -> bool
@@ -53,8 +53,8 @@ pub fn sign(b: u8) -> bool
 }
 
 /// The letter before an exponent.
-pub fn power(b: u8) -> bool
-    ensures { result ≡ is_power b }
+pub fn exponent_letter(b: u8) -> bool
+    ensures { result ≡ is_exponent_letter b }
 {
     b == b'E' || b == b'e'
 }

@@ -6,7 +6,7 @@ ghost use Rattle.json_span.specs.Grammar.{open_of, close_of};
 ghost use Rattle.json_span.specs.Steps.{state_of};
 ghost use Rattle.json_span.specs.Machine.{start, push, value_begin, part_begin, fresh_step, after_step, step, text_step, literal_step, begin_step, is_done, within, number_goes};
 
-use crate::bytes::{digit, escape, hex, plain, power, sign, space};
+use crate::bytes::{digit, escape, exponent_letter, hex, plain, sign, space};
 use crate::marks::Within;
 use crate::nest::Nest;
 use crate::state::{At, Kind, LiteralAt, NumberAt, Role, StringAt};
@@ -100,7 +100,7 @@ fn behind(role: Role) -> At
 fn exponent_begin(b: u8) -> Option<NumberAt>
     ensures { result ≡ Rattle.json_span.specs.Machine.exponent_begin b }
 {
-    if power(b) {
+    if exponent_letter(b) {
         Some(NumberAt::AfterE)
     } else {
         None
