@@ -24,3 +24,8 @@ same_eqb x = grind (arith, nat_tests)
 pub not_true : (b : Bool) → b ≢ true → b ≡ false
 not_true true ne = absurd (ne refl)
 not_true false ne = refl
+
+-- what follows a value in two steps
+pub bind_twice : {A : Type 0} (o : Option A) (f g h : A → Option A) → ((x : A) → f x ≡ (g x >>= h)) → (o >>= f) ≡ ((o >>= g) >>= h)
+bind_twice None f g h e = refl
+bind_twice (Some x) f g h e = e x

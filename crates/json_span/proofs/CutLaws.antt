@@ -37,13 +37,13 @@ record Cuts (k : Kind) (text : List ℕ) (m : Member) (p : Piece) : Type 0 where
   value : IsCut text p.value m.value
   is_value : IsPartText p.value
 
-value_grouped : (f b n m v a c w : List ℕ) → f ++ (((b ++ (n ++ (m ++ (v ++ a)))) ++ c) ++ w) ≡ (f ++ (b ++ (n ++ m))) ++ (v ++ (a ++ (c ++ w)))
+pub value_grouped : (f b n m v a c w : List ℕ) → f ++ (((b ++ (n ++ (m ++ (v ++ a)))) ++ c) ++ w) ≡ (f ++ (b ++ (n ++ m))) ++ (v ++ (a ++ (c ++ w)))
 value_grouped f b n m v a c w = simp append_assoc
 
-name_grouped : (f b n m v a c w : List ℕ) → f ++ (((b ++ (n ++ (m ++ (v ++ a)))) ++ c) ++ w) ≡ (f ++ b) ++ (n ++ (m ++ (v ++ (a ++ (c ++ w)))))
+pub name_grouped : (f b n m v a c w : List ℕ) → f ++ (((b ++ (n ++ (m ++ (v ++ a)))) ++ c) ++ w) ≡ (f ++ b) ++ (n ++ (m ++ (v ++ (a ++ (c ++ w)))))
 name_grouped f b n m v a c w = simp append_assoc
 
-next_grouped : (f p q w : List ℕ) → f ++ ((p ++ 44 ∷ q) ++ w) ≡ (f ++ (p ++ 44 ∷ [])) ++ (q ++ w)
+pub next_grouped : (f p q w : List ℕ) → f ++ ((p ++ 44 ∷ q) ++ w) ≡ (f ++ (p ++ 44 ∷ [])) ++ (q ++ w)
 next_grouped f p q w = simp append_assoc
 
 name_cut : (k : Kind) (text f w : List ℕ) (p : Piece) (ps : List Piece) (at : ℕ) → at ≡ length f → IsPiece k IsPartText p → text ≡ f ++ ((piece_text p ++ commas ps) ++ w) → NameCut k text p (name_place k at p)
@@ -75,7 +75,7 @@ pieces_cut k text w (q ∷ qs) p f at n is all e = (
   pieces_cut k text w qs q (f ++ (piece_text p ++ 44 ∷ [])) (at + length (piece_text p) + 1) (omega (arith, length-append f (piece_text p ++ 44 ∷ []), length-append (piece_text p) (44 ∷ []))) all.0 all.1 (e ∙ next_grouped f (piece_text p) (piece_text q ++ commas qs) w),
 )
 
-opened_grouped : (f x w : List ℕ) (o : ℕ) → (f ++ o ∷ x) ++ w ≡ (f ++ o ∷ []) ++ (x ++ w)
+pub opened_grouped : (f x w : List ℕ) (o : ℕ) → (f ++ o ∷ x) ++ w ≡ (f ++ o ∷ []) ++ (x ++ w)
 opened_grouped f x w o = simp append_assoc
 
 split_cut : (k : Kind) (text front : List ℕ) (pieces : List Piece) → Splits k text front pieces → AllCut k text (places k (length front + 1) pieces) pieces

@@ -5,6 +5,7 @@ use Rattle.std.proofs.lemmas.List.{append-nil}
 use Rattle.std.specs.Option.{option_map}
 use Rattle.json_span.specs.Machine.{◌>>=◌, State, step, start, run, read, split_of, within, marked, finished, also, is_done, no_marks}
 use Rattle.json_span.specs.Stops.{StopsAt}
+use Rattle.json_span.proofs.BasicLaws.{bind_twice}
 use Rattle.json_span.specs.declared.Member.{Member}
 use Rattle.json_span.specs.declared.state.Kind.{Kind}
 use Rattle.json_span.specs.declared.marks.Marks.{Marks}
@@ -18,10 +19,6 @@ pub record HasRead (k : Kind) (text : List ℕ) (place : ℕ) (met : List Member
 
 -- ---- states
 
-bind_same : (o : Option State) (f g h : State → Option State) → ((t : State) → f t ≡ (g t >>= h)) → (o >>= f) ≡ ((o >>= g) >>= h)
-bind_same None f g h e = refl
-bind_same (Some t) f g h e = e t
-
 pub run_last : (front : List ℕ) (b : ℕ) (s : State) → run s (front ++ b ∷ []) ≡ (run s front >>= λ t. step t.at t.kinds t.room b)
 unfolding run
 run_last [] b s = once (step s.at s.kinds s.room b)
@@ -29,7 +26,7 @@ run_last [] b s = once (step s.at s.kinds s.room b)
     once : (o : Option State) → (o >>= λ t. Some t) ≡ o
     once None = refl
     once (Some t) = refl
-run_last (x ∷ xs) b s = bind_same (step s.at s.kinds s.room x) (λ t. run t (xs ++ b ∷ [])) (λ t. run t xs) (λ t. step t.at t.kinds t.room b) (λ t. run_last xs b t)
+run_last (x ∷ xs) b s = bind_twice (step s.at s.kinds s.room x) (λ t. run t (xs ++ b ∷ [])) (λ t. run t xs) (λ t. step t.at t.kinds t.room b) (λ t. run_last xs b t)
 
 run_next : (text : List ℕ) (place : ℕ) (s t : State) → place < length text → run s (take place text) ≡ Some t → run s (take (place + 1) text) ≡ step t.at t.kinds t.room (get_or text place 0)
 run_next text place s t lt e =

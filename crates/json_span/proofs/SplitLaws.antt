@@ -12,7 +12,7 @@ use Rattle.json_span.specs.declared.marks.Marks.{Marks}
 use Rattle.json_span.specs.declared.state.Kind.{Kind}
 use Rattle.json_span.specs.declared.state.Kind.TheVariants.{Array, Object}
 use Rattle.json_span.specs.declared.state.At.TheVariants.{Begin, Fresh, After}
-use Rattle.json_span.proofs.BasicLaws.{bind_some, some_is}
+use Rattle.json_span.proofs.BasicLaws.{bind_some, some_is, bind_twice}
 use Rattle.json_span.proofs.TakenLaws.{Takes, S, place_of, takes_on, takes_spaces, after_self, begin_self}
 use Rattle.json_span.proofs.TakenLists.{value_starts, piece_marks, placed, top_inside}
 use Rattle.json_span.proofs.ViableLaws.{viable, run_split}
@@ -159,14 +159,10 @@ split_one k text a b sa sb = some_is a b (sym (split_taken k text a sa) ∙ spli
 
 -- ---- refusals
 
-bind_append : (o : Option State) (f g h : State → Option State) → ((t : State) → f t ≡ (g t >>= h)) → (o >>= f) ≡ ((o >>= g) >>= h)
-bind_append None f g h e = refl
-bind_append (Some t) f g h e = e t
-
 run_append : (a b : List ℕ) (s : State) → run s (a ++ b) ≡ (run s a >>= λ t. run t b)
 unfolding run
 run_append [] b s = refl
-run_append (x ∷ xs) b s = bind_append (step s.at s.kinds s.room x) (λ t. run t (xs ++ b)) (λ t. run t xs) (λ t. run t b) (λ t. run_append xs b t)
+run_append (x ∷ xs) b s = bind_twice (step s.at s.kinds s.room x) (λ t. run t (xs ++ b)) (λ t. run t xs) (λ t. run t b) (λ t. run_append xs b t)
 
 -- what stops the machine begins no text with a split
 no_front : (k : Kind) (front : List ℕ) → run (start k) front ≡ None → IsFront k front → ⊥

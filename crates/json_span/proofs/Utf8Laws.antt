@@ -12,7 +12,7 @@ use Rattle.json_span.specs.Parts.{members_of, elements_of}
 use Rattle.json_span.specs.declared.state.Kind.{Kind}
 use Rattle.json_span.specs.declared.state.Kind.TheVariants.{Array, Object}
 use Rattle.json_span.proofs.AgainLaws.{scalar_begins}
-use Rattle.json_span.proofs.CutLaws.{members_found, elements_found}
+use Rattle.json_span.proofs.CutLaws.{value_grouped, name_grouped, next_grouped, opened_grouped, members_found, elements_found}
 
 -- ---- cuts at bytes of ASCII
 
@@ -72,15 +72,6 @@ colon_head m t c = more_head m t (subst Head (sym c.whole) (spaced_head c.before
 
 -- ---- the parts
 
-value_grouped : (f b n m v a c w : List ℕ) → f ++ (((b ++ (n ++ (m ++ (v ++ a)))) ++ c) ++ w) ≡ (f ++ (b ++ (n ++ m))) ++ (v ++ (a ++ (c ++ w)))
-value_grouped f b n m v a c w = simp append_assoc
-
-name_grouped : (f b n m v a c w : List ℕ) → f ++ (((b ++ (n ++ (m ++ (v ++ a)))) ++ c) ++ w) ≡ (f ++ b) ++ (n ++ (m ++ (v ++ (a ++ (c ++ w)))))
-name_grouped f b n m v a c w = simp append_assoc
-
-next_grouped : (f p q w : List ℕ) → f ++ ((p ++ 44 ∷ q) ++ w) ≡ (f ++ (p ++ 44 ∷ [])) ++ (q ++ w)
-next_grouped f p q w = simp append_assoc
-
 value_utf8 : (k : Kind) (text f w : List ℕ) (p : Piece) (ps : List Piece) → IsUtf8 text → Head w → IsPiece k IsPartText p → text ≡ f ++ ((piece_text p ++ commas ps) ++ w) → IsUtf8 p.value
 value_utf8 k text f w p ps u h is e =
     middle_utf8 text (f ++ (p.before ++ (p.name ++ p.middle))) p.value (p.after ++ (commas ps ++ w)) (e ∙ value_grouped f p.before p.name p.middle p.value p.after (commas ps) w) u
@@ -107,9 +98,6 @@ elements_walk text w u h [] p f is all e = All-cons IsUtf8 p.value [] (value_utf
 elements_walk text w u h (q ∷ qs) p f is all e =
     All-cons IsUtf8 p.value (map (λ (r : Piece). r.value) (q ∷ qs)) (value_utf8 Array text f w p (q ∷ qs) u h is e)
     (elements_walk text w u h qs q (f ++ (piece_text p ++ 44 ∷ [])) all.0 all.1 (e ∙ next_grouped f (piece_text p) (piece_text q ++ commas qs) w))
-
-opened_grouped : (f x w : List ℕ) (o : ℕ) → (f ++ o ∷ x) ++ w ≡ (f ++ o ∷ []) ++ (x ++ w)
-opened_grouped f x w o = simp append_assoc
 
 members_split : (text front : List ℕ) (pieces : List Piece) → IsUtf8 text → Splits Object text front pieces → All BothUtf8 (map (λ (q : Piece). (q.name, q.value)) pieces)
 members_split text front [] u s = All-nil BothUtf8

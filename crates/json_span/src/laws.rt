@@ -18,17 +18,22 @@ pub fn one_split()
 
 /// The spans of a split ascend and do not overlap, each name before its value.
 pub fn spans_ascend()
-    ensures objects { (text : List ℕ) (members : List MemberValue) → IsObject text members → AscendFrom 0 (spans_of members) }
+    ensures objects { (text : List ℕ) (members : List MemberValue) → IsObject text members
+        → AscendFrom 0 (spans_of members) }
     ensures arrays { (text : List ℕ) (spans : List SpanValue) → IsArray text spans → AscendFrom 0 spans }
 {}
 
 /// `members_of` and `elements_of` are the parts of a text by the grammar, where it has a split, and
 /// nothing elsewhere.
 pub fn parts_by_grammar()
-    ensures members { (text : List ℕ) (parts : List (List ℕ × List ℕ)) → members_of text ≡ Some parts → HasMembers text parts }
-    ensures members_all { (text : List ℕ) (parts : List (List ℕ × List ℕ)) → HasMembers text parts → members_of text ≡ Some parts }
-    ensures elements { (text : List ℕ) (parts : List (List ℕ)) → elements_of text ≡ Some parts → HasElements text parts }
-    ensures elements_all { (text : List ℕ) (parts : List (List ℕ)) → HasElements text parts → elements_of text ≡ Some parts }
+    ensures members { (text : List ℕ) (parts : List (List ℕ × List ℕ)) → members_of text ≡ Some parts
+        → HasMembers text parts }
+    ensures members_all { (text : List ℕ) (parts : List (List ℕ × List ℕ)) → HasMembers text parts
+        → members_of text ≡ Some parts }
+    ensures elements { (text : List ℕ) (parts : List (List ℕ)) → elements_of text ≡ Some parts
+        → HasElements text parts }
+    ensures elements_all { (text : List ℕ) (parts : List (List ℕ)) → HasElements text parts
+        → elements_of text ≡ Some parts }
 {}
 
 /// Strings, numbers and literals are value texts with no bracket, and so are the decimals below 2^64.
@@ -50,39 +55,57 @@ pub fn strings_are_joined()
 /// An array or an object of value texts is a value text with one bracket more, and a value text of a
 /// depth is one of each depth above it.
 pub fn lists_are_values()
-    ensures arrays { (depth : ℕ) (parts : List (List ℕ)) → All (IsValueText depth) parts → IsValueText (suc depth) (array_text parts) }
-    ensures objects { (depth : ℕ) (parts : List (List ℕ × List ℕ)) → All (IsMemberOf depth) parts → IsValueText (suc depth) (object_text parts) }
-    ensures deeper { (low high : ℕ) (text : List ℕ) → low ≤ high → IsValueText low text → IsValueText high text }
+    ensures arrays { (depth : ℕ) (parts : List (List ℕ)) → All (IsValueText depth) parts
+        → IsValueText (suc depth) (array_text parts) }
+    ensures objects { (depth : ℕ) (parts : List (List ℕ × List ℕ)) → All (IsMemberOf depth) parts
+        → IsValueText (suc depth) (object_text parts) }
+    ensures deeper { (low high : ℕ) (text : List ℕ) → low ≤ high → IsValueText low text
+        → IsValueText high text }
 {}
 
 /// What is joined of value texts with commas and brackets splits into exactly these parts.
 pub fn joined_splits()
-    ensures arrays { (parts : List (List ℕ)) → All IsPartText parts → elements_of (array_text parts) ≡ Some parts }
-    ensures objects { (parts : List (List ℕ × List ℕ)) → All (IsMemberOf 100) parts → members_of (object_text parts) ≡ Some parts }
+    ensures arrays { (parts : List (List ℕ)) → All IsPartText parts
+        → elements_of (array_text parts) ≡ Some parts }
+    ensures objects { (parts : List (List ℕ × List ℕ)) → All (IsMemberOf 100) parts
+        → members_of (object_text parts) ≡ Some parts }
 {}
 
 /// White space at the ends of a text changes no part.
 pub fn spaces_change_nothing()
-    ensures objects { (before behind text : List ℕ) (parts : List (List ℕ × List ℕ)) → Each is_space before → Each is_space behind → members_of text ≡ Some parts → members_of (before ++ (text ++ behind)) ≡ Some parts }
-    ensures arrays { (before behind text : List ℕ) (parts : List (List ℕ)) → Each is_space before → Each is_space behind → elements_of text ≡ Some parts → elements_of (before ++ (text ++ behind)) ≡ Some parts }
+    ensures objects { (before behind text : List ℕ) (parts : List (List ℕ × List ℕ)) → Each is_space before
+        → Each is_space behind → members_of text ≡ Some parts
+        → members_of (before ++ (text ++ behind)) ≡ Some parts }
+    ensures arrays { (before behind text : List ℕ) (parts : List (List ℕ)) → Each is_space before
+        → Each is_space behind → elements_of text ≡ Some parts
+        → elements_of (before ++ (text ++ behind)) ≡ Some parts }
 {}
 
 /// A value text that begins with a bracket splits again, where at most 101 brackets are open.
 pub fn lists_split()
-    ensures objects { (depth : ℕ) (rest : List ℕ) → depth ≤ 101 → IsValueText depth (123 ∷ rest) → (parts : List (List ℕ × List ℕ)) × (members_of (123 ∷ rest) ≡ Some parts) }
-    ensures arrays { (depth : ℕ) (rest : List ℕ) → depth ≤ 101 → IsValueText depth (91 ∷ rest) → (parts : List (List ℕ)) × (elements_of (91 ∷ rest) ≡ Some parts) }
+    ensures objects { (depth : ℕ) (rest : List ℕ) → depth ≤ 101 → IsValueText depth (123 ∷ rest)
+        → (parts : List (List ℕ × List ℕ)) × (members_of (123 ∷ rest) ≡ Some parts) }
+    ensures arrays { (depth : ℕ) (rest : List ℕ) → depth ≤ 101 → IsValueText depth (91 ∷ rest)
+        → (parts : List (List ℕ)) × (elements_of (91 ∷ rest) ≡ Some parts) }
 {}
 
 /// The parts of a value text have one bracket fewer open, and any part has at most 100.
 pub fn parts_are_shallower()
-    ensures members { (depth : ℕ) (text : List ℕ) (parts : List (List ℕ × List ℕ)) → IsValueText (suc depth) text → members_of text ≡ Some parts → All (IsMemberOf depth) parts }
-    ensures elements { (depth : ℕ) (text : List ℕ) (parts : List (List ℕ)) → IsValueText (suc depth) text → elements_of text ≡ Some parts → All (IsValueText depth) parts }
-    ensures members_limit { (text : List ℕ) (parts : List (List ℕ × List ℕ)) → members_of text ≡ Some parts → All (IsMemberOf 100) parts }
-    ensures elements_limit { (text : List ℕ) (parts : List (List ℕ)) → elements_of text ≡ Some parts → All IsPartText parts }
+    ensures members { (depth : ℕ) (text : List ℕ) (parts : List (List ℕ × List ℕ))
+        → IsValueText (suc depth) text → members_of text ≡ Some parts
+        → All (IsMemberOf depth) parts }
+    ensures elements { (depth : ℕ) (text : List ℕ) (parts : List (List ℕ)) → IsValueText (suc depth) text
+        → elements_of text ≡ Some parts → All (IsValueText depth) parts }
+    ensures members_limit { (text : List ℕ) (parts : List (List ℕ × List ℕ)) → members_of text ≡ Some parts
+        → All (IsMemberOf 100) parts }
+    ensures elements_limit { (text : List ℕ) (parts : List (List ℕ)) → elements_of text ≡ Some parts
+        → All IsPartText parts }
 {}
 
 /// The parts of a UTF-8 text are UTF-8.
 pub fn parts_are_utf8()
-    ensures members { (text : List ℕ) (parts : List (List ℕ × List ℕ)) → IsUtf8 text → members_of text ≡ Some parts → All (λ m. IsUtf8 m.0 × IsUtf8 m.1) parts }
-    ensures elements { (text : List ℕ) (parts : List (List ℕ)) → IsUtf8 text → elements_of text ≡ Some parts → All IsUtf8 parts }
+    ensures members { (text : List ℕ) (parts : List (List ℕ × List ℕ)) → IsUtf8 text
+        → members_of text ≡ Some parts → All (λ m. IsUtf8 m.0 × IsUtf8 m.1) parts }
+    ensures elements { (text : List ℕ) (parts : List (List ℕ)) → IsUtf8 text → elements_of text ≡ Some parts
+        → All IsUtf8 parts }
 {}

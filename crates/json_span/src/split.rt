@@ -15,7 +15,7 @@ use crate::state::Kind;
 use crate::{Member, Span, SpanFault};
 use std::alloc::Global;
 
-/// The parts of a text of a kind.
+/// The parts of a text of a kind: one pass, with a member for each part as soon as it is whole.
 fn split(alloc: Global, kind: Kind, text: &[u8]) -> Result<Vec<Member>, SpanFault>
     ensures found { IfOk result (λ v. split_of kind text.now ≡ Some v.items) }
     ensures refused { IfErr result (Stops kind text.now) }
@@ -58,10 +58,11 @@ fn values(alloc: Global, members: &[Member]) -> Result<Vec<Span>, SpanFault>
 /// with no white space at its ends. The text is an object of RFC 8259 with white space round it; each
 /// value has at most 100 brackets that are open at one place. Bytes of a string need not be UTF-8.
 /// Any other text is `NotSplit`, with the length of its longest front with which such a text begins.
-/// The time is linear in the text, and memory is taken for the list alone.
+/// The time is linear in the text, and memory is taken for the list of spans alone.
 pub fn members(alloc: Global, text: &[u8]) -> Result<Vec<Member>, SpanFault>
     ensures found { IfOk result (λ v. IsObject text.now v.items) }
-    ensures only { (ms : List MemberValue) → IsObject text.now ms → MatchResult result (λ v. v.items ≡ ms) (λ e. e ≡ Memory) }
+    ensures only { (all : List MemberValue) → IsObject text.now all
+        → MatchResult result (λ v. v.items ≡ all) (λ e. e ≡ Memory) }
     ensures cuts { IfOk result (λ v. All (CutsMember text.now) v.items) }
     ensures parts { IfOk result (λ v. members_of text.now ≡ Some (map (member_of text.now) v.items)) }
     ensures refused { IfErr result (RefusesMembers text.now) }
@@ -73,10 +74,11 @@ pub fn members(alloc: Global, text: &[u8]) -> Result<Vec<Member>, SpanFault>
 /// text is an array of RFC 8259 with white space round it; each element has at most 100 brackets that
 /// are open at one place. Bytes of a string need not be UTF-8. Any other text is `NotSplit`, with the
 /// length of its longest front with which such a text begins. The time is linear in the text, and
-/// memory is taken for the list alone.
+/// memory is taken for lists of spans alone.
 pub fn elements(alloc: Global, text: &[u8]) -> Result<Vec<Span>, SpanFault>
     ensures found { IfOk result (λ v. IsArray text.now v.items) }
-    ensures only { (spans : List SpanValue) → IsArray text.now spans → MatchResult result (λ v. v.items ≡ spans) (λ e. e ≡ Memory) }
+    ensures only { (all : List SpanValue) → IsArray text.now all
+        → MatchResult result (λ v. v.items ≡ all) (λ e. e ≡ Memory) }
     ensures cuts { IfOk result (λ v. All (CutsValue text.now) v.items) }
     ensures parts { IfOk result (λ v. elements_of text.now ≡ Some (map (cut_of text.now) v.items)) }
     ensures refused { IfErr result (RefusesElements text.now) }
