@@ -1,0 +1,88 @@
+//! The parts of an object's or an array's text.
+
+ghost use Rattle.std.specs.Prelude.{◌≡◌, List, IfOk, IfErr, MatchResult, Some, All, map};
+ghost use Rattle.json_span.specs.Grammar.{IsObject, IsArray, CutsMember, CutsValue, cut_of};
+ghost use Rattle.json_span.specs.Parts.{members_of, member_of, elements_of, RefusesMembers, RefusesElements};
+ghost use Rattle.json_span.specs.Machine.{split_of};
+ghost use Rattle.json_span.specs.Stops.{Stops};
+ghost use Rattle.json_span.specs.declared.Member.{Member as MemberValue};
+ghost use Rattle.json_span.specs.declared.Span.{Span as SpanValue};
+ghost use Rattle.json_span.specs.declared.SpanFault.TheVariants.{Memory};
+
+use crate::machine::Machine;
+use crate::marks::Marks;
+use crate::state::Kind;
+use crate::{Member, Span, SpanFault};
+use std::alloc::Global;
+
+/// The parts of a text of a kind: one pass, with a member for each part as soon as it is whole.
+fn split(alloc: Global, kind: Kind, text: &[u8]) -> Result<Vec<Member>, SpanFault>
+    ensures found { IfOk result (λ v. split_of kind text.now ≡ Some v.items) }
+    ensures refused { IfErr result (Stops kind text.now) }
+{
+    let mut members = Vec::new(alloc);
+    let mut machine = Machine::new(kind);
+    let mut marks = Marks::new();
+    for (place, b) in text.iter().enumerate() {
+        let before = machine.within();
+        let Some(next) = machine.step(*b) else {
+            return Err(SpanFault::NotSplit(place));
+        };
+        let after = next.within();
+        if let Some(member) = marks.finished(place, before, after) {
+            members.push(member)?;
+        }
+        marks = marks.marked(place, before, after);
+        machine = next;
+    }
+    if machine.is_done() {
+        Ok(members)
+    } else {
+        Err(SpanFault::NotSplit(text.len()))
+    }
+}
+
+/// The values of members.
+fn values(alloc: Global, members: &[Member]) -> Result<Vec<Span>, SpanFault>
+    ensures values { IfOk result (λ v. v.items ≡ map (λ m. m.value) members.now) }
+    ensures memory { IfErr result (λ e. e ≡ Memory) }
+{
+    let mut spans = Vec::new(alloc);
+    for member in members {
+        spans.push(member.value)?;
+    }
+    Ok(spans)
+}
+
+/// Where the members of an object's text lie, in their order: each name with its quotes, each value
+/// with no white space at its ends. The text is an object of RFC 8259 with white space round it; each
+/// value has at most 100 brackets that are open at one place. Bytes of a string need not be UTF-8.
+/// Any other text is `NotSplit`, with the length of its longest front with which such a text begins.
+/// The time is linear in the text, and memory is taken for the list of spans alone.
+pub fn members(alloc: Global, text: &[u8]) -> Result<Vec<Member>, SpanFault>
+    ensures found { IfOk result (λ v. IsObject text.now v.items) }
+    ensures only { (all : List MemberValue) → IsObject text.now all
+        → MatchResult result (λ v. v.items ≡ all) (λ e. e ≡ Memory) }
+    ensures cuts { IfOk result (λ v. All (CutsMember text.now) v.items) }
+    ensures parts { IfOk result (λ v. members_of text.now ≡ Some (map (member_of text.now) v.items)) }
+    ensures refused { IfErr result (RefusesMembers text.now) }
+{
+    split(alloc, Kind::Object, text)
+}
+
+/// Where the elements of an array's text lie, in their order, with no white space at their ends. The
+/// text is an array of RFC 8259 with white space round it; each element has at most 100 brackets that
+/// are open at one place. Bytes of a string need not be UTF-8. Any other text is `NotSplit`, with the
+/// length of its longest front with which such a text begins. The time is linear in the text, and
+/// memory is taken for lists of spans alone.
+pub fn elements(alloc: Global, text: &[u8]) -> Result<Vec<Span>, SpanFault>
+    ensures found { IfOk result (λ v. IsArray text.now v.items) }
+    ensures only { (all : List SpanValue) → IsArray text.now all
+        → MatchResult result (λ v. v.items ≡ all) (λ e. e ≡ Memory) }
+    ensures cuts { IfOk result (λ v. All (CutsValue text.now) v.items) }
+    ensures parts { IfOk result (λ v. elements_of text.now ≡ Some (map (cut_of text.now) v.items)) }
+    ensures refused { IfErr result (RefusesElements text.now) }
+{
+    let members = split(alloc, Kind::Array, text)?;
+    values(alloc, &members)
+}
