@@ -1,5 +1,5 @@
 -- The answer for a head is that for the bug whose ref names it.
-use Rattle.std.proofs.Common.{◌≡◌, ◌⊎◌, inl, inr, ℕ, Bool, IsTrue, List, Option, Some, None, IsSome, Result, Ok, Err, refl}
+use Rattle.std.proofs.Common.{◌≡◌, inr, ℕ, Bool, IsTrue, List, Some, IsSome, Result, Ok, Err, refl}
 use Rattle.gb_text.specs.Digits.{id_of}
 use Rattle.gb_text.specs.declared.id.Name.{Name}
 use Rattle.gb_store.specs.Files.{Files}

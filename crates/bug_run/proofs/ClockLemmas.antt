@@ -1,7 +1,7 @@
 -- The names that begin with a front, one entry more.
-use Rattle.std.proofs.Common.{◌≡◌, ℕ, ◌+◌, ◌<◌, Bool, true, false, cond, List, [], ◌∷◌, ◌++◌, length, take, drop, get_or, bytes_eq, Option, Some, None, option_to_list, option_copied, is_some, Bor, refl, sym, ◌∙◌, ap}
+use Rattle.std.proofs.Common.{◌≡◌, ℕ, ◌+◌, ◌<◌, Bool, true, false, cond, List, ◌∷◌, ◌++◌, length, take, drop, get_or, bytes_eq, Option, Some, None, option_to_list, option_copied, is_some, Bor, refl, sym, ◌∙◌, ap}
 use Rattle.std.proofs.lemmas.List.{drop_more}
-use Rattle.std.specs.List.{filter_map, cons_option}
+use Rattle.std.specs.List.{cons_option}
 use Rattle.git_object.specs.declared.entry.Entry.{Entry}
 use Rattle.bug_run.specs.Clocks.{rest_after, rests_after, only}
 

@@ -1,16 +1,14 @@
 -- What a commit of the walk without a good clock says of the whole walk.
-use Rattle.std.proofs.Common.{◌≡◌, ◌⊎◌, inl, inr, ℕ, ◌+◌, ◌<◌, ◌≤◌, zero, suc, List, [], ◌∷◌, ◌++◌, length, take, get_or, Contains, Option, Some, None, option_and_then, Result, Err, refl, sym, ◌∙◌, ap, subst, arith}
-use Rattle.std.proofs.lemmas.Grind.{common_steps}
+use Rattle.std.proofs.Common.{◌≡◌, inr, ℕ, ◌+◌, ◌<◌, ◌≤◌, zero, suc, List, [], ◌∷◌, ◌++◌, length, take, get_or, Some, option_and_then, Err, refl, sym, ◌∙◌, ap, subst, arith}
 use Rattle.std.proofs.lemmas.List.{get_or_default, take_more}
 use Rattle.gb_text.specs.declared.id.Name.{Name}
 use Rattle.git_object.specs.declared.commit.Commit.{Commit}
-use Rattle.git_object.specs.declared.tree.Tree.{Tree}
 use Rattle.object_store.specs.Held.{Objects, object_at}
-use Rattle.bug_run.specs.Objects.{as_tree, commit_at, tree_at}
+use Rattle.bug_run.specs.Objects.{commit_at, tree_at}
 use Rattle.bug_run.specs.Clocks.{edit_clock_of}
 use Rattle.bug_run.specs.Walk.{IsCommit, Chain, Walked, Meets, MeetsMerge, MeetsCommit, Needs, FaultHolds, clock_at}
 use Rattle.bug_run.specs.Log.{Clocked}
-use Rattle.bug_run.specs.Answers.{CannotRead, IsNoTree, HasNoClock, SomeHasNoClock, ClockAnswers, ClocksAnswers, RisingAnswers, Falls, WalkRefused}
+use Rattle.bug_run.specs.Answers.{HasNoClock, SomeHasNoClock, ClockAnswers, ClocksAnswers, RisingAnswers, Falls, WalkRefused}
 use Rattle.bug_run.specs.declared.walk.Met.{Met}
 use Rattle.bug_run.specs.declared.log.Step.{Step}
 use Rattle.bug_run.specs.declared.fault.WalkFault.{WalkFault}

@@ -1,16 +1,14 @@
 -- What a step of the walk says of the whole walk.
-use Rattle.std.proofs.Common.{◌≡◌, ◌⊎◌, inl, inr, ℕ, ◌<◌, ◌≤◌, List, [], ◌∷◌, length, Bool, true, false, cond, Option, Some, None, Result, Ok, Err, refl, sym, ◌∙◌, ap, subst, arith, nat_le, bytes_eq}
+use Rattle.std.proofs.Common.{◌≡◌, inl, inr, ℕ, ◌≤◌, List, length, false, Option, Some, None, Ok, Err, refl, sym, ◌∙◌, ap, subst, arith, nat_le}
 use Rattle.std.proofs.lemmas.Grind.{common_steps}
 use Rattle.std.specs.Option.{option_and_then}
-use Rattle.sha1.specs.Sha1.{sha1}
 use Rattle.gb_text.specs.declared.id.Name.{Name}
 use Rattle.git_object.specs.declared.commit.Commit.{Commit}
-use Rattle.git_object.specs.declared.object.Object.{Object}
 use Rattle.git_object.specs.Reading.{object_of}
-use Rattle.object_store.specs.Held.{Objects, object_at, named, IsDamaged, IsLarge}
+use Rattle.object_store.specs.Held.{Objects, object_at, named, IsLarge}
 use Rattle.bug_run.specs.Objects.{as_commit, commit_at}
-use Rattle.bug_run.specs.Walk.{IsCommit, Chain, Meets, MeetsMerge, Needs, IsTooLong, FaultHolds}
-use Rattle.bug_run.specs.Answers.{CannotRead, IsNoCommit, IsMerge, StepAnswers, WalkRefused, parents_of}
+use Rattle.bug_run.specs.Walk.{Chain, Meets, MeetsMerge, Needs, FaultHolds}
+use Rattle.bug_run.specs.Answers.{CannotRead, IsNoCommit, StepAnswers, WalkRefused, parents_of}
 use Rattle.bug_run.specs.declared.walk.Met.{Met}
 use Rattle.bug_run.specs.declared.fault.WalkFault.{WalkFault}
 use Rattle.bug_run.specs.declared.fault.WalkFault.TheVariants as fault
@@ -78,18 +76,20 @@ WalkRefused-step objects head above name (stop.Merge n) chain near h =
     rw h.0 merge
 WalkRefused-step objects head above name (stop.Fault f) chain near h =
     let none = IsNoCommit-none objects name f h in
-    let no_commit : (c : Commit) → commit_at objects name ≡ Some c → ⊥ = λ c e. cc (sym none ∙ e) in
-    (no_merge objects head above name chain (λ c e. absurd (no_commit c e)) (inr (λ p c e has. no_commit c e)),
-     FaultHolds-commit objects head name f (record { above = above; chain = chain; near = near }) h)
+    let no_commit : (c : Commit) → commit_at objects name ≡ Some c → ⊥ = λ c e. cc (sym none ∙ e) in (
+      no_merge objects head above name chain (λ c e. absurd (no_commit c e)) (inr (λ p c e has. no_commit c e)),
+      FaultHolds-commit objects head name f (record { above = above; chain = chain; near = near }) h,
+    )
 
 -- one commit more than 65,536 is too long a walk, which meets no merge
 pub WalkRefused-too_long : (objects : Objects) (head : Name) (above : List Met) (name : Name) (step : Met × Option Name) → Chain objects head above name → length above ≡ 65536
     → StepAnswers objects name (Ok step) → WalkRefused objects head (stop.Fault fault.TooLong)
 WalkRefused-too_long objects head above name step chain far h =
     let held : commit_at objects name ≡ Some h.1.commit = ap (commit_at objects) (sym h.0) ∙ h.1.held in
-    let few : length h.1.commit.parents ≤ 1 = rw h.1.has (one_at_most step.1) in
-    (no_merge objects head above name chain (λ c e. subst (λ (c : Commit). length c.parents ≤ 1) (same_commit h.1.commit c (sym held ∙ e)) few) (inl far),
-     record { above = above; name = name; commit = h.1.commit; chain = chain; far = far; held = held })
+    let few : length h.1.commit.parents ≤ 1 = rw h.1.has (one_at_most step.1) in (
+      no_merge objects head above name chain (λ c e. subst (λ (c : Commit). length c.parents ≤ 1) (same_commit h.1.commit c (sym held ∙ e)) few) (inl far),
+      record { above = above; name = name; commit = h.1.commit; chain = chain; far = far; held = held },
+    )
   where
     one_at_most : (o : Option Name) → length (parents_of o) ≤ 1
     one_at_most None = omega arith

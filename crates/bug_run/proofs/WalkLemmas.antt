@@ -1,12 +1,11 @@
 -- Chains of commits from one head.
-use Rattle.std.proofs.Common.{◌≡◌, ◌⊎◌, inl, inr, ℕ, ◌+◌, ◌<◌, ◌≤◌, zero, suc, List, [], ◌∷◌, length, drop, Option, Some, None, refl, sym, ◌∙◌, ap, subst, arith}
-use Rattle.std.proofs.lemmas.Grind.{common_steps}
+use Rattle.std.proofs.Common.{◌≡◌, ◌⊎◌, inl, inr, ◌<◌, ◌≤◌, List, [], ◌∷◌, length, Some, refl, sym, ◌∙◌, ap, arith}
 use Rattle.std.proofs.lemmas.Bool.{cases_eq, cases_lt}
 use Rattle.gb_text.specs.declared.id.Name.{Name}
 use Rattle.git_object.specs.declared.commit.Commit.{Commit}
 use Rattle.object_store.specs.Held.{Objects}
 use Rattle.bug_run.specs.Objects.{commit_at}
-use Rattle.bug_run.specs.Walk.{IsCommit, Chain, Walked, Meets, MeetsMerge}
+use Rattle.bug_run.specs.Walk.{IsCommit, Chain, MeetsMerge}
 use Rattle.bug_run.specs.declared.walk.Met.{Met}
 
 -- a commit has one tree and one list of parents
@@ -53,19 +52,19 @@ no_merge objects head a n chain few ends m merge =
           let same = Chain-same objects head a b n m e chain merge.meets.chain in
           omega (arith, few merge.commit (ap (commit_at objects) same.1 ∙ merge.held), merge.many)
       | inr differ ↦ elim (cases_lt (length b) (length a)) [
-          | inl lt ↦
-              let one = Chain-shorter objects head b a m n lt merge.meets.chain chain in
-              let same : Some one.1 ≡ Some merge.commit = sym one.2 ∙ merge.held in
-              let commit : one.1 ≡ merge.commit = grind (arith, same) in
-              let parents : length merge.commit.parents ≡ 1 = ap (λ (c : Commit). length c.parents) (sym commit) ∙ ap length one.3 in
-              omega (arith, parents, merge.many)
-          | inr le ↦
-              let lt : length a < length b = omega (arith, differ, le) in
-              elim ends [
-                | inl far ↦ omega (arith, far, lt, merge.meets.near)
-                | inr none ↦
-                    let one = Chain-shorter objects head a b n m lt chain merge.meets.chain in
-                    none one.0 one.1 one.2 one.3
-              ]
-        ]
+        | inl lt ↦
+            let one = Chain-shorter objects head b a m n lt merge.meets.chain chain in
+            let same : Some one.1 ≡ Some merge.commit = sym one.2 ∙ merge.held in
+            let commit : one.1 ≡ merge.commit = grind (arith, same) in
+            let parents : length merge.commit.parents ≡ 1 = ap (λ (c : Commit). length c.parents) (sym commit) ∙ ap length one.3 in
+            omega (arith, parents, merge.many)
+        | inr le ↦
+            let lt : length a < length b = omega (arith, differ, le) in
+            elim ends [
+              | inl far ↦ omega (arith, far, lt, merge.meets.near)
+              | inr none ↦
+                  let one = Chain-shorter objects head a b n m lt chain merge.meets.chain in
+                  none one.0 one.1 one.2 one.3
+            ]
+      ]
     ]

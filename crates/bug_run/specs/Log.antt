@@ -1,5 +1,5 @@
 -- The log of a bug: a line for each commit of its chain, from the root to the head.
-use Rattle.std.specs.Prelude.{◌≡◌, ◌<◌, ◌≤◌, ◌⊎◌, ⊤, ℕ, List, [], ◌∷◌, ◌++◌, length, codes, decimal, Option, Some, None, IsSome, Result, Ok, Err, option_and_then}
+use Rattle.std.specs.Prelude.{◌≡◌, ◌<◌, ◌≤◌, ◌⊎◌, ⊤, ℕ, List, [], ◌∷◌, ◌++◌, length, codes, decimal, Some, None, IsSome, Result, Ok, Err, option_and_then}
 use Rattle.std.specs.List.{flat_map, AllAdjacentBelow}
 use Rattle.hex.specs.Hex.{encode_lower}
 use Rattle.gb_text.specs.declared.id.Name.{Name}
@@ -55,8 +55,8 @@ abbrev pub IsDamagedBug : Files → List ℕ → List ℕ → Type 0
 IsDamagedBug files folder bug =
     (ref_at files folder (bug_ref bug) ≡ Bad)
     ⊎ ((head : Name) × (ref_at files folder (bug_ref bug) ≡ Head head)
-        × ((name : Name) → MeetsMerge (objects_in files folder) head name → ⊥)
-        × (fault : WalkFault) × FaultHolds (objects_in files folder) head fault)
+    × ((name : Name) → MeetsMerge (objects_in files folder) head name → ⊥)
+    × (fault : WalkFault) × FaultHolds (objects_in files folder) head fault)
 
 -- the log of the bug whose ref stands at a place and names this head, or why there is none
 abbrev pub WalkTold : Files → List ℕ → List ℕ → Name → Result (List ℕ) Stop → Type 0

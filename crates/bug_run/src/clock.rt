@@ -3,8 +3,8 @@ ghost use Rattle.std.specs.Prelude.{◌≡◌};
 ghost use Rattle.std.specs.Option.{option_copied};
 ghost use Rattle.bug_run.specs.Clocks.{clock_in_range, edit_clock_of, only, rests_after};
 
-use git_object::{Entry, Tree};
 use gb_text::{LIMIT, read_decimal};
+use git_object::{Entry, Tree};
 
 /// The edit clock of a tree: just one of its entries begins with `edit-clock-`, and a plain
 /// decimal of 1 to 2^63 - 1 follows.

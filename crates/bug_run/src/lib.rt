@@ -7,15 +7,14 @@ mod log;
 mod name;
 mod print;
 mod refusal;
-
 mod status;
 mod top;
 mod walk;
 mod words;
 
 pub use fault::WalkFault;
-pub use top::run;
 pub use status::{Refusal, Status, Stop};
+pub use top::run;
 
 #[cfg(test)]
 mod tests;

@@ -27,12 +27,7 @@ pub struct Step {
 
 /// The log of the bug with this id: a line for each commit of its chain, from the root to the
 /// head. Each commit and each tree is read once.
-pub fn log<S: Store>(
-    alloc: Global,
-    disk: &mut S,
-    folder: &Folder,
-    bug: &str,
-) -> Result<Text, Stop>
+pub fn log<S: Store>(alloc: Global, disk: &mut S, folder: &Folder, bug: &str) -> Result<Text, Stop>
     ensures answers { IsTrue S.tells → LogAnswers (files_of (S.history disk.old)) folder.now bug.now result }
     ensures folder { IsErrOf result (Stop.Refused Refusal.BadFolder) → ⊥ }
     ensures unwritten { IsTrue S.tells → S.history disk.new ≡ S.history disk.old }

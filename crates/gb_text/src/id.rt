@@ -35,14 +35,6 @@ impl Id {
         Id { bytes }
     }
 
-    /// The 32 bytes.
-    pub fn as_slice(&self) -> &[u8]
-        ensures bytes { result.now ≡ self.now.bytes }
-        ensures sized { IsId self.now }
-    {
-        whole(&self.bytes)
-    }
-
     /// The 64 digits.
     pub fn text(&self) -> [u8; 64]
         ensures digits { result ≡ encode_lower self.now.bytes }
@@ -87,14 +79,6 @@ impl Name {
         Name { bytes }
     }
 
-    /// The 20 bytes.
-    pub fn as_slice(&self) -> &[u8]
-        ensures bytes { result.now ≡ self.now.bytes }
-        ensures sized { IsName self.now }
-    {
-        whole(&self.bytes)
-    }
-
     /// The 40 digits.
     pub fn text(&self) -> [u8; 40]
         ensures digits { result ≡ encode_lower self.now.bytes }
@@ -123,14 +107,6 @@ fn read_digits(text: &[u8], bytes: &mut [u8]) -> bool
     let printed = &mut printed[..2 * bytes.len()];
     write_digits(bytes, printed);
     &*printed == text
-}
-
-// All of some bytes, whose numbers are then known to be bytes.
-fn whole(bytes: &[u8]) -> &[u8]
-    ensures same { result.now ≡ bytes.now }
-    ensures bytes { IsBytes bytes.now }
-{
-    bytes
 }
 
 // Writes the digits of some bytes.

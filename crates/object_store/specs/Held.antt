@@ -1,6 +1,5 @@
 -- The objects of one folder, and what a name holds (Git's object format; SHA-1 by FIPS 180-4).
 use Rattle.std.specs.Prelude.{◌≡◌, ◌⊎◌, ℕ, ◌<◌, ◌≤◌, ◌&&◌, nat_le, if◌then◌else◌, List, length, Option, Some, None, Result, Ok, Err, ⊤, option_and_then}
-use Rattle.std.specs.Option.{option_map}
 use Rattle.std.specs.Str.{bytes_eq}
 use Rattle.sha1.specs.Sha1.{sha1}
 use Rattle.gb_text.specs.declared.id.Name.{Name}
@@ -8,7 +7,6 @@ use Rattle.gb_text.specs.Folder.{joined}
 use Rattle.gb_store.specs.Counts.{raised}
 use Rattle.gb_store.specs.Files.{Files}
 use Rattle.gb_store.specs.ObjectPath.{object_place}
-use Rattle.git_object.specs.declared.frame.Kind.{Kind}
 use Rattle.git_object.specs.declared.object.Object.{Object}
 use Rattle.git_object.specs.Grammar.{IsObjectText, object_name}
 use Rattle.git_object.specs.Reading.{object_of, frame_of}

@@ -4,9 +4,12 @@
 mod fault;
 mod path;
 mod read;
+mod write;
 
 pub use fault::{ObjFault, PutFault};
-pub use read::{Raw, get, get_raw};
+pub use path::path_of;
+pub use read::{MOST_BYTES, Raw, get, get_raw};
+pub use write::put;
 
 #[cfg(test)]
 mod tests;

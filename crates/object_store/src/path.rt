@@ -1,5 +1,6 @@
 //! The path of an object in a folder.
 ghost use Rattle.std.specs.Prelude.{◌≡◌, IfOk, OnOk, string_bytes, true};
+ghost use Rattle.hex.specs.Hex.{IsBytes};
 ghost use Rattle.gb_text.specs.Digits.{IsName};
 ghost use Rattle.gb_text.specs.Folder.{joined};
 ghost use Rattle.gb_store.specs.ObjectPath.{object_place, is_object_path};
@@ -23,7 +24,7 @@ fn place_of(alloc: Global, name: &Name) -> Result<String, AllocError>
     ensures place { IfOk result (λ place. string_bytes place ≡ object_place name.now) }
     ensures name { OnOk result (IsName name.now) }
 {
-    let (first, others) = name.as_slice().split_at(1);
+    let (first, others) = whole(&name.bytes).split_at(1);
     let fan = hex::encode(alloc, first)?;
     let rest = hex::encode(alloc, others)?;
     let mut place = String::from_str(alloc, "objects/")?;
@@ -31,4 +32,12 @@ fn place_of(alloc: Global, name: &Name) -> Result<String, AllocError>
     place.push_str("/")?;
     place.push_str(rest.as_str())?;
     Ok(place)
+}
+
+// All of some bytes, whose numbers are then known to be bytes.
+fn whole(bytes: &[u8]) -> &[u8]
+    ensures same { result.now ≡ bytes.now }
+    ensures bytes { IsBytes bytes.now }
+{
+    bytes
 }

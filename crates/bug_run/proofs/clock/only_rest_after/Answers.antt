@@ -1,4 +1,4 @@
-use Rattle.std.proofs.Common.{◌≡◌, ◌∷◌, ◌++◌, ◌+◌, ℕ, List, drop, option_to_list, option_copied, sym, ◌∙◌, ap}
+use Rattle.std.proofs.Common.{◌++◌, ◌+◌, ℕ, List, drop, option_to_list, option_copied, sym, ◌∙◌, ap}
 use Rattle.bug_run.specs.Clocks.{rests_after}
 use Rattle.bug_run.proofs.ClockLemmas.{rests-skip, rests-add, only-two, found-none}
 use Rattle.bug_run.proofs.clock.only_rest_after.Goals as goal

@@ -1,4 +1,4 @@
-use Rattle.std.proofs.Common.{◌≡◌, List, Result, Vec, Err, sym, ◌∙◌, ap, subst, rules}
+use Rattle.std.proofs.Common.{◌≡◌, List, Result, Vec, Err, sym, subst, rules}
 use Rattle.std.specs.declared.alloc.Global.{Global}
 use Rattle.gb_store.specs.Files.{History, files_of}
 use Rattle.object_store.specs.Held.{objects_in}

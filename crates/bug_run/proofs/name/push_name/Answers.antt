@@ -1,4 +1,4 @@
-use Rattle.std.proofs.Common.{ℕ, ◌<◌, ◌≤◌, nat_lt, IsUtf8, IsAscii, length, true, ◌≡◌, refl, sym, subst, inl, inr, arith, slice_index}
+use Rattle.std.proofs.Common.{nat_lt, IsUtf8, IsAscii, true, ◌≡◌, refl, sym, subst, inl, inr, arith, slice_index}
 use Rattle.std.proofs.lemmas.Bool.{cases_lt}
 use Rattle.std.proofs.lemmas.List.Elements.{All-get_or}
 use Rattle.std.proofs.lemmas.List.Sums.{AllPass-from_list_all}

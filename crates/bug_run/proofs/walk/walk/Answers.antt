@@ -1,5 +1,4 @@
-use Rattle.std.proofs.Common.{◌≡◌, ◌≤◌, IsTrue, length, reverse, Result, Vec, Err, Ok, sym, ◌∙◌, ap, subst, rules, arith}
-use Rattle.std.proofs.lemmas.Grind.{common_steps}
+use Rattle.std.proofs.Common.{◌≡◌, ◌≤◌, length, reverse, Result, Vec, Err, Ok, sym, subst, rules, arith}
 use Rattle.std.proofs.lemmas.List.{length-reverse}
 use Rattle.std.specs.declared.alloc.Global.{Global}
 use Rattle.gb_store.specs.Files.{History, files_of}
