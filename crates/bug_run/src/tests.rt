@@ -274,30 +274,23 @@ fn a_merge_commit_is_named_before_other_faults(rt: HostRuntime) -> Result<(), Fa
     Ok(())
 }
 
+// Whether a ref file with this text is damaged.
+fn is_bad_ref(alloc: Global, text: &[u8]) -> Result<bool, Fail> {
+    let (mut store, _) = chain(alloc, &["1"])?;
+    let place = format!(in alloc; "refs/bugs/{BUG}")?;
+    put_file(alloc, &mut store, place.as_str(), text)?;
+    let line = damaged(alloc)?;
+    logs_as(alloc, &mut store, line.as_str())
+}
+
 #[test]
 fn refs_that_are_no_ref_texts_are_damaged(rt: HostRuntime) -> Result<(), Fail> {
     let alloc = rt.alloc();
-    let line = damaged(alloc)?;
-    let place = format!(in alloc; "refs/bugs/{BUG}")?;
-    let long = [b'a'; 5000];
-    let upper = b"E69DE29BB2D1D6434B8B29AE775AD8C2E48C5391";
-    let (mut store, names) = chain(alloc, &["1"])?;
-    assert_eq!(rt; names.len(), 1);
-    let twice = format!(in alloc; "{}\n\n", digits(alloc, &names[0])?.as_str())?;
-    let texts: [&[u8]; 5] = [b"", b"x", upper, &long, twice.as_bytes()];
-    for text in texts {
-        put_file(alloc, &mut store, place.as_str(), text)?;
-        assert!(rt; logs_as(alloc, &mut store, line.as_str())?);
-    }
-    let ended = format!(in alloc; "{}\n", digits(alloc, &names[0])?.as_str())?;
-    put_file(alloc, &mut store, place.as_str(), ended.as_bytes())?;
-    let mut sink = open_sink(alloc);
-    assert!(rt;
-        matches!(
-            run_words(alloc, &mut store, &["f", "log", BUG], &mut sink)?,
-            Status::Done
-        )
-    );
+    assert!(rt; is_bad_ref(alloc, b"")?);
+    assert!(rt; is_bad_ref(alloc, b"x")?);
+    assert!(rt; is_bad_ref(alloc, b"E69DE29BB2D1D6434B8B29AE775AD8C2E48C5391")?);
+    assert!(rt; is_bad_ref(alloc, b"e69de29bb2d1d6434b8b29ae775ad8c2e48c5391\n\n")?);
+    assert!(rt; is_bad_ref(alloc, &[b'a'; 5000])?);
     Ok(())
 }
 
@@ -351,22 +344,27 @@ fn trees_without_just_one_edit_clock_are_damaged(rt: HostRuntime) -> Result<(), 
     Ok(())
 }
 
+// Whether such a file in the place of a root, or of its tree, is damaged.
+fn spoils(alloc: Global, text: &[u8]) -> Result<bool, Fail> {
+    let (mut store, names) = chain(alloc, &["1", "2"])?;
+    let root = *names.first().ok_or("a root")?;
+    let head = *names.last().ok_or("a head")?;
+    put_text(alloc, &mut store, &root, text)?;
+    let commit_spoils = is_damaged(alloc, &mut store, &head)?;
+    let (mut other, _) = chain(alloc, &["1", "2"])?;
+    let tree = put_clocks(alloc, &mut other, "1", true)?;
+    put_text(alloc, &mut other, &tree, text)?;
+    Ok(commit_spoils && is_damaged(alloc, &mut other, &head)?)
+}
+
 #[test]
 fn files_that_are_not_the_named_object_are_damaged(rt: HostRuntime) -> Result<(), Fail> {
     let alloc = rt.alloc();
+    assert!(rt; spoils(alloc, b"")?);
+    assert!(rt; spoils(alloc, b"commit 3\0abc")?);
+    assert!(rt; spoils(alloc, b"tree 0\0")?);
     let large = vec![in alloc; b'x'; 4_194_305]?;
-    let texts: [&[u8]; 4] = [b"", b"commit 3\0abc", b"tree 0\0", &large];
-    for text in texts {
-        let (mut store, names) = chain(alloc, &["1", "2"])?;
-        assert_eq!(rt; names.len(), 2);
-        put_text(alloc, &mut store, &names[0], text)?;
-        assert!(rt; is_damaged(alloc, &mut store, &names[1])?);
-        let (mut other, heads) = chain(alloc, &["1", "2"])?;
-        assert_eq!(rt; heads.len(), 2);
-        let tree = put_clocks(alloc, &mut other, "1", true)?;
-        put_text(alloc, &mut other, &tree, text)?;
-        assert!(rt; is_damaged(alloc, &mut other, &heads[1])?);
-    }
+    assert!(rt; spoils(alloc, &large)?);
     Ok(())
 }
 
@@ -415,41 +413,32 @@ fn a_store_that_fails_prints_nothing(rt: HostRuntime) -> Result<(), Fail> {
     Ok(())
 }
 
-// Puts a chain of so many commits, with the clocks 1, 2, 3 and so on, below the ref of the bug.
-fn fill_long(alloc: Global, store: &mut MemStore, count: u64) -> Result<(), Fail> {
+// Puts a chain of so many commits, with the clocks 1, 2, 3 and so on, and answers the last two.
+fn fill_long(alloc: Global, store: &mut MemStore, count: u64) -> Result<(Name, Name), Fail> {
     let empty = put(alloc, store, Kind::Blob, b"")?;
-    let mut head = None;
-    for clock in 1..=count {
+    let tree = put_tree(alloc, store, &[("edit-clock-1", empty)])?;
+    let mut head = put_commit(alloc, store, &tree, &[])?;
+    let mut below = head;
+    for clock in 2..=count {
         let entry = format!(in alloc; "edit-clock-{clock}")?;
         let tree = put_tree(alloc, store, &[(entry.as_str(), empty)])?;
-        let commit = match head {
-            Some(parent) => put_commit(alloc, store, &tree, &[parent])?,
-            None => put_commit(alloc, store, &tree, &[])?,
-        };
-        head = Some(commit);
+        below = head;
+        head = put_commit(alloc, store, &tree, &[below])?;
     }
-    put_ref(alloc, store, &head.ok_or("a head")?)
+    Ok((below, head))
 }
 
 #[test]
 fn no_more_than_65536_commits_are_logged(rt: HostRuntime) -> Result<(), Fail> {
     let alloc = rt.alloc();
     let mut store = MemStore::new(alloc, List::new(alloc));
-    fill_long(alloc, &mut store, 65_536)?;
+    let (below, head) = fill_long(alloc, &mut store, 65_537)?;
+    put_ref(alloc, &mut store, &below)?;
     let mut sink = open_sink(alloc);
-    assert!(rt;
-        matches!(
-            run_words(alloc, &mut store, &["f", "log", BUG], &mut sink)?,
-            Status::Done
-        )
-    );
-    assert_eq!(rt;
-        sink.bytes().iter().filter(|b| **b == b'\n').count(),
-        65_536
-    );
-    let mut longer = MemStore::new(alloc, List::new(alloc));
-    fill_long(alloc, &mut longer, 65_537)?;
-    let line = damaged(alloc)?;
-    assert!(rt; logs_as(alloc, &mut longer, line.as_str())?);
+    let status = run_words(alloc, &mut store, &["f", "log", BUG], &mut sink)?;
+    assert!(rt; matches!(status, Status::Done));
+    let lines = sink.bytes().iter().filter(|b| **b == b'\n').count();
+    assert_eq!(rt; lines, 65_536);
+    assert!(rt; is_damaged(alloc, &mut store, &head)?);
     Ok(())
 }
