@@ -1,5 +1,8 @@
 //! The calls of the system on files and folders.
-ghost use Rattle.std.specs.Prelude.{IfOk};
+ghost use Rattle.std.specs.Prelude.{◌↔◌, ℕ, List, Contains, IfOk};
+ghost use Rattle.std.specs.Cmp.Lexicographic.{slice_cmp};
+ghost use Rattle.std.specs.List.Sorted.{IsStrictlySortedBy};
+ghost use Rattle.std.specs.Ordering.{nat_cmp};
 ghost use Rattle.gb_store.specs.Files.{IsWithin};
 
 use gb_store::Content;
@@ -35,6 +38,17 @@ pub fn list<R: Files + AllocGlobal + Clone + Drop>(
     rt: &R,
     alloc: Global,
     dir: &str,
+) -> io::Result<Vec<Text>>
+    ensures { IfOk result (λ names. IsStrictlySortedBy (slice_cmp nat_cmp) names.items) }
+{
+    Ok(in_order(names_in(rt, alloc, dir)?))
+}
+
+// The names of the plain files right in a folder but the temporary ones, in any order.
+fn names_in<R: Files + AllocGlobal + Clone + Drop>(
+    rt: &R,
+    alloc: Global,
+    dir: &str,
 ) -> io::Result<Vec<Text>> {
     let mut names = Vec::new(alloc);
     if !is_folder(rt, dir)? {
@@ -47,9 +61,18 @@ pub fn list<R: Files + AllocGlobal + Clone + Drop>(
             names.push(Text::from_str(alloc, name).map_err(|_| want_of_memory())?)?;
         }
     }
+    Ok(names)
+}
+
+// The same names in byte order, each once.
+fn in_order(names: Vec<Text>) -> Vec<Text>
+    ensures rising { IsStrictlySortedBy (slice_cmp nat_cmp) result.items }
+    ensures members { (name : List ℕ) → Contains result.items name ↔ Contains names.items name }
+{
+    let mut names = names;
     names.sort_unstable();
     names.dedup();
-    Ok(names)
+    names
 }
 
 /// Puts a whole file at a path, by way of a file at another path in the same folder: at each moment what stands at the path
