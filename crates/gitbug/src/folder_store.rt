@@ -1,16 +1,16 @@
 //! A store over real folders.
-ghost use Rattle.std.specs.Prelude.{◌≡◌, ◌↔◌, Ok, IfOk, IsErrOf, IsErrAnd};
+ghost use Rattle.std.specs.Prelude.{◌≡◌, ◌↔◌, Ok, IfOk, IfErr, IsErrOf, IsErrAnd};
 ghost use Rattle.std.specs.IoError.{error_kind};
 ghost use Rattle.gb_store.specs.Counts.{raised};
 ghost use Rattle.gb_store.specs.Faults.{KeepsFaults};
 ghost use Rattle.gb_store.specs.ObjectPath.{reads_after};
 
 use crate::disk;
-use crate::place::{folder_of, may_wait};
+use crate::place::{Kind, folder_of};
 use crate::unsynced::Unsynced;
 use gb_store::{Content, Store, StoreFault, is_object_path};
 use gb_text::{List, Text};
-use std::alloc::Global;
+use std::alloc::{AllocError, Global};
 use std::io;
 use std::io::ErrorKind;
 use std::marker::Model;
@@ -86,47 +86,60 @@ impl<R: Files + AllocGlobal + Clone + Drop> FolderStore<R> {
         }
     }
 
-    // Puts a file. What it names has reached the disk before it, and it has afterwards, but where it may wait.
+    // Puts a file. One that may name objects does not reach the disk before them, and has reached it afterwards.
     fn put_file(&mut self, alloc: Global, path: &str, bytes: &[u8]) -> io::Result<()>
         ensures { self.new ≡ self.old }
     {
+        let kind = Kind::of(path);
         let folder = folder_of(path);
-        let waits = may_wait(path);
-        if !waits {
+        if kind == Kind::Other {
             self.unsynced.sync(&self.rt)?;
         }
         self.unsynced.make(&self.rt, alloc, folder)?;
-        if !waits || is_object_path(path) {
+        if kind != Kind::Row {
             self.unsynced.add(alloc, folder)?;
         }
-        let number = self.temporaries;
-        self.temporaries = number.wrapping_add(1);
-        let prefix = disk::TEMPORARY;
-        let temporary = format!(in alloc; "{folder}/{prefix}{number}")?;
+        let temporary = self.next_temporary(alloc, folder)?;
         disk::put(&self.rt, temporary.as_str(), path, bytes)?;
-        if waits { Ok(()) } else { self.sync_written() }
+        self.sync_written(kind)
     }
 
-    // Removes a file, and has that reach the disk, but where it may wait.
+    // Removes a file, and has that reach the disk as a put does.
     fn remove_file(&mut self, alloc: Global, path: &str) -> io::Result<()>
         ensures { self.new ≡ self.old }
     {
-        if !may_wait(path) {
+        let kind = Kind::of(path);
+        if kind == Kind::Other {
             self.unsynced.add(alloc, folder_of(path))?;
         }
-        if disk::remove(&self.rt, path)? && !may_wait(path) {
-            return self.sync_written();
+        if !disk::remove(&self.rt, path)? {
+            return Ok(());
         }
-        Ok(())
+        self.sync_written(kind)
     }
 
-    // Syncs the folders after a write was made: no error then is a want of memory.
-    fn sync_written(&mut self) -> io::Result<()>
+    // The path of a temporary file in a folder, another each time.
+    fn next_temporary(&mut self, alloc: Global, folder: &str) -> Result<String, AllocError>
         ensures { self.new ≡ self.old }
     {
-        self.unsynced
-            .sync(&self.rt)
-            .map_err(|_| io::Error::from(ErrorKind::Other))
+        let number = self.temporaries;
+        self.temporaries = number.wrapping_add(1);
+        let prefix = disk::TEMPORARY;
+        format!(in alloc; "{folder}/{prefix}{number}")
+    }
+
+    // Has what was written reach the disk, but for what may wait. The write was made, so no error is want of memory.
+    fn sync_written(&mut self, kind: Kind) -> io::Result<()>
+        ensures kept { self.new ≡ self.old }
+        ensures failed { IfErr result (λ e. error_kind e ≡ ErrorKind.Other) }
+    {
+        if kind != Kind::Other {
+            return Ok(());
+        }
+        match self.unsynced.sync(&self.rt) {
+            Ok(()) => Ok(()),
+            Err(_) => Err(io::Error::from(ErrorKind::Other)),
+        }
     }
 }
 

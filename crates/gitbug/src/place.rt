@@ -1,6 +1,30 @@
-//! Where a path stands: its folder, and whether a loss of what is put there is no loss.
+//! Where a path stands, and what its put has to do with the disk.
 use gb_store::is_object_path;
 use gb_text::Id;
+
+/// What a path is to the disk.
+#[derive(Clone, Copy, PartialEq, Eq)]
+pub enum Kind {
+    /// An object, which no file names until a put of another kind.
+    Object,
+    /// A row of the cache, which is made anew where it is lost.
+    Row,
+    /// What names objects, or is named by none.
+    Other,
+}
+
+impl Kind {
+    /// The kind of a path.
+    pub fn of(path: &str) -> Kind {
+        if is_object_path(path) {
+            Kind::Object
+        } else if is_row_path(path) {
+            Kind::Row
+        } else {
+            Kind::Other
+        }
+    }
+}
 
 /// The folder in which a path stands.
 pub fn folder_of(path: &str) -> &str {
@@ -11,18 +35,12 @@ pub fn folder_of(path: &str) -> &str {
     }
 }
 
-/// Whether a put of the path waits for the next put of another path to reach the disk: an object is named by no file
-/// until then, and a row of the cache is made anew.
-pub fn may_wait(path: &str) -> bool {
-    is_object_path(path) || is_row_path(path)
-}
-
-// Whether the last parts of a path are `git-bug`, `cache`, a kind and an id.
+// Whether the last parts of a path are `git-bug`, `cache`, a kind of row and an id.
 fn is_row_path(path: &str) -> bool {
     let Some((front, name)) = path.rsplit_once('/') else {
         return false;
     };
-    let Some((cache, _kind)) = front.rsplit_once('/') else {
+    let Some((cache, _)) = front.rsplit_once('/') else {
         return false;
     };
     Id::read(name.as_bytes()).is_some()
