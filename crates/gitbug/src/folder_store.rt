@@ -1,5 +1,5 @@
 //! A store over real folders.
-ghost use Rattle.std.specs.Prelude.{◌≡◌, ◌↔◌, Ok, IfOk, IfErr, IsErrOf, IsErrAnd};
+ghost use Rattle.std.specs.Prelude.{◌≡◌, ◌↔◌, Ok, IfOk, IfErr, IsErr, OnErr, IsErrOf, IsErrAnd};
 ghost use Rattle.std.specs.IoError.{error_kind};
 ghost use Rattle.gb_store.specs.Counts.{raised};
 ghost use Rattle.gb_store.specs.Faults.{KeepsFaults};
@@ -69,7 +69,8 @@ impl<R: Files + AllocGlobal + Clone + Drop> FolderStore<R> {
 
     // The answer to what the system did, and a failure counted.
     fn settle<T: Drop>(&mut self, done: io::Result<T>) -> Result<T, StoreFault>
-        ensures ok { IfOk result (λ value. done ≡ Ok value) }
+        ensures ok { IfOk done (λ value. result ≡ Ok value) }
+        ensures err { OnErr done (IsErr result) }
         ensures memory { IsErrOf result StoreFault.Memory ↔ IsErrAnd done (λ e. error_kind e ≡ ErrorKind.OutOfMemory) }
         ensures kept { ¬ IsErrOf result StoreFault.Failed → self.new ≡ self.old }
         ensures reads { self.new.reads ≡ self.old.reads }
