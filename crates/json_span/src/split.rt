@@ -20,6 +20,7 @@ use std::alloc::Global;
 trait Kept: Drop {
     ghost kept: { MemberValue → Self };
 
+    /// What is kept of a part with this name and value.
     fn keep(member: Member) -> Self
         ensures { result ≡ kept member };
 }

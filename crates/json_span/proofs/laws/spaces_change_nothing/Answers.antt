@@ -1,3 +1,4 @@
+-- White space at the ends changes no part.
 use Rattle.json_span.proofs.AgainLaws.{members_spaced, elements_spaced}
 use Rattle.json_span.proofs.laws.spaces_change_nothing.Goals as goal
 

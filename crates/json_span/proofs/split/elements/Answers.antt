@@ -1,3 +1,4 @@
+-- What the machine finds are an array's elements.
 use Rattle.json_span.proofs.CallLaws.{elements_lie, elements_only, elements_cuts, elements_parts, elements_refused}
 use Rattle.json_span.proofs.split.elements.Goals as goal
 

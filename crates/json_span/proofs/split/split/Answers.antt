@@ -1,3 +1,4 @@
+-- Each byte keeps what is read, and where the reading stops the text is refused.
 use Rattle.std.proofs.Common.{◌≡◌, ◌++◌, ◌∷◌, [], sym, ap, ◌∙◌, Vec, Global}
 use Rattle.json_span.specs.Steps.{state_of}
 use Rattle.json_span.proofs.ReadLaws.{gained, has_begun, has_gone_on, has_stopped, has_found, has_failed}

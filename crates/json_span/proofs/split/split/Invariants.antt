@@ -1,3 +1,4 @@
+-- What holds before each byte of the text.
 use Rattle.json_span.specs.Steps.{state_of}
 use Rattle.json_span.proofs.ReadLaws.{HasRead}
 use Rattle.json_span.proofs.split.split.Given as goal
