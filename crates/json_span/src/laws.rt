@@ -71,14 +71,12 @@ pub fn joined_splits()
         → members_of (object_text parts) ≡ Some parts }
 {}
 
-/// White space at the ends of a text changes no part.
+/// White space at the ends of a text changes no part, and makes no list.
 pub fn spaces_change_nothing()
-    ensures objects { (before behind text : List ℕ) (parts : List (List ℕ × List ℕ)) → Each is_space before
-        → Each is_space behind → members_of text ≡ Some parts
-        → members_of (before ++ (text ++ behind)) ≡ Some parts }
-    ensures arrays { (before behind text : List ℕ) (parts : List (List ℕ)) → Each is_space before
-        → Each is_space behind → elements_of text ≡ Some parts
-        → elements_of (before ++ (text ++ behind)) ≡ Some parts }
+    ensures objects { (before behind text : List ℕ) → Each is_space before → Each is_space behind
+        → members_of (before ++ (text ++ behind)) ≡ members_of text }
+    ensures arrays { (before behind text : List ℕ) → Each is_space before → Each is_space behind
+        → elements_of (before ++ (text ++ behind)) ≡ elements_of text }
 {}
 
 /// A value text that begins with a bracket splits again, where at most 101 brackets are open.
