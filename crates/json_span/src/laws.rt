@@ -12,15 +12,18 @@ ghost use Rattle.json_span.specs.declared.Span.{Span as SpanValue};
 
 /// A text has at most one split.
 pub fn one_split()
-    ensures objects { (text : List ℕ) (a b : List MemberValue) → IsObject text a → IsObject text b → a ≡ b }
-    ensures arrays { (text : List ℕ) (a b : List SpanValue) → IsArray text a → IsArray text b → a ≡ b }
+    ensures objects { (text : List ℕ) (a b : List MemberValue) → IsObject text a → IsObject text b
+        → a ≡ b }
+    ensures arrays { (text : List ℕ) (a b : List SpanValue) → IsArray text a → IsArray text b
+        → a ≡ b }
 {}
 
 /// The spans of a split ascend and do not overlap, each name before its value.
 pub fn spans_ascend()
     ensures objects { (text : List ℕ) (members : List MemberValue) → IsObject text members
         → AscendFrom 0 (spans_of members) }
-    ensures arrays { (text : List ℕ) (spans : List SpanValue) → IsArray text spans → AscendFrom 0 spans }
+    ensures arrays { (text : List ℕ) (spans : List SpanValue) → IsArray text spans
+        → AscendFrom 0 spans }
 {}
 
 /// `members_of` and `elements_of` are the parts of a text by the grammar, where it has a split, and
@@ -92,18 +95,19 @@ pub fn parts_are_shallower()
     ensures members { (depth : ℕ) (text : List ℕ) (parts : List (List ℕ × List ℕ))
         → IsValueText (suc depth) text → members_of text ≡ Some parts
         → All (IsMemberOf depth) parts }
-    ensures elements { (depth : ℕ) (text : List ℕ) (parts : List (List ℕ)) → IsValueText (suc depth) text
-        → elements_of text ≡ Some parts → All (IsValueText depth) parts }
-    ensures members_limit { (text : List ℕ) (parts : List (List ℕ × List ℕ)) → members_of text ≡ Some parts
-        → All (IsMemberOf 100) parts }
-    ensures elements_limit { (text : List ℕ) (parts : List (List ℕ)) → elements_of text ≡ Some parts
-        → All IsPartText parts }
+    ensures elements { (depth : ℕ) (text : List ℕ) (parts : List (List ℕ))
+        → IsValueText (suc depth) text → elements_of text ≡ Some parts
+        → All (IsValueText depth) parts }
+    ensures members_limit { (text : List ℕ) (parts : List (List ℕ × List ℕ))
+        → members_of text ≡ Some parts → All (IsMemberOf 100) parts }
+    ensures elements_limit { (text : List ℕ) (parts : List (List ℕ))
+        → elements_of text ≡ Some parts → All IsPartText parts }
 {}
 
 /// The parts of a UTF-8 text are UTF-8.
 pub fn parts_are_utf8()
     ensures members { (text : List ℕ) (parts : List (List ℕ × List ℕ)) → IsUtf8 text
         → members_of text ≡ Some parts → All (λ m. IsUtf8 m.0 × IsUtf8 m.1) parts }
-    ensures elements { (text : List ℕ) (parts : List (List ℕ)) → IsUtf8 text → elements_of text ≡ Some parts
-        → All IsUtf8 parts }
+    ensures elements { (text : List ℕ) (parts : List (List ℕ)) → IsUtf8 text
+        → elements_of text ≡ Some parts → All IsUtf8 parts }
 {}

@@ -43,7 +43,8 @@ impl Kept for Span {
 
 /// The parts of a text of a kind: one pass, which keeps each part as soon as it is whole.
 fn split<P: Kept>(alloc: Global, kind: Kind, text: &[u8]) -> Result<Vec<P>, SpanFault>
-    ensures found { IfOk result (λ v. option_map (map P.kept) (split_of kind text.now) ≡ Some v.items) }
+    ensures found { IfOk result (λ v. option_map (map P.kept) (split_of kind text.now)
+        ≡ Some v.items) }
     ensures refused { IfErr result (Stops kind text.now) }
 {
     let mut parts = Vec::new(alloc);
