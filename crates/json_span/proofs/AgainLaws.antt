@@ -1,10 +1,10 @@
--- A value text that is a list splits again, into parts with one bracket fewer open; white space at a text's ends changes no part.
-use Rattle.std.proofs.Common.{◌≡◌, ℕ, suc, ◌<◌, ◌≤◌, true, false, eqb, List, [], ◌∷◌, ◌++◌, Some, refl, sym, ap, subst, ◌∙◌, append_assoc, arith, map, inl, inr}
+-- A value text that is a list splits again, into parts with one bracket fewer open.
+use Rattle.std.proofs.Common.{◌≡◌, ℕ, suc, ◌<◌, ◌≤◌, true, false, eqb, List, [], ◌∷◌, ◌++◌, Some, refl, sym, ap, subst, ◌∙◌, arith, map, inl, inr}
 use Rattle.std.specs.List.{AllByRecursion, All}
 use Rattle.std.proofs.lemmas.List.Elements.{All-nil, All-cons}
 use Rattle.std.proofs.lemmas.Bool.{eqb-true, cases_lt}
 use Rattle.std.proofs.lemmas.Bool.Decides.{nat_tests}
-use Rattle.json_span.specs.Grammar.{Each, is_space, is_digit, Integer, Optional, Scalar, zero_digit, no_zero_first, absent, present, string_text, number_text, true_text, false_text, null_text, open_of, close_of, Piece, IsPiece, Inside, IsList, ValueWithin, IsValueText, IsPartText, Splits}
+use Rattle.json_span.specs.Grammar.{is_space, is_digit, Integer, Optional, Scalar, zero_digit, no_zero_first, absent, present, string_text, number_text, true_text, false_text, null_text, open_of, close_of, Piece, IsPiece, Inside, IsList, ValueWithin, IsValueText, IsPartText, Splits}
 use Rattle.json_span.specs.Joined.{IsMemberOf}
 use Rattle.json_span.specs.Parts.{members_of, elements_of, HasMembers, HasElements}
 use Rattle.json_span.specs.declared.state.Kind.{Kind}
@@ -131,21 +131,3 @@ objects_split d rest le is = object_again rest (deeper d 101 (123 ∷ rest) le i
 
 pub arrays_split : (d : ℕ) (rest : List ℕ) → d ≤ 101 → IsValueText d (91 ∷ rest) → (parts : List (List ℕ)) × (elements_of (91 ∷ rest) ≡ Some parts)
 arrays_split d rest le is = array_again rest (deeper d 101 (91 ∷ rest) le is).within
-
--- ---- white space at the ends
-
-each_joined : (a b : List ℕ) → Each is_space a → Each is_space b → Each is_space (a ++ b)
-each_joined [] b ea eb = eb
-each_joined (x ∷ xs) b ea eb = (ea.0, each_joined xs b ea.1 eb)
-
-spaced_grouped : (a front x last b : List ℕ) (o e : ℕ) → a ++ (((front ++ o ∷ x) ++ e ∷ last) ++ b) ≡ ((a ++ front) ++ o ∷ x) ++ e ∷ (last ++ b)
-spaced_grouped a front x last b o e = simp append_assoc
-
-spaced : (k : Kind) (a b text front : List ℕ) (pieces : List Piece) → Each is_space a → Each is_space b → Splits k text front pieces → Splits k (a ++ (text ++ b)) (a ++ front) pieces
-spaced k a b text front pieces ea eb s = record { inner = s.inner; last = s.last ++ b; is_front = each_joined a front ea s.is_front; is_last = each_joined s.last b s.is_last eb; inside = s.inside; whole = ap (λ (x : List ℕ). a ++ (x ++ b)) s.whole ∙ spaced_grouped a front s.inner s.last b (open_of k) (close_of k) }
-
-pub members_spaced : (a b text : List ℕ) (parts : List (List ℕ × List ℕ)) → Each is_space a → Each is_space b → members_of text ≡ Some parts → members_of (a ++ (text ++ b)) ≡ Some parts
-members_spaced a b text parts ea eb e = let h = members_found text parts e in members_taken (a ++ (text ++ b)) parts (a ++ h.0, h.1, spaced Object a b text h.0 h.1 ea eb h.2, h.3)
-
-pub elements_spaced : (a b text : List ℕ) (parts : List (List ℕ)) → Each is_space a → Each is_space b → elements_of text ≡ Some parts → elements_of (a ++ (text ++ b)) ≡ Some parts
-elements_spaced a b text parts ea eb e = let h = elements_found text parts e in elements_taken (a ++ (text ++ b)) parts (a ++ h.0, h.1, spaced Array a b text h.0 h.1 ea eb h.2, h.3)

@@ -135,7 +135,7 @@ elements_taken text parts (front, pieces, s, e) =
     ap (option_map (map (λ (m : Member). cut_of text m.value))) (split_taken Array text (places Array (length front + 1) pieces) (front, pieces, s, refl))
     ∙ ap (λ (x : List (List ℕ)). Some x) (values_cut text (places Array (length front + 1) pieces) pieces (split_cut Array text front pieces s) ∙ sym e)
 
-some_map : {X Y : Type 0} (f : X → Y) (o : Option X) (y : Y) → option_map f o ≡ Some y → (x : X) × (o ≡ Some x) × (y ≡ f x)
+pub some_map : {X Y : Type 0} (f : X → Y) (o : Option X) (y : Y) → option_map f o ≡ Some y → (x : X) × (o ≡ Some x) × (y ≡ f x)
 some_map f None y e = absurd cc
 some_map f (Some x) y e = (x, refl, cc)
 

@@ -18,3 +18,4 @@ pub mod ValueLaws
 pub mod AgainLaws
 pub mod Utf8Laws
 pub mod OrderLaws
+pub mod SpaceLaws

@@ -1,4 +1,4 @@
--- The texts of JSON, and how an array or an object splits into its parts.
+-- The texts of JSON after RFC 8259, and how an array or an object splits into its parts.
 use Rattle.std.specs.Prelude.{◌≡◌, ◌≢◌, ℕ, ◌+◌, zero, suc, Bool, true, List, [], ◌∷◌, ◌++◌, length, codes, ◌==◌, ◌||◌, ◌&&◌, nat_lt, not, ◌⊎◌, map, ◌≤◌, ◌<◌, take, drop}
 use Rattle.std.specs.List.{AllByRecursion}
 use Rattle.json_span.specs.declared.Span.{Span}

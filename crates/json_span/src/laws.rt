@@ -12,15 +12,18 @@ ghost use Rattle.json_span.specs.declared.Span.{Span as SpanValue};
 
 /// A text has at most one split.
 pub fn one_split()
-    ensures objects { (text : List ℕ) (a b : List MemberValue) → IsObject text a → IsObject text b → a ≡ b }
-    ensures arrays { (text : List ℕ) (a b : List SpanValue) → IsArray text a → IsArray text b → a ≡ b }
+    ensures objects { (text : List ℕ) (a b : List MemberValue) → IsObject text a → IsObject text b
+        → a ≡ b }
+    ensures arrays { (text : List ℕ) (a b : List SpanValue) → IsArray text a → IsArray text b
+        → a ≡ b }
 {}
 
 /// The spans of a split ascend and do not overlap, each name before its value.
 pub fn spans_ascend()
     ensures objects { (text : List ℕ) (members : List MemberValue) → IsObject text members
         → AscendFrom 0 (spans_of members) }
-    ensures arrays { (text : List ℕ) (spans : List SpanValue) → IsArray text spans → AscendFrom 0 spans }
+    ensures arrays { (text : List ℕ) (spans : List SpanValue) → IsArray text spans
+        → AscendFrom 0 spans }
 {}
 
 /// `members_of` and `elements_of` are the parts of a text by the grammar, where it has a split, and
@@ -71,14 +74,12 @@ pub fn joined_splits()
         → members_of (object_text parts) ≡ Some parts }
 {}
 
-/// White space at the ends of a text changes no part.
+/// White space at the ends of a text changes no part, and makes no list.
 pub fn spaces_change_nothing()
-    ensures objects { (before behind text : List ℕ) (parts : List (List ℕ × List ℕ)) → Each is_space before
-        → Each is_space behind → members_of text ≡ Some parts
-        → members_of (before ++ (text ++ behind)) ≡ Some parts }
-    ensures arrays { (before behind text : List ℕ) (parts : List (List ℕ)) → Each is_space before
-        → Each is_space behind → elements_of text ≡ Some parts
-        → elements_of (before ++ (text ++ behind)) ≡ Some parts }
+    ensures objects { (before behind text : List ℕ) → Each is_space before → Each is_space behind
+        → members_of (before ++ (text ++ behind)) ≡ members_of text }
+    ensures arrays { (before behind text : List ℕ) → Each is_space before → Each is_space behind
+        → elements_of (before ++ (text ++ behind)) ≡ elements_of text }
 {}
 
 /// A value text that begins with a bracket splits again, where at most 101 brackets are open.
@@ -94,18 +95,19 @@ pub fn parts_are_shallower()
     ensures members { (depth : ℕ) (text : List ℕ) (parts : List (List ℕ × List ℕ))
         → IsValueText (suc depth) text → members_of text ≡ Some parts
         → All (IsMemberOf depth) parts }
-    ensures elements { (depth : ℕ) (text : List ℕ) (parts : List (List ℕ)) → IsValueText (suc depth) text
-        → elements_of text ≡ Some parts → All (IsValueText depth) parts }
-    ensures members_limit { (text : List ℕ) (parts : List (List ℕ × List ℕ)) → members_of text ≡ Some parts
-        → All (IsMemberOf 100) parts }
-    ensures elements_limit { (text : List ℕ) (parts : List (List ℕ)) → elements_of text ≡ Some parts
-        → All IsPartText parts }
+    ensures elements { (depth : ℕ) (text : List ℕ) (parts : List (List ℕ))
+        → IsValueText (suc depth) text → elements_of text ≡ Some parts
+        → All (IsValueText depth) parts }
+    ensures members_limit { (text : List ℕ) (parts : List (List ℕ × List ℕ))
+        → members_of text ≡ Some parts → All (IsMemberOf 100) parts }
+    ensures elements_limit { (text : List ℕ) (parts : List (List ℕ))
+        → elements_of text ≡ Some parts → All IsPartText parts }
 {}
 
 /// The parts of a UTF-8 text are UTF-8.
 pub fn parts_are_utf8()
     ensures members { (text : List ℕ) (parts : List (List ℕ × List ℕ)) → IsUtf8 text
         → members_of text ≡ Some parts → All (λ m. IsUtf8 m.0 × IsUtf8 m.1) parts }
-    ensures elements { (text : List ℕ) (parts : List (List ℕ)) → IsUtf8 text → elements_of text ≡ Some parts
-        → All IsUtf8 parts }
+    ensures elements { (text : List ℕ) (parts : List (List ℕ)) → IsUtf8 text
+        → elements_of text ≡ Some parts → All IsUtf8 parts }
 {}

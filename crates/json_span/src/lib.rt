@@ -1,4 +1,4 @@
-//! Where the parts of a JSON array or object lie in its text.
+//! Where the parts of a JSON array or object (RFC 8259) lie in its text.
 #![tactic(auto)]
 
 ghost use Rattle.std.specs.Prelude.{◌≡◌, ◌+◌, ◌≤◌, length, take, drop};

@@ -326,7 +326,8 @@ fn after_step(nest: Nest, b: u8) -> Option<Machine>
 
 /// The state behind a byte that follows a number's first.
 fn in_number(at: NumberAt, nest: Nest, b: u8) -> Option<Machine>
-    ensures { option_map state_of result ≡ number_goes at nest.0 nest.1 b (Rattle.json_span.specs.Machine.number_step at b) }
+    ensures { option_map state_of result
+        ≡ number_goes at nest.0 nest.1 b (Rattle.json_span.specs.Machine.number_step at b) }
 {
     match number_step(at, b) {
         Some(next) => Some(Machine {

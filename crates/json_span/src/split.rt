@@ -1,6 +1,7 @@
 //! The parts of an object's or an array's text.
 
 ghost use Rattle.std.specs.Prelude.{◌≡◌, List, IfOk, IfErr, MatchResult, Some, All, map};
+ghost use Rattle.std.specs.Option.{option_map};
 ghost use Rattle.json_span.specs.Grammar.{IsObject, IsArray, CutsMember, CutsValue, cut_of};
 ghost use Rattle.json_span.specs.Parts.{members_of, member_of, elements_of, RefusesMembers, RefusesElements};
 ghost use Rattle.json_span.specs.Machine.{split_of};
@@ -15,12 +16,38 @@ use crate::state::Kind;
 use crate::{Member, Span, SpanFault};
 use std::alloc::Global;
 
-/// The parts of a text of a kind: one pass, with a member for each part as soon as it is whole.
-fn split(alloc: Global, kind: Kind, text: &[u8]) -> Result<Vec<Member>, SpanFault>
-    ensures found { IfOk result (λ v. split_of kind text.now ≡ Some v.items) }
+/// What a list keeps of each part.
+trait Kept: Drop {
+    ghost kept: { MemberValue → Self };
+
+    /// What is kept of a part with this name and value.
+    fn keep(member: Member) -> Self
+        ensures { result ≡ kept member };
+}
+
+impl Kept for Member {
+    ghost kept = { λ m. m };
+
+    fn keep(member: Member) -> Member {
+        member
+    }
+}
+
+impl Kept for Span {
+    ghost kept = { λ m. m.value };
+
+    fn keep(member: Member) -> Span {
+        member.value
+    }
+}
+
+/// The parts of a text of a kind: one pass, which keeps each part as soon as it is whole.
+fn split<P: Kept>(alloc: Global, kind: Kind, text: &[u8]) -> Result<Vec<P>, SpanFault>
+    ensures found { IfOk result (λ v. option_map (map P.kept) (split_of kind text.now)
+        ≡ Some v.items) }
     ensures refused { IfErr result (Stops kind text.now) }
 {
-    let mut members = Vec::new(alloc);
+    let mut parts = Vec::new(alloc);
     let mut machine = Machine::new(kind);
     let mut marks = Marks::new();
     for (place, b) in text.iter().enumerate() {
@@ -30,28 +57,16 @@ fn split(alloc: Global, kind: Kind, text: &[u8]) -> Result<Vec<Member>, SpanFaul
         };
         let after = next.within();
         if let Some(member) = marks.finished(place, before, after) {
-            members.push(member)?;
+            parts.push(P::keep(member))?;
         }
         marks = marks.marked(place, before, after);
         machine = next;
     }
     if machine.is_done() {
-        Ok(members)
+        Ok(parts)
     } else {
         Err(SpanFault::NotSplit(text.len()))
     }
-}
-
-/// The values of members.
-fn values(alloc: Global, members: &[Member]) -> Result<Vec<Span>, SpanFault>
-    ensures values { IfOk result (λ v. v.items ≡ map (λ m. m.value) members.now) }
-    ensures memory { IfErr result (λ e. e ≡ Memory) }
-{
-    let mut spans = Vec::new(alloc);
-    for member in members {
-        spans.push(member.value)?;
-    }
-    Ok(spans)
 }
 
 /// Where the members of an object's text lie, in their order: each name with its quotes, each value
@@ -74,7 +89,7 @@ pub fn members(alloc: Global, text: &[u8]) -> Result<Vec<Member>, SpanFault>
 /// text is an array of RFC 8259 with white space round it; each element has at most 100 brackets that
 /// are open at one place. Bytes of a string need not be UTF-8. Any other text is `NotSplit`, with the
 /// length of its longest front with which such a text begins. The time is linear in the text, and
-/// memory is taken for lists of spans alone.
+/// memory is taken for the list of spans alone.
 pub fn elements(alloc: Global, text: &[u8]) -> Result<Vec<Span>, SpanFault>
     ensures found { IfOk result (λ v. IsArray text.now v.items) }
     ensures only { (all : List SpanValue) → IsArray text.now all
@@ -83,6 +98,5 @@ pub fn elements(alloc: Global, text: &[u8]) -> Result<Vec<Span>, SpanFault>
     ensures parts { IfOk result (λ v. elements_of text.now ≡ Some (map (cut_of text.now) v.items)) }
     ensures refused { IfErr result (RefusesElements text.now) }
 {
-    let members = split(alloc, Kind::Array, text)?;
-    values(alloc, &members)
+    split(alloc, Kind::Array, text)
 }

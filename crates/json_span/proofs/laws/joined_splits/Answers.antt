@@ -1,3 +1,4 @@
+-- What is joined of value texts splits into them.
 use Rattle.json_span.proofs.JoinLaws.{elements_joined, members_joined}
 use Rattle.json_span.proofs.laws.joined_splits.Goals as goal
 

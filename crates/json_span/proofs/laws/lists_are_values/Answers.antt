@@ -1,3 +1,4 @@
+-- Lists of value texts are value texts.
 use Rattle.json_span.proofs.JoinLaws.{array_value, object_value}
 use Rattle.json_span.proofs.ValueLaws.{deeper}
 use Rattle.json_span.proofs.laws.lists_are_values.Goals as goal

@@ -1,3 +1,4 @@
+-- A list splits again.
 use Rattle.json_span.proofs.AgainLaws.{objects_split, arrays_split}
 use Rattle.json_span.proofs.laws.lists_split.Goals as goal
 

@@ -1,3 +1,4 @@
+-- A text has at most one split.
 use Rattle.json_span.specs.declared.state.Kind.TheVariants.{Object}
 use Rattle.json_span.proofs.SplitLaws.{split_one, array_one}
 use Rattle.json_span.proofs.laws.one_split.Goals as goal

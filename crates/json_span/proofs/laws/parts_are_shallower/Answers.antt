@@ -1,3 +1,4 @@
+-- Parts have one bracket fewer open.
 use Rattle.json_span.proofs.AgainLaws.{members_shallower, elements_shallower, members_limit, elements_limit}
 use Rattle.json_span.proofs.laws.parts_are_shallower.Goals as goal
 

@@ -1,3 +1,4 @@
+-- Parts of UTF-8 texts are UTF-8.
 use Rattle.json_span.proofs.Utf8Laws.{members_utf8, elements_utf8}
 use Rattle.json_span.proofs.laws.parts_are_utf8.Goals as goal
 

@@ -1,3 +1,4 @@
+-- The functions are the grammar.
 use Rattle.json_span.proofs.CutLaws.{members_taken, members_found, elements_taken, elements_found}
 use Rattle.json_span.proofs.laws.parts_by_grammar.Goals as goal
 

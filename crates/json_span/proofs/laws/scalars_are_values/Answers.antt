@@ -1,3 +1,4 @@
+-- Scalars are value texts.
 use Rattle.json_span.specs.Grammar.{number_text, true_text, false_text, null_text}
 use Rattle.std.specs.Prelude.{codes}
 use Rattle.json_span.proofs.ValueLaws.{scalar_is, string_is, decimal_value}

@@ -1,4 +1,5 @@
-use Rattle.json_span.proofs.AgainLaws.{members_spaced, elements_spaced}
+-- White space at the ends changes no part.
+use Rattle.json_span.proofs.SpaceLaws.{members_spaced, elements_spaced}
 use Rattle.json_span.proofs.laws.spaces_change_nothing.Goals as goal
 
 pub returns-clause-objects : goal.returns-clause-objects

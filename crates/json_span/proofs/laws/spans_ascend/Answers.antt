@@ -1,3 +1,4 @@
+-- The parts of a text lie in their order.
 use Rattle.json_span.proofs.OrderLaws.{members_ascend, elements_ascend}
 use Rattle.json_span.proofs.laws.spans_ascend.Goals as goal
 

@@ -1,3 +1,4 @@
+-- Insides of strings can be joined.
 use Rattle.json_span.proofs.ValueLaws.{quoted_is, chars_joined}
 use Rattle.json_span.proofs.laws.strings_are_joined.Goals as goal
 

@@ -1,3 +1,4 @@
+-- What the machine finds are an object's members.
 use Rattle.json_span.proofs.CallLaws.{members_lie, members_only, members_cuts, members_parts, members_refused}
 use Rattle.json_span.proofs.split.members.Goals as goal
 

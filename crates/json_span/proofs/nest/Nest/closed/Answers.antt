@@ -1,3 +1,4 @@
+-- A bracket fewer is a bit fewer.
 use Rattle.json_span.proofs.NestLaws.{closed_is}
 use Rattle.json_span.proofs.nest.Nest.closed.Goals as goal
 

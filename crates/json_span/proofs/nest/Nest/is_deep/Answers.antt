@@ -1,3 +1,4 @@
+-- Two brackets are open where there is room for fewer than a hundred.
 use Rattle.json_span.proofs.NestLaws.{deep_is}
 use Rattle.json_span.proofs.nest.Nest.is_deep.Goals as goal
 

@@ -1,3 +1,4 @@
+-- One more bit fits the word.
 use Rattle.std.proofs.Common.{arith, ◌≤◌, subst, sym, ℕ}
 use Rattle.json_span.proofs.NestLaws.{twice_fits, opened_is, opened_fits, bit_small}
 use Rattle.json_span.proofs.nest.Nest.opened.Goals as goal
