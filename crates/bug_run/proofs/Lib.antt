@@ -1,5 +1,6 @@
 pub mod AnswerLemmas
 pub mod ClockLemmas
+pub mod FreeLemmas
 pub mod LogLemmas
 pub mod StepLemmas
 pub mod WalkLemmas

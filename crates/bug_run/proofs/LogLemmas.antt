@@ -27,15 +27,15 @@ Clocked-push objects (m ∷ ms) [] met step clocked named clock = absurd clocked
 Clocked-push objects (m ∷ ms) (s ∷ ss) met step clocked named clock = (clocked.0, clocked.1, Clocked-push objects ms ss met step clocked.2 named clock)
 
 -- a commit from which the walk goes on, or at which it ends, and how it was met
-abbrev Linked : Objects → Name → List Met → Type 0
+abbrev pub Linked : Objects → Name → List Met → Type 0
 Linked objects head [] = ⊥
 Linked objects head (met ∷ above) = Chain objects head above met.name × ((parents : List Name) × IsCommit objects met parents)
 
-Linked-walked : (objects : Objects) (head : Name) (walk : List Met) → Walked objects head walk → Linked objects head walk
+pub Linked-walked : (objects : Objects) (head : Name) (walk : List Met) → Walked objects head walk → Linked objects head walk
 Linked-walked objects head [] walked = absurd walked
 Linked-walked objects head (root ∷ above) walked = (walked.0, ([], walked.1))
 
-Linked-above : (objects : Objects) (head : Name) (low high : Met) (above : List Met) → Linked objects head (low ∷ high ∷ above) → Linked objects head (high ∷ above)
+pub Linked-above : (objects : Objects) (head : Name) (low high : Met) (above : List Met) → Linked objects head (low ∷ high ∷ above) → Linked objects head (high ∷ above)
 Linked-above objects head low high above linked = (linked.0.0, (low.name ∷ [], linked.0.1))
 
 -- the walk meets the first of linked commits
@@ -43,7 +43,7 @@ meets_first : (objects : Objects) (head : Name) (met : Met) (above : List Met) �
 meets_first objects head met above linked near = record { above = above; chain = linked.0; near = near }
 
 -- each of linked commits was met, and is held
-linked_at : (objects : Objects) (head : Name) (walk : List Met) (k : ℕ) (d : Met) → Linked objects head walk → length walk ≤ 65536 → k < length walk
+pub linked_at : (objects : Objects) (head : Name) (walk : List Met) (k : ℕ) (d : Met) → Linked objects head walk → length walk ≤ 65536 → k < length walk
     → Meets objects head (get_or walk k d).name × ((parents : List Name) × IsCommit objects (get_or walk k d) parents)
 linked_at objects head [] k d linked near lt = absurd linked
 linked_at objects head (met ∷ above) zero d linked near lt = (meets_first objects head met above linked (omega (arith, near)), linked.1)
@@ -92,7 +92,7 @@ WalkRefused-clock objects head walk f walked near h =
     (no_merge-walked objects head walk walked, FaultHolds-clock objects head met here.1.0 f here.0 here.1.1 h.2)
 
 -- the edit clock of a commit that is held
-clock_at-held : (objects : Objects) (met : Met) (parents : List Name) (clock : ℕ) → IsCommit objects met parents
+pub clock_at-held : (objects : Objects) (met : Met) (parents : List Name) (clock : ℕ) → IsCommit objects met parents
     → option_and_then edit_clock_of (tree_at objects met.tree) ≡ Some clock → clock_at objects met.name ≡ Some clock
 clock_at-held objects met parents clock is e =
     ap (option_and_then (λ (commit : Commit). option_and_then edit_clock_of (tree_at objects commit.tree))) is.held

@@ -23,7 +23,7 @@ object_at-large objects name large =
     ap (λ (o : Option (List ℕ)). option_and_then object_of (option_and_then (named name) o)) large.stands ∙ rw short refl
 
 -- a fault in reading a name leaves it without an object
-CannotRead-none : (objects : Objects) (name : Name) (f : WalkFault) → CannotRead objects name f → object_at objects name ≡ None
+pub CannotRead-none : (objects : Objects) (name : Name) (f : WalkFault) → CannotRead objects name f → object_at objects name ≡ None
 CannotRead-none objects name (fault.Missing n) h = ap (λ (o : Option (List ℕ)). option_and_then object_of (option_and_then (named name) o)) h.1
 CannotRead-none objects name (fault.Damaged n) h = h.1.is_none
 CannotRead-none objects name (fault.Large n) h = object_at-large objects name h.1

@@ -9,7 +9,7 @@ use Rattle.bug_run.specs.Walk.{IsCommit, Chain, MeetsMerge}
 use Rattle.bug_run.specs.declared.walk.Met.{Met}
 
 -- a commit has one tree and one list of parents
-IsCommit-same : (objects : Objects) (one two : Met) (ps qs : List Name) → one.name ≡ two.name → IsCommit objects one ps → IsCommit objects two qs
+pub IsCommit-same : (objects : Objects) (one two : Met) (ps qs : List Name) → one.name ≡ two.name → IsCommit objects one ps → IsCommit objects two qs
     → (one ≡ two) × (ps ≡ qs)
 IsCommit-same objects one two ps qs e first second =
     let same : Some first.commit ≡ Some second.commit = sym first.held ∙ ap (commit_at objects) e ∙ second.held in
@@ -18,7 +18,7 @@ IsCommit-same objects one two ps qs e first second =
     (grind (arith, e, tree), sym first.has ∙ ap (λ (c : Commit). c.parents) commit ∙ second.has)
 
 -- two chains of one length from one head are the same, and lead to one name
-Chain-same : (objects : Objects) (head : Name) (a b : List Met) (n m : Name) → length a ≡ length b
+pub Chain-same : (objects : Objects) (head : Name) (a b : List Met) (n m : Name) → length a ≡ length b
     → Chain objects head a n → Chain objects head b m → (a ≡ b) × (n ≡ m)
 Chain-same objects head [] [] n m e first second = (refl, first ∙ sym second)
 Chain-same objects head [] (y ∷ b) n m e first second = absurd (omega (arith, e))
@@ -29,7 +29,7 @@ Chain-same objects head (x ∷ a) (y ∷ b) n m e first second =
     (grind (arith, here.0, above.0), grind (arith, here.1))
 
 -- of two chains from one head, the shorter leads to a commit with a single parent
-Chain-shorter : (objects : Objects) (head : Name) (a b : List Met) (n m : Name) → length a < length b
+pub Chain-shorter : (objects : Objects) (head : Name) (a b : List Met) (n m : Name) → length a < length b
     → Chain objects head a n → Chain objects head b m → (p : Name) × (c : Commit) × (commit_at objects n ≡ Some c) × (c.parents ≡ p ∷ [])
 Chain-shorter objects head a [] n m lt first second = absurd (omega (arith, lt))
 Chain-shorter objects head a (y ∷ b) n m lt first second =

@@ -3,6 +3,7 @@
 
 mod clock;
 mod fault;
+mod laws;
 mod log;
 mod name;
 mod print;
@@ -13,6 +14,7 @@ mod walk;
 mod words;
 
 pub use fault::WalkFault;
+pub use laws::{a_log_has_no_fault, logs_are_determined};
 pub use status::{Refusal, Status, Stop};
 pub use top::run;
 
