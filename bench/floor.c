@@ -1,5 +1,5 @@
-// The floor of `log`: opens, reads and hashes the files that the program reads, prints the lines that it prints, and does
-// nothing else. It trusts what it reads, but for each text's SHA-1, which has to be the file's name.
+// The floor of `log`: opens, reads and hashes the files that the program reads, prints the lines that it prints, and
+// does nothing else. It trusts what it reads, but for each text's SHA-1, which has to be the file's name.
 //
 //     floor FOLDER ID
 

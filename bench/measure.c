@@ -1,6 +1,6 @@
 // Runs a command with no input and its output thrown away, and prints what it cost: the wall clock's nanoseconds, the
-// processor's microseconds with those of its children, its peak memory in kilobytes, and its status. It is a small
-// program, since a process is begun with the memory of the one that began it, and that counts for its peak.
+// processor's microseconds with those of its children, its peak memory in kilobytes, and its status. It is small because
+// a process begins with the memory of the one that starts it, and Linux counts that for its peak.
 //
 //     measure COMMAND ARGUMENTS
 
