@@ -290,7 +290,8 @@ fn refs_that_are_no_ref_texts_are_damaged(rt: HostRuntime) -> Result<(), Fail> {
     assert!(rt; is_bad_ref(alloc, b"x")?);
     assert!(rt; is_bad_ref(alloc, b"E69DE29BB2D1D6434B8B29AE775AD8C2E48C5391")?);
     assert!(rt; is_bad_ref(alloc, b"e69de29bb2d1d6434b8b29ae775ad8c2e48c5391\n\n")?);
-    assert!(rt; is_bad_ref(alloc, &[b'a'; 5000])?);
+    let long = bytes_of(alloc, 5_000)?;
+    assert!(rt; is_bad_ref(alloc, &long)?);
     Ok(())
 }
 
@@ -344,6 +345,15 @@ fn trees_without_just_one_edit_clock_are_damaged(rt: HostRuntime) -> Result<(), 
     Ok(())
 }
 
+// So many bytes.
+fn bytes_of(alloc: Global, count: usize) -> Result<Vec<u8>, Fail> {
+    let mut bytes = Vec::new(alloc);
+    for _ in 0..count {
+        bytes.push(b'x')?;
+    }
+    Ok(bytes)
+}
+
 // Whether such a file in the place of a root, or of its tree, is damaged.
 fn spoils(alloc: Global, text: &[u8]) -> Result<bool, Fail> {
     let (mut store, names) = chain(alloc, &["1", "2"])?;
@@ -363,7 +373,7 @@ fn files_that_are_not_the_named_object_are_damaged(rt: HostRuntime) -> Result<()
     assert!(rt; spoils(alloc, b"")?);
     assert!(rt; spoils(alloc, b"commit 3\0abc")?);
     assert!(rt; spoils(alloc, b"tree 0\0")?);
-    let large = vec![in alloc; b'x'; 4_194_305]?;
+    let large = bytes_of(alloc, 4_194_305)?;
     assert!(rt; spoils(alloc, &large)?);
     Ok(())
 }

@@ -2,11 +2,22 @@ use super::*;
 use gb_store::{Fail as Listed, MemStore, Store};
 use gb_text::{Folder, List, Name};
 use git_object::{Kind, Object};
+use std::alloc::Global;
 use std::test::Fail;
 
 const TEXT: &[u8] = b"test content\n";
 
 const NAME: &[u8] = b"d670460b4b4aece5915caf5c68d12f560a9fe3e4";
+
+// Puts a blob below a folder.
+fn put_blob(
+    alloc: Global,
+    store: &mut MemStore,
+    folder: &Folder,
+    content: &[u8],
+) -> Result<Name, PutFault> {
+    put(alloc, store, folder, Kind::Blob, content)
+}
 
 #[test]
 fn what_is_put_is_read_back(rt: HostRuntime) -> Result<(), Fail> {
@@ -18,9 +29,9 @@ fn what_is_put_is_read_back(rt: HostRuntime) -> Result<(), Fail> {
         get(alloc, &mut store, &folder, &name).err(),
         Some(ObjFault::Missing(name))
     );
-    assert_eq!(rt; put(alloc, &mut store, &folder, Kind::Blob, TEXT)?, name);
+    assert_eq!(rt; put_blob(alloc, &mut store, &folder, TEXT)?, name);
     assert_eq!(rt; store.writes(), 1);
-    assert_eq!(rt; put(alloc, &mut store, &folder, Kind::Blob, TEXT)?, name);
+    assert_eq!(rt; put_blob(alloc, &mut store, &folder, TEXT)?, name);
     assert_eq!(rt; store.writes(), 1);
     let reads = store.reads();
     let Object::Blob(blob) = get(alloc, &mut store, &folder, &name)? else {
@@ -47,7 +58,7 @@ fn other_bytes_under_a_name_stay(rt: HostRuntime) -> Result<(), Fail> {
     );
     store.put(alloc, path.as_str(), b"x")?;
     assert_eq!(rt;
-        put(alloc, &mut store, &folder, Kind::Blob, TEXT),
+        put_blob(alloc, &mut store, &folder, TEXT),
         Err(PutFault::Taken(name))
     );
     assert_eq!(rt;
@@ -58,29 +69,31 @@ fn other_bytes_under_a_name_stay(rt: HostRuntime) -> Result<(), Fail> {
     Ok(())
 }
 
+// So many bytes.
+fn bytes_of(alloc: Global, count: usize) -> Result<Vec<u8>, Fail> {
+    let mut bytes = Vec::new(alloc);
+    for _ in 0..count {
+        bytes.push(b'x')?;
+    }
+    Ok(bytes)
+}
+
 #[test]
 fn an_object_text_has_at_most_4194304_bytes(rt: HostRuntime) -> Result<(), Fail> {
     let alloc = rt.alloc();
     let mut store = MemStore::new(alloc, List::new(alloc));
     let folder = Folder::read(alloc, "/f")?;
-    let content = vec![in alloc; b'x'; 4_194_292]?;
-    let name = put(
-        alloc,
-        &mut store,
-        &folder,
-        Kind::Blob,
-        &content[..4_194_291],
-    )?;
+    let whole = bytes_of(alloc, 4_194_291)?;
+    let name = put_blob(alloc, &mut store, &folder, &whole)?;
     assert!(rt; get(alloc, &mut store, &folder, &name).is_ok());
-    let over = put(alloc, &mut store, &folder, Kind::Blob, &content);
+    let longer = bytes_of(alloc, 4_194_292)?;
+    let over = put_blob(alloc, &mut store, &folder, &longer);
     assert_eq!(rt; over, Err(PutFault::Large(4_194_305)));
     let path = path_of(alloc, &folder, &name)?;
-    let long = vec![in alloc; b'x'; 4_194_305]?;
+    let long = bytes_of(alloc, 4_194_305)?;
     store.put(alloc, path.as_str(), &long)?;
-    assert_eq!(rt;
-        get(alloc, &mut store, &folder, &name).err(),
-        Some(ObjFault::Large(name))
-    );
+    let read = get(alloc, &mut store, &folder, &name).err();
+    assert_eq!(rt; read, Some(ObjFault::Large(name)));
     Ok(())
 }
 
@@ -104,7 +117,7 @@ fn a_store_that_fails_is_told(rt: HostRuntime) -> Result<(), Fail> {
         Some(ObjFault::Disk)
     );
     assert_eq!(rt;
-        put(alloc, &mut store, &folder, Kind::Blob, TEXT),
+        put_blob(alloc, &mut store, &folder, TEXT),
         Err(PutFault::Disk)
     );
     assert!(rt; get(alloc, &mut store, &folder, &name).is_ok());
