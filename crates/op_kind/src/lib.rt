@@ -1,0 +1,23 @@
+//! What every operation has, and what a kind of operations must keep.
+#![tactic(auto)]
+
+mod any_op;
+mod common;
+mod fault;
+mod kind;
+mod members;
+mod metadata;
+mod nonce;
+mod place;
+
+pub use any_op::AnyOp;
+pub use common::read_common;
+pub use fault::OpFault;
+pub use kind::OpKind;
+pub use members::{Field, find, read_fields, read_text};
+pub use metadata::read_pairs;
+pub use nonce::Nonce;
+pub use place::{Common, Pair, Place};
+
+#[cfg(test)]
+mod tests;
