@@ -4,6 +4,10 @@ pub mod Nonces
 pub mod Metadata
 pub mod Common
 pub mod CommonLaws
+pub mod Forms
+pub mod Written
+pub mod QuotedLaws
+pub mod WritingLaws
 pub mod OpText
 pub mod Meaning
 pub mod Fold

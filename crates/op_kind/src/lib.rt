@@ -4,6 +4,7 @@
 mod any_op;
 mod common;
 mod fault;
+mod forms;
 mod kind;
 mod members;
 mod metadata;
@@ -13,6 +14,7 @@ mod place;
 pub use any_op::AnyOp;
 pub use common::read_common;
 pub use fault::OpFault;
+pub use forms::{decimal_in, id_in, optional_text_in, pairs_in, text_in, texts_in};
 pub use kind::OpKind;
 pub use members::{Field, find, read_fields, read_text};
 pub use metadata::read_pairs;
