@@ -22,15 +22,14 @@ use Rattle.op_kind.specs.Members.{text_at, utf8_only}
 
 -- ---- strings
 
-either_is_escape : (p q r : Bool) → (p || q) ≡ true → (p || q || r) ≡ true
-either_is_escape true q r h = refl
-either_is_escape false true r h = refl
-either_is_escape false false r h = absurd (cc)
+or_left : (p q : Bool) → p ≡ true → (p || q) ≡ true
+or_left true q h = refl
+or_left false q h = absurd (cc)
 
 letter_escapes : (x : ℕ) (a b c d e f : Bool) → ((x == 34) || (x == 92)) ≡ a
     → nat_lt 0 (cond a x (cond b 98 (cond c 102 (cond d 110 (cond e 114 (cond f 116 0)))))) ≡ true
     → is_escape (cond a x (cond b 98 (cond c 102 (cond d 110 (cond e 114 (cond f 116 0)))))) ≡ true
-letter_escapes x true b c d e f h some = either_is_escape (x == 34) (x == 92) ((x == 47) || (x == 98) || (x == 102) || (x == 110) || (x == 114) || (x == 116)) h
+letter_escapes x true b c d e f h some = or_left _ _ (or_left _ _ (or_left _ _ (or_left _ _ (or_left _ _ (or_left _ _ h)))))
 letter_escapes x false true c d e f h some = refl
 letter_escapes x false false true d e f h some = refl
 letter_escapes x false false false true e f h some = refl

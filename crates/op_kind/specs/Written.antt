@@ -1,5 +1,5 @@
 -- How members are written: each name in quotes, with the text of its value, without white space.
-use Rattle.std.specs.Prelude.{◌≤◌, ℕ, List, map, decimal}
+use Rattle.std.specs.Prelude.{⊤, ℕ, List, [], ◌∷◌, map}
 use Rattle.std.specs.Str.{IsUtf8}
 use Rattle.base64.specs.Engines.{standard}
 use Rattle.base64.specs.GeneralPurpose.{encode_of}
@@ -25,3 +25,8 @@ pub record IsWritable (depth : ℕ) (f : List ℕ × List ℕ) : Type 0 where
   pub name : IsUtf8 f.0
   pub utf8 : IsUtf8 f.1
   pub value : IsValueText depth f.1
+
+-- each of the members is writable
+abbrev pub EachWritable : ℕ → Fields → Type 0
+EachWritable depth [] = ⊤
+EachWritable depth (f ∷ fs) = IsWritable depth f × EachWritable depth fs

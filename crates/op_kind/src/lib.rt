@@ -10,6 +10,7 @@ mod members;
 mod metadata;
 mod nonce;
 mod place;
+mod written;
 
 pub use any_op::AnyOp;
 pub use common::read_common;
@@ -20,6 +21,7 @@ pub use members::{Field, find, read_fields, read_text};
 pub use metadata::read_pairs;
 pub use nonce::Nonce;
 pub use place::{Common, Pair, Place};
+pub use written::{Written, print_decimal, quote, quote_nonce, write_members};
 
 #[cfg(test)]
 mod tests;
