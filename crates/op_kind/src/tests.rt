@@ -3,7 +3,10 @@ ghost use Rattle.std.specs.Prelude.{◌≡◌, IfOk, IfErr};
 ghost use Rattle.op_kind.specs.Fold.{state_from};
 ghost use Rattle.op_kind.specs.OpText.{IsOpText};
 
-use crate::{AnyOp, Nonce, OpFault, OpKind, Place, read_common};
+use crate::{
+    AnyOp, Nonce, OpFault, OpKind, Place, Written, decimal_in, id_in, optional_text_in, pairs_in,
+    print_decimal, quote, quote_nonce, read_common, read_fields, text_in, texts_in, write_members,
+};
 use gb_text::{Bytes, Id, Memory};
 use std::alloc::Global;
 use std::test::Fail;
@@ -224,5 +227,61 @@ fn operations_of_any_type_keep_their_text(rt: HostRuntime) -> Result<(), Fail> {
     assert!(rt; op.may_be_first() && op.may_follow());
     let ops = [op, moved];
     assert_eq!(rt; fold(alloc, &ops)?, (2, 2));
+    Ok(())
+}
+
+#[test]
+fn members_are_read_by_their_forms(rt: HostRuntime) -> Result<(), Fail> {
+    let alloc = rt.alloc();
+    let text =
+        b"{\"title\":\"a\",\"status\":2,\"added\":[\"x\",\"y\"],\"removed\":null,\"new_metadata\":{\"k\":\"v\"},\"target\":\"0101010101010101010101010101010101010101010101010101010101010101\"}";
+    let fields = read_fields(alloc, text)?.ok_or("an object")?;
+    assert_eq!(rt; text_in(alloc, &fields, "title", 5)?.as_str(), "a");
+    assert_eq!(rt; optional_text_in(alloc, &fields, "was", 6)?.as_str(), "");
+    assert_eq!(rt; decimal_in(&fields, "status", 9)?, 2);
+    assert_eq!(rt; id_in(alloc, &fields, "target", 12)?, place(1).id);
+    assert_eq!(rt; texts_in(alloc, &fields, "added", 10)?.len(), 2);
+    assert_eq!(rt; texts_in(alloc, &fields, "removed", 11)?.len(), 0);
+    assert_eq!(rt; pairs_in(alloc, &fields, "new_metadata", 13)?.len(), 1);
+    assert!(rt;
+        matches!(
+            text_in(alloc, &fields, "status", 9),
+            Err(OpFault::BadMember(9))
+        )
+    );
+    assert!(rt;
+        matches!(
+            decimal_in(&fields, "timestamp", 2),
+            Err(OpFault::BadMember(2))
+        )
+    );
+    Ok(())
+}
+
+#[test]
+fn members_are_written_without_white_space(rt: HostRuntime) -> Result<(), Fail> {
+    let alloc = rt.alloc();
+    let nonce = Nonce::from_bytes(alloc, &[0; 20])?;
+    let members = [
+        Written {
+            name: "message",
+            value: quote(alloc, "a\n\"\u{1}")?,
+        },
+        Written {
+            name: "nonce",
+            value: quote_nonce(alloc, &nonce)?,
+        },
+        Written {
+            name: "type",
+            value: print_decimal(alloc, 3)?,
+        },
+    ];
+    let wanted =
+        b"{\"message\":\"a\\n\\\"\\u0001\",\"nonce\":\"AAAAAAAAAAAAAAAAAAAAAAAAAAA=\",\"type\":3}";
+    assert_eq!(rt;
+        write_members(alloc, &members)?.as_slice(),
+        wanted.as_slice()
+    );
+    assert_eq!(rt; write_members(alloc, &[])?.as_slice(), b"{}".as_slice());
     Ok(())
 }
