@@ -8,6 +8,7 @@ pub mod Forms
 pub mod Written
 pub mod QuotedLaws
 pub mod WritingLaws
+pub mod ListLaws
 pub mod OpText
 pub mod Meaning
 pub mod Fold

@@ -5,7 +5,7 @@ use Rattle.base64.specs.Engines.{standard}
 use Rattle.base64.specs.GeneralPurpose.{encode_of}
 use Rattle.json.specs.Print.{quoted}
 use Rattle.json_span.specs.Grammar.{IsValueText}
-use Rattle.json_span.specs.Joined.{object_text}
+use Rattle.json_span.specs.Joined.{array_text, object_text}
 use Rattle.op_kind.specs.Members.{Fields}
 
 -- a member with its name in quotes
@@ -30,3 +30,12 @@ pub record IsWritable (depth : ℕ) (f : List ℕ × List ℕ) : Type 0 where
 abbrev pub EachWritable : ℕ → Fields → Type 0
 EachWritable depth [] = ⊤
 EachWritable depth (f ∷ fs) = IsWritable depth f × EachWritable depth fs
+
+-- each of the texts is UTF-8
+abbrev pub EachUtf8 : List (List ℕ) → Type 0
+EachUtf8 [] = ⊤
+EachUtf8 (t ∷ ts) = IsUtf8 t × EachUtf8 ts
+
+-- the text of an array of these texts
+abbrev pub texts_text : List (List ℕ) → List ℕ
+texts_text ts = array_text (map quoted ts)
