@@ -1,5 +1,5 @@
 -- What is answered with a value has no fault.
-use Rattle.std.proofs.Common.{◌≡◌, ◌∙◌, sym, List, ℕ, Option, Some, None}
+use Rattle.std.proofs.Common.{◌≡◌, ◌∙◌, sym, List, ℕ, Some, None}
 use Rattle.std.specs.Prelude.{Result, Ok, Err, IfOk}
 use Rattle.op_kind.specs.Answers.{Answers}
 use Rattle.op_kind.specs.Common.{common_at, CommonFault}

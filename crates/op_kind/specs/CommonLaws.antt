@@ -1,11 +1,11 @@
 -- A text has a common part exactly where none of its faults holds.
-use Rattle.std.proofs.Common.{◌≡◌, ◌≤◌, ◌⊎◌, inl, inr, refl, sym, ap, ◌∙◌, subst, List, [], ◌∷◌, ℕ, zero, suc, Option, Some, None, length, arith, codes}
+use Rattle.std.proofs.Common.{◌≡◌, ◌≤◌, ◌⊎◌, inl, inr, refl, sym, ap, ◌∙◌, List, [], ◌∷◌, ℕ, zero, suc, Option, Some, None, arith}
 use Rattle.std.specs.Prelude.{option_and_then}
 use Rattle.std.specs.Option.{option_map}
 use Rattle.gb_text.specs.Decimal.{decimal_of}
 use Rattle.json_span.specs.Parts.{members_of}
 use Rattle.op_kind.specs.Members.{Fields, fields_of, fields_at, values_of, IsRepeated, Breaks, Lacks, only_value, value_or}
-use Rattle.op_kind.specs.Common.{Parts, kind_of, time_of, nonce_of, metadata_of, time_at, nonce_in, metadata_at, all_four, parts_of, at_place, common_of, common_at, name_of, RepeatsCommon, FieldsFault, FaultIn, CommonFault}
+use Rattle.op_kind.specs.Common.{kind_of, time_of, nonce_of, metadata_of, time_at, nonce_in, metadata_at, all_four, parts_of, at_place, common_of, common_at, name_of, RepeatsCommon, FieldsFault, FaultIn, CommonFault}
 use Rattle.op_kind.specs.declared.place.Place.{Place}
 use Rattle.op_kind.specs.declared.place.Common.{Common}
 use Rattle.op_kind.specs.declared.place.Pair.{Pair}

@@ -1,11 +1,9 @@
 -- What a list of texts is written as reads back.
-use Rattle.std.proofs.Common.{◌≡◌, ◌∙◌, ◌++◌, refl, sym, ap, List, [], ◌∷◌, ℕ, Some, map, append_assoc, append-nil}
-use Rattle.std.specs.Prelude.{⊤, All, option_and_then}
-use Rattle.std.specs.Str.{IsUtf8}
+use Rattle.std.proofs.Common.{◌≡◌, ◌∙◌, ◌++◌, sym, ap, List, [], ◌∷◌, ℕ, Some, map, append_assoc, append-nil}
+use Rattle.std.specs.Prelude.{All, option_and_then}
 use Rattle.std.proofs.lemmas.List.Elements.{All-nil, All-cons}
 use Rattle.json.specs.Print.{quoted}
-use Rattle.json_span.specs.Grammar.{IsPartText, IsValueText}
-use Rattle.json_span.specs.Joined.{array_text}
+use Rattle.json_span.specs.Grammar.{IsValueText}
 use Rattle.json_span.proofs.JoinLaws.{elements_joined, array_value}
 use Rattle.op_kind.specs.Forms.{texts_from, elements_at, texts_at}
 use Rattle.op_kind.specs.QuotedLaws.{quoted_is_value, quoted_reads}

@@ -1,8 +1,8 @@
 -- A text in quotes is a JSON string, and reads as the text.
-use Rattle.std.proofs.Common.{◌≡◌, ◌≤◌, ◌<◌, ◌∙◌, ◌++◌, ◌/◌, ◌%◌, refl, sym, ap, subst, List, [], ◌∷◌, ℕ, Bool, true, false, cond, Option, Some, None, arith}
+use Rattle.std.proofs.Common.{◌≡◌, ◌≤◌, ◌<◌, ◌∙◌, ◌/◌, ◌%◌, refl, sym, ap, List, [], ◌∷◌, ℕ, Bool, true, false, cond, Some, None, arith}
 use Rattle.std.specs.Prelude.{option_and_then, ◌||◌, ◌&&◌, ◌==◌, nat_lt, not, if◌then◌else◌}
 use Rattle.std.specs.Char.{digit_char}
-use Rattle.std.specs.Str.{IsUtf8, is_utf8}
+use Rattle.std.specs.Str.{IsUtf8}
 use Rattle.std.proofs.lemmas.Str.{is_utf8-from_IsUtf8}
 use Rattle.std.proofs.lemmas.Bool.{ltb-true, ltb-false}
 use Rattle.json.specs.Token.{Token}
@@ -15,7 +15,7 @@ use Rattle.serde_json.specs.Read.{of_json, max_depth, read}
 use Rattle.serde_json.specs.Find.{as_str}
 use Rattle.serde_json.specs.Data.{string}
 use Rattle.serde_json.proofs.Texts.{print-outline}
-use Rattle.json_span.specs.Grammar.{Chars, IsString, IsValueText, is_plain, is_escape, is_hex}
+use Rattle.json_span.specs.Grammar.{Chars, IsString, IsValueText, is_escape, is_hex}
 use Rattle.json_span.specs.Grammar.Chars.{no_chars, plain_char, escaped_char, unicode_char}
 use Rattle.json_span.proofs.ValueLaws.{string_is, quoted_is, chars_joined}
 use Rattle.op_kind.specs.Members.{text_at, utf8_only}

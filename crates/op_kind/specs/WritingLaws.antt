@@ -1,5 +1,5 @@
 -- What members are written as reads back, and is the text of an operation.
-use Rattle.std.proofs.Common.{◌≡◌, ◌≤◌, ◌<◌, ◌^◌, ◌-◌, ◌∙◌, ◌++◌, ◌&&◌, refl, ap, List, [], ◌∷◌, ℕ, suc, Bool, true, Option, Some, None, map, length, arith, le-leb}
+use Rattle.std.proofs.Common.{◌≡◌, ◌≤◌, ◌<◌, ◌^◌, ◌-◌, ◌∙◌, ◌&&◌, refl, ap, List, [], ◌∷◌, ℕ, Bool, true, Some, None, map, length, arith, le-leb}
 use Rattle.std.specs.Prelude.{option_and_then, decimal, All, nat_le, nat_lt, if◌then◌else◌}
 use Rattle.std.specs.Option.{option_map}
 use Rattle.std.specs.Result.{result_ok}
@@ -10,7 +10,7 @@ use Rattle.std.proofs.lemmas.Fmt.{IsAscii-decimal}
 use Rattle.std.proofs.lemmas.List.Elements.{All-nil, All-cons}
 use Rattle.std.proofs.lemmas.Str.{IsUtf8-append, IsUtf8-from_ascii}
 use Rattle.base64.specs.Engines.{standard}
-use Rattle.base64.specs.GeneralPurpose.{encode_of, decode_of}
+use Rattle.base64.specs.GeneralPurpose.{encode_of}
 use Rattle.base64.proofs.EngineFacts.{decode_of-encode_of, IsAscii-encode_of}
 use Rattle.hex.specs.Hex.{encode_lower, lower_digits}
 use Rattle.hex.proofs.HexLemmas.{IsAscii-encode_with}
@@ -21,13 +21,12 @@ use Rattle.gb_text.proofs.DecimalLemmas.{decimal_of-decimal}
 use Rattle.gb_text.proofs.DigitLemmas.{id_of-encode_lower}
 use Rattle.json.specs.Print.{quoted}
 use Rattle.json.proofs.Printed.Utf8.{IsUtf8-quoted, IsUtf8-are_ascii}
-use Rattle.json_span.specs.Grammar.{IsValueText}
-use Rattle.json_span.specs.Joined.{behind_commas, joined, member_text, object_text, IsMemberOf}
+use Rattle.json_span.specs.Joined.{behind_commas, joined, member_text, IsMemberOf}
 use Rattle.json_span.proofs.JoinLaws.{members_joined, object_value}
 use Rattle.json_span.proofs.ValueLaws.{deeper, decimal_value}
 use Rattle.op_kind.specs.Common.{within_limit, time_at, nonce_in}
 use Rattle.op_kind.specs.Forms.{id_at}
-use Rattle.op_kind.specs.Members.{Fields, text_at, with_member, fields_of, fields_at}
+use Rattle.op_kind.specs.Members.{Fields, with_member, fields_of, fields_at}
 use Rattle.op_kind.specs.Nonces.{IsNonce, nonce_at, nonce_of_bytes}
 use Rattle.op_kind.specs.OpText.{IsOpText}
 use Rattle.op_kind.specs.QuotedLaws.{quoted_is_string, quoted_is_value, quoted_reads}
