@@ -1,0 +1,16 @@
+pub mod Answers
+pub mod Members
+pub mod Nonces
+pub mod Metadata
+pub mod Common
+pub mod CommonLaws
+pub mod Forms
+pub mod Written
+pub mod QuotedLaws
+pub mod WritingLaws
+pub mod ListLaws
+pub mod OpText
+pub mod Meaning
+pub mod Fold
+pub mod AnyKind
+pub mod AnyLaws

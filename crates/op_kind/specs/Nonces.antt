@@ -1,0 +1,19 @@
+-- Nonces, and their texts.
+use Rattle.std.specs.Prelude.{ℕ, ◌≤◌, ◌&&◌, nat_le, List, length, Option, Some, None, option_and_then, if◌then◌else◌}
+use Rattle.std.specs.Result.{result_ok}
+use Rattle.base64.specs.Engines.{standard}
+use Rattle.base64.specs.GeneralPurpose.{decode_of, IsBytes}
+
+-- 20 to 64 bytes
+pub record IsNonce (n : List ℕ) : Type 0 where
+  pub least : 20 ≤ length n
+  pub most : length n ≤ 64
+  pub bytes : IsBytes n
+
+-- the bytes, where there are 20 to 64
+abbrev pub nonce_of_bytes : List ℕ → Option (List ℕ)
+nonce_of_bytes bytes = if nat_le 20 (length bytes) && nat_le (length bytes) 64 then Some bytes else None
+
+-- The nonce of a text: standard base64 with padding of 20 to 64 bytes (RFC 4648, section 4).
+unfoldable pub nonce_at : List ℕ → Option (List ℕ)
+nonce_at text = option_and_then nonce_of_bytes (result_ok (decode_of standard text))

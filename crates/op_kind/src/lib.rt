@@ -1,0 +1,29 @@
+//! What every operation has, and what a kind of operations must keep.
+#![tactic(auto)]
+
+mod any_op;
+mod common;
+mod fault;
+mod forms;
+mod kind;
+mod laws;
+mod members;
+mod metadata;
+mod nonce;
+mod place;
+mod written;
+
+pub use any_op::AnyOp;
+pub use common::read_common;
+pub use fault::OpFault;
+pub use forms::{decimal_in, id_in, optional_text_in, pairs_in, text_in, texts_in};
+pub use kind::OpKind;
+pub use laws::{common_part_or_fault, written_members_read_back, written_values_read_back};
+pub use members::{Field, find, read_fields, read_text};
+pub use metadata::read_pairs;
+pub use nonce::Nonce;
+pub use place::{Common, Pair, Place};
+pub use written::{Written, print_decimal, quote, quote_nonce, write_members};
+
+#[cfg(test)]
+mod tests;

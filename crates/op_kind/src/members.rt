@@ -1,0 +1,86 @@
+//! The members of an object text, by the texts of their names.
+ghost use Rattle.std.specs.Prelude.{◌≡◌, ◌≤◌, ◌∷◌, [], length, map, string_bytes, IfOk, IfSome, IfNone, option_and_then};
+ghost use Rattle.std.specs.Option.{option_map};
+ghost use Rattle.serde_json.specs.Find.{as_str};
+ghost use Rattle.serde_json.specs.Read.{read};
+ghost use Rattle.op_kind.specs.Members.{text_at, fields_at, values_of};
+
+use gb_text::{Memory, Text};
+use json_span::{SpanFault, members};
+use serde_json::Value;
+use std::alloc::Global;
+
+/// A member whose name reads as a text, and the bytes of its value.
+#[derive(Drop)]
+pub struct Field<'a> {
+    pub name: Text,
+    pub value: &'a [u8],
+}
+
+// The text that a JSON string in UTF-8 reads as.
+fn unquote(alloc: Global, json: &str) -> Result<Option<String>, Memory>
+    ensures { IfOk result (λ o. option_map string_bytes o ≡ option_and_then as_str (read json.now)) }
+{
+    match Value::from_str(alloc, json) {
+        Ok(Value::String(text)) => Ok(Some(text)),
+        Ok(_) => Ok(None),
+        Err(e) => { if e.is_memory() { Err(Memory) } else { Ok(None) } }
+    }
+}
+
+/// The text that a JSON string (RFC 8259, section 7) stands for. None where the bytes are no JSON
+/// string, or where an escape in it stands for no character, as a lone surrogate.
+#[tactic(auto, using(crate::proofs::TextLemmas::utf8_true, crate::proofs::TextLemmas::utf8_false, crate::proofs::TextLemmas::string_utf8), unfolding(crate::specs::Members::text_at))]
+pub fn read_text(alloc: Global, json: &[u8]) -> Result<Option<Text>, Memory>
+    ensures { IfOk result (λ o. o ≡ text_at json.now) }
+{
+    match std::str::from_utf8(json) {
+        Ok(text) => match unquote(alloc, text)? {
+            Some(text) => Ok(Some(Text::from_string(text))),
+            None => Ok(None),
+        },
+        Err(_) => Ok(None),
+    }
+}
+
+/// The members of an object text whose names read as texts, in their order. None where the text is no
+/// object.
+pub fn read_fields<'a>(alloc: Global, text: &'a [u8]) -> Result<Option<Vec<Field<'a>>>, Memory>
+    ensures { IfOk result
+        (λ o. option_map (λ v. map (λ f. (f.name, f.value.now)) v.items) o ≡ fields_at text.now) }
+{
+    let parts = match members(alloc, text) {
+        Ok(parts) => parts,
+        Err(SpanFault::Memory) => return Err(Memory),
+        Err(SpanFault::NotSplit(_)) => return Ok(None),
+    };
+    let mut fields = Vec::new(alloc);
+    for part in &parts {
+        if let Some(name) = read_text(alloc, part.name.cut(text))? {
+            let value = part.value.cut(text);
+            fields.push(Field { name, value })?;
+        }
+    }
+    Ok(Some(fields))
+}
+
+/// What stands under a name: its value, or nothing. None where the name is repeated.
+pub fn find<'a>(fields: &[Field<'a>], name: &str) -> Option<Option<&'a [u8]>>
+    ensures repeated { IfNone result
+        (2 ≤ length (values_of name.now (map (λ f. (f.name, f.value.now)) fields.now))) }
+    ensures absent { IfSome result (λ o. IfNone o
+        (values_of name.now (map (λ f. (f.name, f.value.now)) fields.now) ≡ [])) }
+    ensures once { IfSome result (λ o. IfSome o
+        (λ v. values_of name.now (map (λ f. (f.name, f.value.now)) fields.now) ≡ v.now ∷ [])) }
+{
+    let mut value = None;
+    for field in fields {
+        if field.name.as_str() == name {
+            if value.is_some() {
+                return None;
+            }
+            value = Some(field.value);
+        }
+    }
+    Some(value)
+}
