@@ -1,1 +1,5 @@
+pub mod IdPathLemmas
+pub mod ListLemmas
+pub mod MapLemmas
+pub mod OrderLemmas
 pub mod RefLemmas

@@ -1,2 +1,4 @@
 pub mod Faults
+pub mod Listing
 pub mod Refs
+pub mod Setting

@@ -1,6 +1,7 @@
 //! Why a ref wasn't read, or wasn't set.
 use gb_store::StoreFault;
 use gb_text::{Memory, Text};
+use std::alloc::AllocFailed;
 
 /// Why a call on refs gave no answer.
 #[derive(Debug, Drop)]
@@ -34,5 +35,16 @@ impl From<StoreFault> for RefFault {
             StoreFault::Memory => RefFault::Memory,
             StoreFault::Failed => RefFault::Disk,
         }
+    }
+}
+
+impl<T: Drop> From<AllocFailed<T>> for RefFault {
+    ghost use Rattle.std.specs.Prelude.{◌≡◌};
+    ghost use Rattle.ref_store.specs.declared.fault.RefFault.TheVariants as fault;
+
+    ghost from_gives = { λ _ e. e ≡ fault.Memory };
+
+    fn from(_: AllocFailed<T>) -> Self {
+        RefFault::Memory
     }
 }

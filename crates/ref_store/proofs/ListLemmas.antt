@@ -1,0 +1,156 @@
+-- The entries of a listing's names are the refs of the ids.
+use Rattle.std.proofs.Common.{◌≡◌, ℕ, zero, suc, ◌+◌, ◌<◌, ◌==◌, Bool, true, false, ◌&&◌, List, [], ◌∷◌, ◌++◌, length, map, take, get_or, Option, Some, None, option_and_then, refl, sym, ◌∙◌, ap, subst, append_assoc, arith, eqb-true}
+use Rattle.std.specs.Prelude.{◌↔◌, Contains, IsSome, is_some, ◌/◌, ◌%◌}
+use Rattle.std.proofs.lemmas.Bool.Decides.{nat_tests}
+use Rattle.std.proofs.lemmas.List.Elements.{filter_map-append}
+use Rattle.std.proofs.lemmas.List.{take_more}
+use Rattle.std.specs.Cmp.Lexicographic.{slice_cmp}
+use Rattle.std.specs.List.{AllByRecursion, cons_option, filter_map, list_all, list_any}
+use Rattle.std.specs.List.Sorted.{IsStrictlySortedBy}
+use Rattle.std.specs.Ordering.{nat_cmp, ordering_then}
+use Rattle.std.specs.declared.cmp.Ordering.{Ordering}
+use Rattle.std.specs.declared.cmp.Ordering.TheVariants.{Less}
+use Rattle.hex.specs.Hex.{IsBytes, encode_lower, encode_with, is_hex_digit, lower_digits}
+use Rattle.gb_text.specs.Digits.{IsId, id_of}
+use Rattle.gb_text.specs.Folder.{joined, joint}
+use Rattle.gb_text.specs.declared.id.Id.{Id}
+use Rattle.gb_text.proofs.DigitLemmas.{id_of-encode_lower, id_of-is}
+use Rattle.gb_store.specs.Files.{Files, IsListing}
+use Rattle.ref_store.specs.Refs.{Ref, Absent, Head, Bad, ref_at, ref_of}
+use Rattle.ref_store.specs.Listing.{IsRefList, entry_named, entry_of, found_of, id_place}
+use Rattle.ref_store.specs.declared.listing.RefEntry.{RefEntry}
+use Rattle.ref_store.specs.declared.listing.RefFound.{RefFound}
+use Rattle.ref_store.proofs.IdPathLemmas.{both, encode_lower-digits}
+use Rattle.ref_store.proofs.OrderLemmas.{encode_lower-order}
+
+-- ---- lists
+
+filter_map-has : {X Y : Type 0} (f : X → Option Y) (xs : List X) (x : X) (y : Y) → Contains xs x → f x ≡ Some y → Contains (filter_map f xs) y
+filter_map-has f [] x y (k, lt, e) h = absurd (omega arith)
+filter_map-has f (z ∷ xs) x y (zero, lt, e) h =
+    subst (λ o. Contains (cons_option o (filter_map f xs)) y) (sym (ap f e ∙ h)) (0, omega arith, refl)
+filter_map-has {Y = Y} f (z ∷ xs) x y (suc k, lt, e) h = each (f z) (filter_map-has f xs x y (k, omega arith, e) h)
+  where
+    each : (o : Option Y) → Contains (filter_map f xs) y → Contains (cons_option o (filter_map f xs)) y
+    each None later = later
+    each (Some w) later = (suc later.0, omega (arith, later.1), later.2)
+
+filter_map-from : {X Y : Type 0} (f : X → Option Y) (xs : List X) (y : Y) → Contains (filter_map f xs) y → (x : X) × Contains xs x × (f x ≡ Some y)
+filter_map-from f [] y (k, lt, e) = absurd (omega arith)
+filter_map-from {X = X} {Y = Y} f (z ∷ xs) y h = each (filter_map-from f xs y) (f z) refl h
+  where
+    more : (x : X) × Contains xs x × (f x ≡ Some y) → (x : X) × Contains (z ∷ xs) x × (f x ≡ Some y)
+    more m = (m.0, (suc m.1.0, omega (arith, m.1.1), m.1.2), m.2)
+
+    each : (Contains (filter_map f xs) y → (x : X) × Contains xs x × (f x ≡ Some y)) → (o : Option Y) → f z ≡ o → Contains (cons_option o (filter_map f xs)) y
+        → (x : X) × Contains (z ∷ xs) x × (f x ≡ Some y)
+    each later None at h = more (later h)
+    each later (Some w) at (zero, lt, e) = (z, (0, omega arith, refl), at ∙ ap Some e)
+    each later (Some w) at (suc k, lt, e) = more (later (k, omega arith, e))
+
+-- one name more
+pub filter_map-more : {X Y : Type 0} (f : X → Option Y) (xs : List X) (i : ℕ) (d : X) → i < length xs
+    → filter_map f (take (i + 1) xs) ≡ filter_map f (take i xs) ++ cons_option (f (get_or xs i d)) []
+filter_map-more f xs i d lt = ap (filter_map f) (take_more xs i d lt) ∙ filter_map-append f (take i xs) (get_or xs i d ∷ [])
+
+-- ---- the entry of a name
+
+module _ (files : Files) (folder dir : List ℕ) where
+  named : List ℕ → Option RefEntry
+  named = entry_named files folder dir
+
+  ref_of_id : Id → Ref
+  ref_of_id id = ref_at files folder (id_place dir id)
+
+  -- a name with an entry is the digits of the entry's id, whose ref it is
+  entry-is : (name : List ℕ) (entry : RefEntry) → entry_named files folder dir name ≡ Some entry
+      → (id_of name ≡ Some entry.id) × (found_of (ref_at files folder (id_place dir entry.id)) ≡ Some entry.found)
+  entry-is name entry e = each (id_of name) refl
+    where
+      inner : (id : Id) (o : Option RefFound) → found_of (ref_at files folder (id_place dir id)) ≡ o → entry_of files folder dir id ≡ Some entry
+          → (id ≡ entry.id) × (found_of (ref_at files folder (id_place dir entry.id)) ≡ Some entry.found)
+      inner id None at h = cc
+      inner id (Some f) at h =
+          let is : record { id = id; found = f } ≡ entry = cc in
+          subst (λ (x : RefEntry). (id ≡ x.id) × (found_of (ref_at files folder (id_place dir x.id)) ≡ Some x.found)) is (refl, at)
+
+      each : (o : Option Id) → id_of name ≡ o → (id_of name ≡ Some entry.id) × (found_of (ref_at files folder (id_place dir entry.id)) ≡ Some entry.found)
+      each None h = cc
+      each (Some id) h =
+          let has : entry_of files folder dir id ≡ Some entry = sym (ap (option_and_then (entry_of files folder dir)) h) ∙ e in
+          let both = inner id (found_of (ref_at files folder (id_place dir id))) refl has in
+          (h ∙ ap Some both.0, both.1)
+
+  entry-of : (entry : RefEntry) → IsId entry.id → found_of (ref_at files folder (id_place dir entry.id)) ≡ Some entry.found
+      → entry_named files folder dir (encode_lower entry.id.bytes) ≡ Some entry
+  entry-of entry is found = rw (id_of-encode_lower entry.id is, found) refl
+
+  -- ---- order
+
+  -- ids of later names are above
+  above : (id : Id) → IsId id → (names : List (List ℕ)) → AllByRecursion (λ n. slice_cmp nat_cmp (encode_lower id.bytes) n ≡ Less) names
+      → AllByRecursion (λ b. slice_cmp nat_cmp id.bytes b ≡ Less) (map (λ (e : RefEntry). e.id.bytes) (filter_map (entry_named files folder dir) names))
+  above id is [] all = tt
+  above id is (name ∷ names) all = each (above id is names all.1) (entry_named files folder dir name) refl
+    where
+      each : AllByRecursion (λ b. slice_cmp nat_cmp id.bytes b ≡ Less) (map (λ (e : RefEntry). e.id.bytes) (filter_map (entry_named files folder dir) names))
+          → (o : Option RefEntry) → entry_named files folder dir name ≡ o
+          → AllByRecursion (λ b. slice_cmp nat_cmp id.bytes b ≡ Less) (map (λ (e : RefEntry). e.id.bytes) (cons_option o (filter_map (entry_named files folder dir) names)))
+      each later None at = later
+      each later (Some entry) at =
+          let digits = id_of-is name entry.id (entry-is name entry at).0 in
+          let less : slice_cmp nat_cmp id.bytes entry.id.bytes ≡ Less =
+          sym (encode_lower-order id.bytes entry.id.bytes is.bytes digits.0.bytes) ∙ ap (slice_cmp nat_cmp (encode_lower id.bytes)) (sym digits.1) ∙ all.0 in
+          (less, later)
+
+  rising : (names : List (List ℕ)) → IsStrictlySortedBy (slice_cmp nat_cmp) names
+      → IsStrictlySortedBy (slice_cmp nat_cmp) (map (λ (e : RefEntry). e.id.bytes) (filter_map (entry_named files folder dir) names))
+  unfolding IsStrictlySortedBy
+  rising [] sorted = tt
+  rising (name ∷ names) sorted = each (rising names sorted.1) (entry_named files folder dir name) refl
+    where
+      each : IsStrictlySortedBy (slice_cmp nat_cmp) (map (λ (e : RefEntry). e.id.bytes) (filter_map (entry_named files folder dir) names))
+          → (o : Option RefEntry) → entry_named files folder dir name ≡ o
+          → IsStrictlySortedBy (slice_cmp nat_cmp) (map (λ (e : RefEntry). e.id.bytes) (cons_option o (filter_map (entry_named files folder dir) names)))
+      each later None at = later
+      each later (Some entry) at =
+          let digits = id_of-is name entry.id (entry-is name entry at).0 in
+          (above entry.id digits.0 names (subst (λ (t : List ℕ). AllByRecursion (λ n. slice_cmp nat_cmp t n ≡ Less) names) digits.1 sorted.0), later)
+
+  -- ---- members
+
+  digit_is_no_slash : (c : ℕ) → is_hex_digit c ≡ true → (c == 47) ≡ false
+  digit_is_no_slash c digit = grind (arith, nat_tests)
+
+  digits_have_no_slash : (text : List ℕ) → list_all is_hex_digit text ≡ true → list_any (λ c. c == 47) text ≡ false
+  digits_have_no_slash [] all = refl
+  digits_have_no_slash (c ∷ cs) all =
+      let here = both (is_hex_digit c) (list_all is_hex_digit cs) all in
+      rw (digit_is_no_slash c here.0, digits_have_no_slash cs here.1) refl
+
+  -- a ref that is found stands
+  found_stands : (file : Option (List ℕ)) (found : RefFound) → found_of (ref_of file) ≡ Some found → IsSome file
+  found_stands None found e = cc
+  found_stands (Some text) found e = refl
+
+  listed : (names : List (List ℕ)) → IsListing files (joined folder dir) names → (entry : RefEntry) → IsId entry.id
+      → found_of (ref_at files folder (id_place dir entry.id)) ≡ Some entry.found → Contains (filter_map (entry_named files folder dir) names) entry
+  listed names listing entry is found =
+      let digits = encode_lower entry.id.bytes in
+      let path : joined folder (id_place dir entry.id) ≡ joined folder dir ++ 47 ∷ digits = simp append_assoc in
+      let stands : IsSome (files (joined folder dir ++ 47 ∷ digits)) = subst (λ (p : List ℕ). IsSome (files p)) path (found_stands (files (joined folder (id_place dir entry.id))) entry.found found) in
+      let plain = digits_have_no_slash digits (encode_lower-digits entry.id.bytes is.bytes) in
+      filter_map-has (entry_named files folder dir) names digits entry ((listing.members digits).1 (plain, stands)) (entry-of entry is found)
+
+  pub listing_is_ref_list : (names : List (List ℕ)) (entries : List RefEntry) → IsListing files (joined folder dir) names
+      → entries ≡ filter_map (entry_named files folder dir) names → IsRefList files folder dir entries
+  listing_is_ref_list names entries listing is = subst (λ (es : List RefEntry). IsRefList files folder dir es) (sym is) (record {
+    rising = rising names listing.rising;
+    members = λ entry. (
+      λ has.
+          let from = filter_map-from (entry_named files folder dir) names entry has in
+          let e = entry-is from.0 entry from.2 in
+          ((id_of-is from.0 entry.id e.0).0, e.1),
+      λ h. listed names listing entry h.0 h.1,
+    );
+  })

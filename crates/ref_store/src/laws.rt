@@ -1,0 +1,33 @@
+//! Laws of refs, each the contract of a function that does nothing.
+ghost use Rattle.std.specs.Prelude.{◌≡◌, ◌≢◌, ◌++◌, ℕ, List, Option, codes, false};
+ghost use Rattle.gb_text.specs.Digits.{IsId, IsName};
+ghost use Rattle.gb_text.specs.Folder.{joined};
+ghost use Rattle.gb_text.specs.declared.id.Id.{Id};
+ghost use Rattle.gb_text.specs.declared.id.Name.{Name};
+ghost use Rattle.gb_store.specs.Files.{Files, written};
+ghost use Rattle.gb_store.specs.ObjectPath.{is_object_path, object_place};
+ghost use Rattle.ref_store.specs.Listing.{id_place};
+ghost use Rattle.ref_store.specs.Refs.{Head, ref_at};
+ghost use Rattle.ref_store.specs.Setting.{ref_write};
+
+/// A ref that was set reads as its head, and every other ref of the folder as before.
+pub fn refs_are_a_map()
+    ensures same { (files : Files) (folder path : List ℕ) (head : Name) → IsName head
+        → ref_at (written files (ref_write folder path head)) folder path ≡ Head head }
+    ensures other { (files : Files) (folder path other : List ℕ) (head : Name) → path ≢ other
+        → ref_at (written files (ref_write folder path head)) folder other ≡ ref_at files folder other }
+{}
+
+/// A ref below `refs/` that is set leaves the objects of its folder as they were.
+pub fn refs_are_no_objects()
+    ensures { (files : Files) (folder rest : List ℕ) (head : Name)
+        → ◌≡◌ {A = Name → Option (List ℕ)}
+        (λ name. written files (ref_write folder (codes "refs/" ++ rest) head) (joined folder (object_place name)))
+        (λ name. files (joined folder (object_place name))) }
+{}
+
+/// The ref of an id stands at no object's path, so that to read it is to read no object.
+pub fn ids_stand_at_no_object_path()
+    ensures { (folder dir : List ℕ) (id : Id) → IsId id
+        → is_object_path (joined folder (id_place dir id)) ≡ false }
+{}
