@@ -43,6 +43,10 @@ const ID: &str = "00000000000000000000000000000000000000000000000000000000000000
 
 const LATER: &str = "f00000000000000000000000000000000000000000000000000000000000000a";
 
+const SHORT: &str = "00000000000000000000000000000000000000000000000000000000000000a";
+
+const BELOW: &str = "000000000000000000000000000000000000000000000000000000000000000a/x";
+
 // Puts a file below the dir of the refs.
 fn put_file(alloc: Global, store: &mut MemStore, name: &str, text: &[u8]) -> Result<(), Fail> {
     let path = format!(in alloc; "f/refs/bugs/{name}")?;
@@ -77,10 +81,7 @@ fn a_bad_ref_is_listed_and_other_names_are_not(rt: HostRuntime) -> Result<(), Fa
     let alloc = rt.alloc();
     let folder = Folder::read(alloc, "f")?;
     let mut store = MemStore::new(alloc, List::new(alloc));
-    let other = format!(in alloc; "{ID}.tmp")?;
-    let above = format!(in alloc; "{ID}/x")?;
-    let names = [LATER, "x", other.as_str(), above.as_str(), &ID[1..], ID];
-    for name in names {
+    for name in [LATER, "x", SHORT, BELOW, ID] {
         put_file(alloc, &mut store, name, b"x")?;
     }
     let entries = list(alloc, &mut store, &folder, "refs/bugs")?;
