@@ -1,0 +1,4 @@
+pub mod Answers
+pub mod Chain
+pub mod Objects
+pub mod Stops

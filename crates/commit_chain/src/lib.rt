@@ -1,0 +1,15 @@
+//! Chains of commits: the walk from a head by the single parent.
+#![tactic(auto)]
+
+mod chain;
+mod fault;
+mod laws;
+
+pub use chain::{MOST_COMMITS, Met, walk};
+pub use fault::{ChainFault, ChainStop};
+pub use laws::{
+    a_whole_walk_has_no_fault, a_whole_walk_passes_what_it_meets, walks_are_determined,
+};
+
+#[cfg(test)]
+mod tests;
