@@ -4,64 +4,24 @@ use Rattle.std.proofs.lemmas.Bool.{cases_eq, cases_lt}
 use Rattle.gb_text.specs.declared.id.Name.{Name}
 use Rattle.git_object.specs.declared.commit.Commit.{Commit}
 use Rattle.object_store.specs.Held.{Objects, object_at}
-use Rattle.bug_run.specs.Objects.{as_commit, as_tree, commit_at, tree_at}
+use Rattle.commit_chain.specs.Objects.{as_commit, as_tree, commit_at, tree_at}
+use Rattle.commit_chain.specs.Chain.{IsCommit, Meets, MeetsCommit, MeetsMerge}
+use Rattle.commit_chain.specs.declared.chain.Met.{Met}
+use Rattle.commit_chain.proofs.PassLemmas.{Linked-walked, linked_at, no_merge-walked, not_too_long, one_walk, parent_at, root_has, walk_passes}
 use Rattle.bug_run.specs.Clocks.{edit_clock_of}
-use Rattle.bug_run.specs.Walk.{IsCommit, Chain, Walked, Meets, MeetsCommit, MeetsMerge, Needs, FaultHolds, IsTooLong, clock_at}
+use Rattle.bug_run.specs.Walk.{Needs, FaultHolds, clock_at}
 use Rattle.bug_run.specs.Log.{Clocked, IsLog}
-use Rattle.bug_run.specs.declared.walk.Met.{Met}
 use Rattle.bug_run.specs.declared.log.Step.{Step}
 use Rattle.bug_run.specs.declared.fault.WalkFault.{WalkFault}
 use Rattle.bug_run.specs.declared.fault.WalkFault.TheVariants as fault
-use Rattle.bug_run.proofs.WalkLemmas.{IsCommit-same, Chain-same, Chain-shorter}
 use Rattle.bug_run.proofs.StepLemmas.{CannotRead-none}
-use Rattle.bug_run.proofs.LogLemmas.{Linked, Linked-walked, Linked-above, linked_at, no_merge-walked, clock_at-held}
+use Rattle.bug_run.proofs.LogLemmas.{clock_at-held}
 
 same_commit : (c d : Commit) → Some c ≡ Some d → c ≡ d
 same_commit c d e = grind (arith, e)
 
 same_number : (m n : ℕ) → Some m ≡ Some n → m ≡ n
 same_number m n e = grind (arith, e)
-
--- a commit of a list has this name
-record Passes (walk : List Met) (name : Name) : Type 0 where
-  met : Met
-  at : Contains walk met
-  is : met.name ≡ name
-
-Passes-first : (met : Met) (walk : List Met) (name : Name) → met.name ≡ name → Passes (met ∷ walk) name
-Passes-first met walk name e = record { met = met; at = (0, omega arith, refl); is = e }
-
-Passes-above : (met : Met) (walk : List Met) (name : Name) → Passes walk name → Passes (met ∷ walk) name
-Passes-above met walk name passes = record { met = passes.met; at = (suc passes.at.0, omega (arith, passes.at.1), passes.at.2); is = passes.is }
-
--- the longer of two chains passes the name to which the shorter leads
-Chain-passes : (objects : Objects) (head : Name) (a b : List Met) (n m : Name) → length b < length a → Chain objects head a n → Chain objects head b m → Passes a m
-Chain-passes objects head [] b n m lt first second = absurd (omega (arith, lt))
-Chain-passes objects head (y ∷ a) b n m lt first second =
-    elim (cases_eq (length b) (length a)) [
-      | inl e ↦ let same = Chain-same objects head b a m y.name e second first.0 in Passes-first y a m (sym same.1)
-      | inr differ ↦ Passes-above y a m (Chain-passes objects head a b y.name m (omega (arith, lt, differ)) first.0 second)
-    ]
-
--- a root is no commit from which a chain goes on
-root_ends : (objects : Objects) (head : Name) (root : Met) (a b : List Met) (m : Name) → Chain objects head a root.name → IsCommit objects root []
-    → Chain objects head b m → length a < length b → ⊥
-root_ends objects head root a b m first is second lt =
-    let on = Chain-shorter objects head a b root.name m lt first second in
-    let commit = same_commit on.1 is.commit (sym on.2 ∙ is.held) in
-    cc (sym on.3 ∙ ap (λ (c : Commit). c.parents) commit ∙ is.has)
-
--- a whole walk passes each name that the walk meets
-walk_passes : (objects : Objects) (head name : Name) (walk : List Met) → Walked objects head walk → Meets objects head name → Passes walk name
-walk_passes objects head name [] walked meets = absurd walked
-walk_passes objects head name (root ∷ a) walked meets =
-    elim (cases_eq (length meets.above) (length a)) [
-      | inl e ↦ let same = Chain-same objects head meets.above a name root.name e meets.chain walked.0 in Passes-first root a name (sym same.1)
-      | inr differ ↦ elim (cases_lt (length meets.above) (length a)) [
-        | inl lt ↦ Passes-above root a name (Chain-passes objects head a meets.above root.name name lt walked.0 meets.chain)
-        | inr ge ↦ absurd (root_ends objects head root a meets.above name walked.0 walked.1 meets.chain (omega (arith, differ, ge)))
-      ]
-    ]
 
 -- the step of each commit
 step_at : (objects : Objects) (walk : List Met) (steps : List Step) (k : ℕ) (d : Met) (e : Step) → Clocked objects walk steps → k < length walk
@@ -109,19 +69,6 @@ holds_needed objects head name steps log (inl meets) none = holds_commit objects
 holds_needed objects head name steps log (inr needs) none =
     holds_tree objects head needs.0 steps needs.1 log needs.2 (ap (option_and_then as_tree) (ap (object_at objects) needs.3 ∙ none))
 
--- each commit of linked commits but the first has the one before it as its single parent
-parent_at : (objects : Objects) (head : Name) (walk : List Met) (k : ℕ) (d : Met) → Linked objects head walk → suc k < length walk
-    → IsCommit objects (get_or walk (suc k) d) ((get_or walk k d).name ∷ [])
-parent_at objects head [] k d linked lt = absurd linked
-parent_at objects head (m ∷ []) k d linked lt = absurd (omega (arith, lt))
-parent_at objects head (m ∷ n ∷ ms) zero d linked lt = linked.0.1
-parent_at objects head (m ∷ n ∷ ms) (suc k) d linked lt = parent_at objects head (n ∷ ms) k d (Linked-above objects head m n ms linked) (omega (arith, lt))
-
--- the root of a walk has no parent
-root_has : (objects : Objects) (head : Name) (walk : List Met) (d : Met) → Walked objects head walk → IsCommit objects (get_or walk 0 d) []
-root_has objects head [] d walked = absurd walked
-root_has objects head (root ∷ a) d walked = walked.1
-
 -- the clocks of a commit and its parent rise, where there is a log
 clocks_rise : (objects : Objects) (head name parent : Name) (steps : List Step) (commit : Commit) (clock below : ℕ) → IsLog objects head steps → MeetsCommit objects head name commit
     → commit.parents ≡ parent ∷ [] → clock_at objects name ≡ Some clock → clock_at objects parent ≡ Some below → below < clock
@@ -152,12 +99,6 @@ clocks_rise objects head name parent steps commit clock below log meets has high
         let up_is : (get_or steps (k + 1) none).clock ≡ (get_or steps (suc k) none).clock = ap (λ (i : ℕ). (get_or steps i none).clock) next in
         omega (arith, rises, up_is, high_is, low_is)
 
--- a log is of a walk that is not too long
-not_too_long : (objects : Objects) (head : Name) (walk : List Met) → Walked objects head walk → length walk ≤ 65536 → IsTooLong objects head → ⊥
-not_too_long objects head [] walked count long = absurd walked
-not_too_long objects head (root ∷ a) walked count long =
-    root_ends objects head root a long.above long.name walked.0 walked.1 long.chain (omega (arith, count, long.far))
-
 pub no_fault : (objects : Objects) (head : Name) (steps : List Step) (f : WalkFault) → IsLog objects head steps → FaultHolds objects head f → ⊥
 no_fault objects head steps (fault.Missing name) log h = holds_needed objects head name steps log h.0 (CannotRead-none objects name (fault.Missing name) (refl, h.1))
 no_fault objects head steps (fault.Damaged name) log h = holds_needed objects head name steps log h.0 h.1.is_none
@@ -174,43 +115,6 @@ no_fault objects head steps fault.TooLong log h = not_too_long objects head log.
 
 pub no_merge_logged : (objects : Objects) (head name : Name) (steps : List Step) → IsLog objects head steps → MeetsMerge objects head name → ⊥
 no_merge_logged objects head name steps log merge = no_merge-walked objects head log.walk log.walked name merge
-
--- ---- one merge, one log
-
--- of two chains from one head that end at merges, neither is the shorter
-merge_ends : (objects : Objects) (head one two : Name) → (first : MeetsMerge objects head one) → (second : MeetsMerge objects head two)
-    → length first.meets.above < length second.meets.above → ⊥
-merge_ends objects head one two first second lt =
-    let on = Chain-shorter objects head first.meets.above second.meets.above one two lt first.meets.chain second.meets.chain in
-    let commit = same_commit on.1 first.commit (sym on.2 ∙ first.held) in
-    let few : length first.commit.parents ≡ 1 = ap (λ (c : Commit). length c.parents) (sym commit) ∙ ap length on.3 in
-    omega (arith, few, first.many)
-
-pub one_merge : (objects : Objects) (head one two : Name) → MeetsMerge objects head one → MeetsMerge objects head two → one ≡ two
-one_merge objects head one two first second =
-    elim (cases_eq (length first.meets.above) (length second.meets.above)) [
-      | inl e ↦ (Chain-same objects head first.meets.above second.meets.above one two e first.meets.chain second.meets.chain).1
-      | inr differ ↦ elim (cases_lt (length first.meets.above) (length second.meets.above)) [
-        | inl lt ↦ absurd (merge_ends objects head one two first second lt)
-        | inr ge ↦ absurd (merge_ends objects head two one second first (omega (arith, differ, ge)))
-      ]
-    ]
-
--- a head has one walk
-one_walk : (objects : Objects) (head : Name) (a b : List Met) → Walked objects head a → Walked objects head b → a ≡ b
-one_walk objects head [] b first second = absurd first
-one_walk objects head (r ∷ a) [] first second = absurd second
-one_walk objects head (r ∷ a) (s ∷ b) first second =
-    elim (cases_eq (length a) (length b)) [
-      | inl e ↦
-          let same = Chain-same objects head a b r.name s.name e first.0 second.0 in
-          let root = IsCommit-same objects r s [] [] same.1 first.1 second.1 in
-          grind (arith, root.0, same.0)
-      | inr differ ↦ elim (cases_lt (length a) (length b)) [
-        | inl lt ↦ absurd (root_ends objects head r a b s.name first.0 first.1 second.0 lt)
-        | inr ge ↦ absurd (root_ends objects head s b a r.name second.0 second.1 first.0 (omega (arith, differ, ge)))
-      ]
-    ]
 
 -- commits have one list of steps
 one_steps : (objects : Objects) (walk : List Met) (one two : List Step) → Clocked objects walk one → Clocked objects walk two → one ≡ two

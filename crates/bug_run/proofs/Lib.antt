@@ -3,4 +3,3 @@ pub mod ClockLemmas
 pub mod FreeLemmas
 pub mod LogLemmas
 pub mod StepLemmas
-pub mod WalkLemmas

@@ -4,18 +4,19 @@ use Rattle.std.proofs.lemmas.List.{get_or_default, take_more}
 use Rattle.gb_text.specs.declared.id.Name.{Name}
 use Rattle.git_object.specs.declared.commit.Commit.{Commit}
 use Rattle.object_store.specs.Held.{Objects, object_at}
-use Rattle.bug_run.specs.Objects.{commit_at, tree_at}
+use Rattle.commit_chain.specs.Objects.{commit_at, tree_at}
+use Rattle.commit_chain.specs.Chain.{IsCommit, Walked, Meets, MeetsCommit}
+use Rattle.commit_chain.specs.declared.chain.Met.{Met}
+use Rattle.commit_chain.proofs.PassLemmas.{Linked, Linked-walked, Linked-above, linked_at, meets_first, no_merge-walked}
 use Rattle.bug_run.specs.Clocks.{edit_clock_of}
-use Rattle.bug_run.specs.Walk.{IsCommit, Chain, Walked, Meets, MeetsMerge, MeetsCommit, Needs, FaultHolds, clock_at}
+use Rattle.bug_run.specs.Walk.{Needs, FaultHolds, clock_at}
 use Rattle.bug_run.specs.Log.{Clocked}
 use Rattle.bug_run.specs.Answers.{HasNoClock, SomeHasNoClock, ClockAnswers, ClocksAnswers, RisingAnswers, Falls, WalkRefused}
-use Rattle.bug_run.specs.declared.walk.Met.{Met}
 use Rattle.bug_run.specs.declared.log.Step.{Step}
 use Rattle.bug_run.specs.declared.fault.WalkFault.{WalkFault}
 use Rattle.bug_run.specs.declared.fault.WalkFault.TheVariants as fault
 use Rattle.bug_run.specs.declared.fault.WalkStop.{WalkStop}
 use Rattle.bug_run.specs.declared.fault.WalkStop.TheVariants as stop
-use Rattle.bug_run.proofs.WalkLemmas.{no_merge}
 use Rattle.bug_run.proofs.StepLemmas.{FaultHolds-read}
 
 -- one commit and its step more
@@ -25,41 +26,6 @@ Clocked-push objects [] [] met step clocked named clock = (named, clock, tt)
 Clocked-push objects [] (s ∷ ss) met step clocked named clock = absurd clocked
 Clocked-push objects (m ∷ ms) [] met step clocked named clock = absurd clocked
 Clocked-push objects (m ∷ ms) (s ∷ ss) met step clocked named clock = (clocked.0, clocked.1, Clocked-push objects ms ss met step clocked.2 named clock)
-
--- a commit from which the walk goes on, or at which it ends, and how it was met
-abbrev pub Linked : Objects → Name → List Met → Type 0
-Linked objects head [] = ⊥
-Linked objects head (met ∷ above) = Chain objects head above met.name × ((parents : List Name) × IsCommit objects met parents)
-
-pub Linked-walked : (objects : Objects) (head : Name) (walk : List Met) → Walked objects head walk → Linked objects head walk
-Linked-walked objects head [] walked = absurd walked
-Linked-walked objects head (root ∷ above) walked = (walked.0, ([], walked.1))
-
-pub Linked-above : (objects : Objects) (head : Name) (low high : Met) (above : List Met) → Linked objects head (low ∷ high ∷ above) → Linked objects head (high ∷ above)
-Linked-above objects head low high above linked = (linked.0.0, (low.name ∷ [], linked.0.1))
-
--- the walk meets the first of linked commits
-meets_first : (objects : Objects) (head : Name) (met : Met) (above : List Met) → Linked objects head (met ∷ above) → length above ≤ 65536 → Meets objects head met.name
-meets_first objects head met above linked near = record { above = above; chain = linked.0; near = near }
-
--- each of linked commits was met, and is held
-pub linked_at : (objects : Objects) (head : Name) (walk : List Met) (k : ℕ) (d : Met) → Linked objects head walk → length walk ≤ 65536 → k < length walk
-    → Meets objects head (get_or walk k d).name × ((parents : List Name) × IsCommit objects (get_or walk k d) parents)
-linked_at objects head [] k d linked near lt = absurd linked
-linked_at objects head (met ∷ above) zero d linked near lt = (meets_first objects head met above linked (omega (arith, near)), linked.1)
-linked_at objects head (met ∷ []) (suc k) d linked near lt = absurd (omega (arith, lt))
-linked_at objects head (met ∷ high ∷ above) (suc k) d linked near lt =
-    linked_at objects head (high ∷ above) k d (Linked-above objects head met high above linked) (omega (arith, near)) (omega (arith, lt))
-
--- a whole walk meets no merge
-pub no_merge-walked : (objects : Objects) (head : Name) (walk : List Met) → Walked objects head walk → (name : Name) → MeetsMerge objects head name → ⊥
-no_merge-walked objects head [] walked = absurd walked
-no_merge-walked objects head (root ∷ above) walked =
-    let none : (c : Commit) → commit_at objects root.name ≡ Some c → c.parents ≡ [] = λ c e. ap (λ (x : Commit). x.parents) (same_commit c walked.1.commit (sym e ∙ walked.1.held)) ∙ walked.1.has in
-    no_merge objects head above root.name walked.0 (λ c e. omega (arith, ap length (none c e))) (inr (λ p c e has. cc (sym (none c e) ∙ has)))
-  where
-    same_commit : (c d : Commit) → Some c ≡ Some d → c ≡ d
-    same_commit c d e = grind (arith, e)
 
 -- a commit that the walk met and that has no edit clock is a fault of the walk
 FaultHolds-clock : (objects : Objects) (head : Name) (met : Met) (parents : List Name) (f : WalkFault) → Meets objects head met.name → IsCommit objects met parents

@@ -1,26 +1,19 @@
--- What a step of the walk says of the whole walk.
-use Rattle.std.proofs.Common.{◌≡◌, inl, inr, ℕ, ◌≤◌, List, length, false, Option, Some, None, Ok, Err, refl, sym, ◌∙◌, ap, subst, arith, nat_le}
-use Rattle.std.proofs.lemmas.Grind.{common_steps}
+-- What keeps a name from being read, and what stops a walk, says of the log.
+use Rattle.std.proofs.Common.{◌≡◌, inl, ℕ, List, Option, None, ap}
 use Rattle.std.specs.Option.{option_and_then}
 use Rattle.gb_text.specs.declared.id.Name.{Name}
-use Rattle.git_object.specs.declared.commit.Commit.{Commit}
 use Rattle.git_object.specs.Reading.{object_of}
-use Rattle.object_store.specs.Held.{Objects, object_at, named, IsLarge}
-use Rattle.bug_run.specs.Objects.{as_commit, commit_at}
-use Rattle.bug_run.specs.Walk.{Chain, Meets, MeetsMerge, Needs, FaultHolds}
-use Rattle.bug_run.specs.Answers.{CannotRead, IsNoCommit, StepAnswers, WalkRefused, parents_of}
-use Rattle.bug_run.specs.declared.walk.Met.{Met}
+use Rattle.object_store.specs.Held.{Objects, object_at, named}
+use Rattle.commit_chain.specs.Answers.{WalkRefused as ChainRefused}
+use Rattle.commit_chain.specs.declared.fault.ChainFault.TheVariants as chain
+use Rattle.commit_chain.specs.declared.fault.ChainStop.{ChainStop}
+use Rattle.commit_chain.specs.declared.fault.ChainStop.TheVariants as walk
+use Rattle.commit_chain.proofs.StepLemmas.{object_at-large}
+use Rattle.bug_run.specs.Stops.{stop_of_chain}
+use Rattle.bug_run.specs.Walk.{Needs, FaultHolds}
+use Rattle.bug_run.specs.Answers.{CannotRead, WalkRefused}
 use Rattle.bug_run.specs.declared.fault.WalkFault.{WalkFault}
 use Rattle.bug_run.specs.declared.fault.WalkFault.TheVariants as fault
-use Rattle.bug_run.specs.declared.fault.WalkStop.{WalkStop}
-use Rattle.bug_run.specs.declared.fault.WalkStop.TheVariants as stop
-use Rattle.bug_run.proofs.WalkLemmas.{no_merge}
-
--- a name whose file is too large holds nothing
-object_at-large : (objects : Objects) (name : Name) → IsLarge (objects name) → object_at objects name ≡ None
-object_at-large objects name large =
-    let short : nat_le (length large.text) 4194304 ≡ false = grind (arith, common_steps, large.long) in
-    ap (λ (o : Option (List ℕ)). option_and_then object_of (option_and_then (named name) o)) large.stands ∙ rw short refl
 
 -- a fault in reading a name leaves it without an object
 pub CannotRead-none : (objects : Objects) (name : Name) (f : WalkFault) → CannotRead objects name f → object_at objects name ≡ None
@@ -33,17 +26,6 @@ CannotRead-none objects name (fault.BadClock n) h = absurd h
 CannotRead-none objects name (fault.ClockOrder n p) h = absurd h
 CannotRead-none objects name fault.TooLong h = absurd h
 
--- a fault of a name that is to be a commit leaves it without one
-pub IsNoCommit-none : (objects : Objects) (name : Name) (f : WalkFault) → IsNoCommit objects name f → commit_at objects name ≡ None
-IsNoCommit-none objects name (fault.Missing n) h = ap (option_and_then as_commit) (CannotRead-none objects name (fault.Missing n) h)
-IsNoCommit-none objects name (fault.Damaged n) h = ap (option_and_then as_commit) (CannotRead-none objects name (fault.Damaged n) h)
-IsNoCommit-none objects name (fault.Large n) h = ap (option_and_then as_commit) (CannotRead-none objects name (fault.Large n) h)
-IsNoCommit-none objects name (fault.NotCommit n) h = ap (option_and_then as_commit) h.2 ∙ h.3
-IsNoCommit-none objects name (fault.BadTree n) h = absurd h
-IsNoCommit-none objects name (fault.BadClock n) h = absurd h
-IsNoCommit-none objects name (fault.ClockOrder n p) h = absurd h
-IsNoCommit-none objects name fault.TooLong h = absurd h
-
 -- a fault in reading a name that the walk needs is a fault of the walk
 pub FaultHolds-read : (objects : Objects) (head name : Name) (f : WalkFault) → Needs objects head name → CannotRead objects name f → FaultHolds objects head f
 FaultHolds-read objects head name (fault.Missing n) needs h = rw h.0 (needs, h.1)
@@ -55,45 +37,13 @@ FaultHolds-read objects head name (fault.BadClock n) needs h = absurd h
 FaultHolds-read objects head name (fault.ClockOrder n p) needs h = absurd h
 FaultHolds-read objects head name fault.TooLong needs h = absurd h
 
--- a name that the walk meets and that holds no commit is a fault of the walk
-pub FaultHolds-commit : (objects : Objects) (head name : Name) (f : WalkFault) → Meets objects head name → IsNoCommit objects name f → FaultHolds objects head f
-FaultHolds-commit objects head name (fault.Missing n) meets h = FaultHolds-read objects head name (fault.Missing n) (inl meets) h
-FaultHolds-commit objects head name (fault.Damaged n) meets h = FaultHolds-read objects head name (fault.Damaged n) (inl meets) h
-FaultHolds-commit objects head name (fault.Large n) meets h = FaultHolds-read objects head name (fault.Large n) (inl meets) h
-FaultHolds-commit objects head name (fault.NotCommit n) meets h = rw h.0 (meets, h.1, h.2, h.3)
-FaultHolds-commit objects head name (fault.BadTree n) meets h = absurd h
-FaultHolds-commit objects head name (fault.BadClock n) meets h = absurd h
-FaultHolds-commit objects head name (fault.ClockOrder n p) meets h = absurd h
-FaultHolds-commit objects head name fault.TooLong meets h = absurd h
-
--- what a step refuses the walk refuses
-pub WalkRefused-step : (objects : Objects) (head : Name) (above : List Met) (name : Name) (s : WalkStop) → Chain objects head above name → length above ≤ 65536
-    → StepAnswers objects name (Err s) → WalkRefused objects head s
-WalkRefused-step objects head above name stop.Memory chain near h = tt
-WalkRefused-step objects head above name stop.Disk chain near h = tt
-WalkRefused-step objects head above name (stop.Merge n) chain near h =
-    let merge : MeetsMerge objects head name = record { meets = record { above = above; chain = chain; near = near }; commit = h.1.commit; held = h.1.held; many = h.1.many } in
-    rw h.0 merge
-WalkRefused-step objects head above name (stop.Fault f) chain near h =
-    let none = IsNoCommit-none objects name f h in
-    let no_commit : (c : Commit) → commit_at objects name ≡ Some c → ⊥ = λ c e. cc (sym none ∙ e) in (
-      no_merge objects head above name chain (λ c e. absurd (no_commit c e)) (inr (λ p c e has. no_commit c e)),
-      FaultHolds-commit objects head name f (record { above = above; chain = chain; near = near }) h,
-    )
-
--- one commit more than 65,536 is too long a walk, which meets no merge
-pub WalkRefused-too_long : (objects : Objects) (head : Name) (above : List Met) (name : Name) (step : Met × Option Name) → Chain objects head above name → length above ≡ 65536
-    → StepAnswers objects name (Ok step) → WalkRefused objects head (stop.Fault fault.TooLong)
-WalkRefused-too_long objects head above name step chain far h =
-    let held : commit_at objects name ≡ Some h.1.commit = ap (commit_at objects) (sym h.0) ∙ h.1.held in
-    let few : length h.1.commit.parents ≤ 1 = rw h.1.has (one_at_most step.1) in (
-      no_merge objects head above name chain (λ c e. subst (λ (c : Commit). length c.parents ≤ 1) (same_commit h.1.commit c (sym held ∙ e)) few) (inl far),
-      record { above = above; name = name; commit = h.1.commit; chain = chain; far = far; held = held },
-    )
-  where
-    one_at_most : (o : Option Name) → length (parents_of o) ≤ 1
-    one_at_most None = omega arith
-    one_at_most (Some p) = omega arith
-
-    same_commit : (c d : Commit) → Some c ≡ Some d → c ≡ d
-    same_commit c d e = grind (arith, e)
+-- what stops the walk of a chain stops the log
+pub WalkRefused-chain : (objects : Objects) (head : Name) (s : ChainStop) → ChainRefused objects head s → WalkRefused objects head (stop_of_chain s)
+WalkRefused-chain objects head walk.Memory h = tt
+WalkRefused-chain objects head walk.Disk h = tt
+WalkRefused-chain objects head (walk.Merge name) h = h
+WalkRefused-chain objects head (walk.Fault (chain.Missing name)) h = (h.0, (inl h.1.0, h.1.1))
+WalkRefused-chain objects head (walk.Fault (chain.Damaged name)) h = (h.0, (inl h.1.0, h.1.1))
+WalkRefused-chain objects head (walk.Fault (chain.Large name)) h = (h.0, (inl h.1.0, h.1.1))
+WalkRefused-chain objects head (walk.Fault (chain.NotCommit name)) h = h
+WalkRefused-chain objects head (walk.Fault chain.TooLong) h = h

@@ -2,15 +2,15 @@
 use Rattle.std.specs.Prelude.{◌≡◌, ◌<◌, ◌≤◌, ◌+◌, ⊤, ℕ, Contains, slice_index_or, List, [], ◌∷◌, length, Vec, Option, Some, None, Result, Ok, Err, option_and_then}
 use Rattle.std.specs.declared.alloc.Global.{Global}
 use Rattle.gb_text.specs.declared.id.Name.{Name}
-use Rattle.git_object.specs.declared.commit.Commit.{Commit}
 use Rattle.git_object.specs.declared.tree.Tree.{Tree}
 use Rattle.git_object.specs.declared.object.Object.{Object}
 use Rattle.object_store.specs.Held.{Objects, object_at, IsDamaged, IsLarge}
-use Rattle.bug_run.specs.Objects.{as_commit, as_tree, commit_at, tree_at}
+use Rattle.commit_chain.specs.Objects.{as_tree, tree_at}
+use Rattle.commit_chain.specs.Chain.{MeetsMerge}
+use Rattle.commit_chain.specs.declared.chain.Met.{Met}
 use Rattle.bug_run.specs.Clocks.{edit_clock_of}
 use Rattle.bug_run.specs.Log.{Clocked, Rises, IsLog}
-use Rattle.bug_run.specs.Walk.{IsCommit, Walked, MeetsMerge, FaultHolds}
-use Rattle.bug_run.specs.declared.walk.Met.{Met}
+use Rattle.bug_run.specs.Walk.{FaultHolds}
 use Rattle.bug_run.specs.declared.log.Step.{Step}
 use Rattle.bug_run.specs.declared.fault.WalkFault.{WalkFault}
 use Rattle.bug_run.specs.declared.fault.WalkFault.TheVariants as fault
@@ -24,46 +24,12 @@ CannotRead objects name (fault.Damaged n) = (n ≡ name) × IsDamaged objects na
 CannotRead objects name (fault.Large n) = (n ≡ name) × IsLarge (objects name)
 CannotRead objects name _ = ⊥
 
--- a fault that keeps a name from being a commit
-abbrev pub IsNoCommit : Objects → Name → WalkFault → Type 0
-IsNoCommit objects name (fault.NotCommit n) = (n ≡ name) × (object : Object) × (object_at objects name ≡ Some object) × (as_commit object ≡ None)
-IsNoCommit objects name f = CannotRead objects name f
-
-abbrev pub CommitAnswers : Objects → Name → Result Commit WalkStop → Type 0
-CommitAnswers objects name (Ok commit) = commit_at objects name ≡ Some commit
-CommitAnswers objects name (Err stop.Memory) = ⊤
-CommitAnswers objects name (Err stop.Disk) = ⊤
-CommitAnswers objects name (Err (stop.Merge n)) = ⊥
-CommitAnswers objects name (Err (stop.Fault f)) = IsNoCommit objects name f
-
--- a commit's parents, where it has at most one
-abbrev pub parents_of : Option Name → List Name
-parents_of None = []
-parents_of (Some parent) = parent ∷ []
-
--- a name holds a commit with two parents or more
-pub record IsMerge (objects : Objects) (name : Name) : Type 0 where
-  pub commit : Commit
-  pub held : commit_at objects name ≡ Some commit
-  pub many : 2 ≤ length commit.parents
-
-abbrev pub StepAnswers : Objects → Name → Result (Met × Option Name) WalkStop → Type 0
-StepAnswers objects name (Ok step) = (step.0.name ≡ name) × IsCommit objects step.0 (parents_of step.1)
-StepAnswers objects name (Err stop.Memory) = ⊤
-StepAnswers objects name (Err stop.Disk) = ⊤
-StepAnswers objects name (Err (stop.Merge n)) = (n ≡ name) × IsMerge objects name
-StepAnswers objects name (Err (stop.Fault f)) = IsNoCommit objects name f
-
 -- why the walk gave no commits: a merge that it met, or a fault where it met none
 abbrev pub WalkRefused : Objects → Name → WalkStop → Type 0
 WalkRefused objects head stop.Memory = ⊤
 WalkRefused objects head stop.Disk = ⊤
 WalkRefused objects head (stop.Merge name) = MeetsMerge objects head name
 WalkRefused objects head (stop.Fault f) = ((name : Name) → MeetsMerge objects head name → ⊥) × FaultHolds objects head f
-
-abbrev pub WalkAnswers : Objects → Name → Result (Vec Met Global) WalkStop → Type 0
-WalkAnswers objects head (Ok walk) = Walked objects head walk.items × (length walk.items ≤ 65536)
-WalkAnswers objects head (Err s) = WalkRefused objects head s
 
 -- a fault that keeps the tree of a commit from being a tree
 abbrev pub IsNoTree : Objects → Met → WalkFault → Type 0

@@ -8,10 +8,11 @@ use Rattle.gb_text.specs.Folder.{joined}
 use Rattle.gb_store.specs.Files.{Files}
 use Rattle.object_store.specs.Held.{Objects, objects_in}
 use Rattle.ref_store.specs.Refs.{Head, Absent, Bad, ref_at}
-use Rattle.bug_run.specs.Objects.{tree_at}
+use Rattle.commit_chain.specs.Objects.{tree_at}
+use Rattle.commit_chain.specs.Chain.{Walked, MeetsMerge}
+use Rattle.commit_chain.specs.declared.chain.Met.{Met}
 use Rattle.bug_run.specs.Clocks.{edit_clock_of}
-use Rattle.bug_run.specs.Walk.{Walked, MeetsMerge, FaultHolds}
-use Rattle.bug_run.specs.declared.walk.Met.{Met}
+use Rattle.bug_run.specs.Walk.{FaultHolds}
 use Rattle.bug_run.specs.declared.log.Step.{Step}
 use Rattle.bug_run.specs.declared.fault.WalkFault.{WalkFault}
 use Rattle.bug_run.specs.declared.status.Refusal.TheVariants as refusal

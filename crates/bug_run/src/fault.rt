@@ -1,4 +1,5 @@
 //! What may be wrong on the walk of a bug's commits, and why the walk stopped.
+use commit_chain::{ChainFault, ChainStop};
 use gb_text::{Memory, Name};
 use object_store::ObjFault;
 use std::alloc::{AllocError, AllocFailed};
@@ -47,6 +48,32 @@ impl From<ObjFault> for WalkStop {
             ObjFault::Missing(name) => WalkStop::Fault(WalkFault::Missing(name)),
             ObjFault::Damaged(name) => WalkStop::Fault(WalkFault::Damaged(name)),
             ObjFault::Large(name) => WalkStop::Fault(WalkFault::Large(name)),
+        }
+    }
+}
+
+impl From<ChainStop> for WalkStop {
+    ghost use Rattle.std.specs.Prelude.{◌≡◌};
+    ghost use Rattle.bug_run.specs.Stops.{stop_of_chain};
+
+    ghost from_gives = { λ stop e. e ≡ stop_of_chain stop };
+
+    fn from(stop: ChainStop) -> Self {
+        match stop {
+            ChainStop::Memory => WalkStop::Memory,
+            ChainStop::Disk => WalkStop::Disk,
+            ChainStop::Merge(name) => WalkStop::Merge(name),
+            ChainStop::Fault(ChainFault::Missing(name)) => WalkStop::Fault(WalkFault::Missing(
+                name,
+            )),
+            ChainStop::Fault(ChainFault::Damaged(name)) => WalkStop::Fault(WalkFault::Damaged(
+                name,
+            )),
+            ChainStop::Fault(ChainFault::Large(name)) => WalkStop::Fault(WalkFault::Large(name)),
+            ChainStop::Fault(ChainFault::NotCommit(name)) => WalkStop::Fault(WalkFault::NotCommit(
+                name,
+            )),
+            ChainStop::Fault(ChainFault::TooLong) => WalkStop::Fault(WalkFault::TooLong),
         }
     }
 }

@@ -3,7 +3,8 @@ ghost use Rattle.std.specs.Prelude.{◌≡◌, List};
 ghost use Rattle.gb_text.specs.declared.id.Name.{Name};
 ghost use Rattle.object_store.specs.Held.{Objects};
 ghost use Rattle.bug_run.specs.Log.{IsLog};
-ghost use Rattle.bug_run.specs.Walk.{FaultHolds, MeetsMerge};
+ghost use Rattle.bug_run.specs.Walk.{FaultHolds};
+ghost use Rattle.commit_chain.specs.Chain.{MeetsMerge};
 ghost use Rattle.bug_run.specs.declared.fault.WalkFault.{WalkFault};
 ghost use Rattle.bug_run.specs.declared.log.Step.{Step};
 

@@ -10,7 +10,7 @@ mod print;
 mod refusal;
 mod status;
 mod top;
-mod walk;
+mod tree;
 mod words;
 
 pub use fault::WalkFault;

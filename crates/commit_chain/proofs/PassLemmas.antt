@@ -28,7 +28,7 @@ pub Linked-above : (objects : Objects) (head : Name) (low high : Met) (above : L
 Linked-above objects head low high above linked = (linked.0.0, (low.name ∷ [], linked.0.1))
 
 -- the walk meets the first of linked commits
-meets_first : (objects : Objects) (head : Name) (met : Met) (above : List Met) → Linked objects head (met ∷ above) → length above ≤ 65536 → Meets objects head met.name
+pub meets_first : (objects : Objects) (head : Name) (met : Met) (above : List Met) → Linked objects head (met ∷ above) → length above ≤ 65536 → Meets objects head met.name
 meets_first objects head met above linked near = record { above = above; chain = linked.0; near = near }
 
 -- each of linked commits was met, and is held

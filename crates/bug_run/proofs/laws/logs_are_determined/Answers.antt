@@ -1,4 +1,5 @@
-use Rattle.bug_run.proofs.FreeLemmas.{one_merge, one_log}
+use Rattle.commit_chain.proofs.PassLemmas.{one_merge}
+use Rattle.bug_run.proofs.FreeLemmas.{one_log}
 use Rattle.bug_run.proofs.laws.logs_are_determined.Goals as goal
 
 pub returns-clause-merges : goal.returns-clause-merges

@@ -4,11 +4,11 @@ use Rattle.std.specs.declared.alloc.Global.{Global}
 use Rattle.gb_store.specs.Files.{History, files_of}
 use Rattle.gb_store.proofs.FaultLemmas.{KeepsFaults_then}
 use Rattle.object_store.specs.Held.{objects_in}
-use Rattle.bug_run.specs.Objects.{tree_at}
+use Rattle.commit_chain.specs.Objects.{tree_at}
 use Rattle.bug_run.specs.Clocks.{edit_clock_of}
 use Rattle.bug_run.specs.Log.{Clocked}
 use Rattle.bug_run.specs.Answers.{ClockAnswers, ClocksAnswers}
-use Rattle.bug_run.specs.declared.walk.Met.{Met}
+use Rattle.commit_chain.specs.declared.chain.Met.{Met}
 use Rattle.bug_run.specs.declared.log.Step.{Step}
 use Rattle.bug_run.specs.declared.fault.WalkStop.{WalkStop}
 use Rattle.bug_run.proofs.LogLemmas.{ClocksAnswers-at, Clocked-more}

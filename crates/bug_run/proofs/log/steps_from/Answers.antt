@@ -4,7 +4,7 @@ use Rattle.gb_store.specs.Files.{History, files_of}
 use Rattle.object_store.specs.Held.{objects_in}
 use Rattle.bug_run.specs.Log.{Clocked}
 use Rattle.bug_run.specs.Answers.{ClocksAnswers, StepsAnswers, RisingAnswers}
-use Rattle.bug_run.specs.declared.walk.Met.{Met}
+use Rattle.commit_chain.specs.declared.chain.Met.{Met}
 use Rattle.bug_run.specs.declared.log.Step.{Step}
 use Rattle.bug_run.specs.declared.fault.WalkStop.{WalkStop}
 use Rattle.bug_run.proofs.LogLemmas.{WalkRefused-clocks, WalkRefused-rising}
