@@ -220,7 +220,8 @@ fn put_head(
         return put(alloc, store, Kind::Commit, content);
     };
     let mut text = Vec::new(alloc);
-    append(&mut text, &[header, content])?;
+    text.extend_from_slice(header)?;
+    text.extend_from_slice(content)?;
     put_text(alloc, store, &text)
 }
 
