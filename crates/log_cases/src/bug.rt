@@ -10,12 +10,16 @@ pub const BUG: &str = "5f0f2c1f9e6c3f2b8f3c5f4b1d0f7a6e5d4c3b2a19080706050403020
 
 // The objects of the good bug, named as Git names them.
 pub const EMPTY: &str = "e69de29bb2d1d6434b8b29ae775ad8c2e48c5391";
+
 pub const ROOT_TREE: &str = "75cb0effd6c06a4790e158c3a73d4af18f02e3e8";
+
 pub const ROOT: &str = "7f655da1ff9f25bdf70595cc7abde9abdd502597";
+
 pub const TREE: &str = "5bcc65b56b2f7ed004d855d8dbf0939ea47958c5";
+
 pub const HEAD: &str = "95676b37fee876774c37570bec27230b8eaa3c43";
 
-pub const ROOT_ENTRIES: &[&str] = &["create-clock-1", "edit-clock-2", "ops", "version-4"];
+const ROOT_ENTRIES: &[&str] = &["create-clock-1", "edit-clock-2", "ops", "version-4"];
 
 const HEAD_ENTRIES: &[&str] = &["edit-clock-3", "ops", "version-4"];
 
@@ -31,7 +35,8 @@ const PACK_TEXT: &[u8] =
 const PACK_NAME: &[u8] =
     b"\xf4\x14\xcf\x14\x2e\x63\xf2\xb4\x8a\x03\xa6\x85\x35\x67\xfe\xd5\xae\xc2\x39\x88";
 
-const PERSONS: &[u8] = b"author git-bug <git-bug@localhost> 100 +0000\ncommitter git-bug <git-bug@localhost> 100 +0000\n\ngit-bug\n";
+const PERSONS: &[u8] =
+    b"author git-bug <git-bug@localhost> 100 +0000\ncommitter git-bug <git-bug@localhost> 100 +0000\n\ngit-bug\n";
 
 /// What is other than in the good bug: one thing. Objects stand under the SHA-1 of their texts, but
 /// for those of `Gone` and `Ends`.
@@ -98,12 +103,7 @@ fn put_text(alloc: Global, store: &mut MemStore, text: &[u8]) -> Result<[u8; 40]
     Ok(name.text())
 }
 
-fn put(
-    alloc: Global,
-    store: &mut MemStore,
-    kind: Kind,
-    content: &[u8],
-) -> Result<[u8; 40], Fail> {
+fn put(alloc: Global, store: &mut MemStore, kind: Kind, content: &[u8]) -> Result<[u8; 40], Fail> {
     let text = frame_text(alloc, kind, content)?;
     put_text(alloc, store, text.as_slice())
 }
@@ -112,13 +112,17 @@ fn put(
 fn tree_content(alloc: Global, names: &[&str]) -> Result<Vec<u8>, Fail> {
     let mut content = Vec::new(alloc);
     for name in names {
-        let object = if *name == "ops" { PACK_NAME } else { EMPTY_NAME };
+        let object = if *name == "ops" {
+            PACK_NAME
+        } else {
+            EMPTY_NAME
+        };
         append(&mut content, &[b"100644 ", name.as_bytes(), b"\0", object])?;
     }
     Ok(content)
 }
 
-pub fn put_tree(alloc: Global, store: &mut MemStore, names: &[&str]) -> Result<[u8; 40], Fail> {
+fn put_tree(alloc: Global, store: &mut MemStore, names: &[&str]) -> Result<[u8; 40], Fail> {
     let content = tree_content(alloc, names)?;
     put(alloc, store, Kind::Tree, &content)
 }

@@ -1,7 +1,6 @@
 //! What is told of good bugs, and of bugs in which one thing is wrong.
 use crate::bug::{
-    BUG, Case, EMPTY, HEAD, ROOT, ROOT_ENTRIES, ROOT_TREE, TREE, put_blobs, put_bug, put_commit,
-    put_ref,
+    BUG, Case, EMPTY, HEAD, ROOT, ROOT_TREE, TREE, put_blobs, put_bug, put_commit, put_ref,
 };
 use bug_run::{Status, run};
 use gb_store::{Fail as Listed, MemSink, MemStore};
@@ -10,10 +9,15 @@ use std::alloc::Global;
 use std::test::Fail;
 
 const DONE: u8 = 0;
+
 const REFUSED: u8 = 1;
+
 const USAGE: u8 = 2;
+
 const DISK_FAULT: u8 = 3;
+
 const MEMORY: u8 = 4;
+
 const OUT_FAULT: u8 = 5;
 
 const DAMAGED: &str =
@@ -70,7 +74,10 @@ fn case_tells(alloc: Global, case: Case, status: u8, text: &str) -> Result<bool,
 // Bugs with a log.
 const LOGGED: &[(Case, &str)] = &[
     (Case::Good, GOOD_LOG),
-    (Case::Ref(b"95676b37fee876774c37570bec27230b8eaa3c43\n"), GOOD_LOG),
+    (
+        Case::Ref(b"95676b37fee876774c37570bec27230b8eaa3c43\n"),
+        GOOD_LOG,
+    ),
     (Case::Header(b"commit 196\0"), GOOD_LOG),
     (
         Case::Entries(&["edit-clock-9223372036854775807", "ops", "version-4"]),
@@ -174,12 +181,20 @@ const WORDS: &[(&[&str], u8, &str)] = &[
     (&["f", "log", ZEROS], REFUSED, NOT_FOUND),
     (&["g", "log", BUG], REFUSED, NOT_FOUND),
     (
-        &["f", "log", "5f0f2c1f9e6c3f2b8f3c5f4b1d0f7a6e5d4c3b2a190807060504030201000fe"],
+        &[
+            "f",
+            "log",
+            "5f0f2c1f9e6c3f2b8f3c5f4b1d0f7a6e5d4c3b2a190807060504030201000fe",
+        ],
         REFUSED,
         NOT_FOUND,
     ),
     (
-        &["f", "log", "5F0F2C1F9E6C3F2B8F3C5F4B1D0F7A6E5D4C3B2A190807060504030201000FED"],
+        &[
+            "f",
+            "log",
+            "5F0F2C1F9E6C3F2B8F3C5F4B1D0F7A6E5D4C3B2A190807060504030201000FED",
+        ],
         REFUSED,
         NOT_FOUND,
     ),
@@ -207,17 +222,21 @@ fn an_empty_folder_has_no_bug(rt: HostRuntime) -> Result<(), Fail> {
     Ok(())
 }
 
+// Whether a sink that takes five bytes a write, and refuses the second, holds this front of the log.
+fn failing_sink_holds(alloc: Global, store: &mut MemStore, front: &[u8]) -> Result<bool, Fail> {
+    let mut fails = List::new(alloc);
+    let _ = fails.push(1);
+    let mut sink = MemSink::new(alloc, fails, 5);
+    let status = run_words(alloc, store, &["f", "log", BUG], &mut sink)?;
+    Ok(status == OUT_FAULT && sink.bytes() == front)
+}
+
 #[test]
 fn a_sink_that_fails_holds_a_front_of_the_text(rt: HostRuntime) -> Result<(), Fail> {
     let alloc = rt.alloc();
     let mut store = MemStore::new(alloc, List::new(alloc));
     put_bug(alloc, &mut store, Case::Good)?;
-    let mut fails = List::new(alloc);
-    let _ = fails.push(1);
-    let mut sink = MemSink::new(alloc, fails, 5);
-    let status = run_words(alloc, &mut store, &["f", "log", BUG], &mut sink)?;
-    assert_eq!(rt; status, OUT_FAULT);
-    assert_eq!(rt; sink.bytes(), b"2 7f6".as_slice());
+    assert!(rt; failing_sink_holds(alloc, &mut store, b"2 7f6")?);
     Ok(())
 }
 
@@ -257,60 +276,87 @@ fn the_first_call_of_a_store_may_fail(rt: HostRuntime) -> Result<(), Fail> {
 
 const FIRST_ENTRIES: &[&str] = &["create-clock-1", "edit-clock-1", "ops", "version-4"];
 
+const SECOND_ENTRIES: &[&str] = &["edit-clock-2", "ops", "version-4"];
+
+const NINTH_ENTRIES: &[&str] = &["edit-clock-9", "ops", "version-4"];
+
 // Puts commits with the clocks 1 and 2, and answers them.
 fn put_two(alloc: Global, store: &mut MemStore) -> Result<([u8; 40], [u8; 40]), Fail> {
     put_blobs(alloc, store)?;
     let one = put_commit(alloc, store, FIRST_ENTRIES, &[])?;
-    let two = put_commit(alloc, store, &["edit-clock-2", "ops", "version-4"], &[&one])?;
+    let two = put_commit(alloc, store, SECOND_ENTRIES, &[&one])?;
     Ok((one, two))
 }
+
+// Whether the log of the bug with this head ends so and prints this.
+fn head_tells(
+    alloc: Global,
+    store: &mut MemStore,
+    head: &[u8],
+    status: u8,
+    text: &str,
+) -> Result<bool, Fail> {
+    put_ref(alloc, store, head)?;
+    tells(alloc, store, &["f", "log", BUG], status, text)
+}
+
+const CHAIN_LOG: &str =
+    "1 36f6fb73f6fda7d206639b32461c683e3fa4c368\n2 122b03f3b916520b5a999b4b9407a7c068b64961\n9 743e0a967cee6195661fe26b074988660d8a3171\n";
 
 #[test]
 fn a_chain_is_logged_from_the_root_to_the_head(rt: HostRuntime) -> Result<(), Fail> {
     let alloc = rt.alloc();
     let mut store = MemStore::new(alloc, List::new(alloc));
     let (_, two) = put_two(alloc, &mut store)?;
-    let head = put_commit(alloc, &mut store, &["edit-clock-9", "ops", "version-4"], &[&two])?;
-    put_ref(alloc, &mut store, &head)?;
-    let before = (store.writes(), store.reads().saturating_add(6));
-    let log = "1 36f6fb73f6fda7d206639b32461c683e3fa4c368\n2 122b03f3b916520b5a999b4b9407a7c068b64961\n9 743e0a967cee6195661fe26b074988660d8a3171\n";
-    assert!(rt; tells(alloc, &mut store, &["f", "log", BUG], DONE, log)?);
-    assert_eq!(rt; (store.writes(), store.reads()), before);
+    let head = put_commit(alloc, &mut store, NINTH_ENTRIES, &[&two])?;
+    // One write puts the ref, and each of three commits and their trees is read once.
+    let writes = store.writes().saturating_add(1);
+    let reads = store.reads().saturating_add(6);
+    let holds = head_tells(alloc, &mut store, &head, DONE, CHAIN_LOG)?;
+    assert!(rt; holds && store.writes() == writes && store.reads() == reads);
     Ok(())
 }
+
+const MERGE_LINE: &str = "refused 18 merge commit cd5daf219264d4d6f463a53e738f49f2d77adab4\n";
 
 #[test]
 fn a_merge_commit_is_named_before_other_faults(rt: HostRuntime) -> Result<(), Fail> {
     let alloc = rt.alloc();
     let mut store = MemStore::new(alloc, List::new(alloc));
     let (one, two) = put_two(alloc, &mut store)?;
-    let names = &["edit-clock-9", "ops", "version-4"];
-    let merge = put_commit(alloc, &mut store, names, &[&two, &one])?;
-    put_ref(alloc, &mut store, &merge)?;
-    let line = "refused 18 merge commit cd5daf219264d4d6f463a53e738f49f2d77adab4\n";
-    assert!(rt; tells(alloc, &mut store, &["f", "log", BUG], REFUSED, line)?);
-    let names = &["edit-clock-3", "ops", "version-4"];
-    let above = put_commit(alloc, &mut store, names, &[&merge])?;
-    put_ref(alloc, &mut store, &above)?;
-    assert!(rt; tells(alloc, &mut store, &["f", "log", BUG], REFUSED, line)?);
+    let merge = put_commit(alloc, &mut store, NINTH_ENTRIES, &[&two, &one])?;
+    assert!(rt; head_tells(alloc, &mut store, &merge, REFUSED, MERGE_LINE)?);
+    // Its clock is below that of the merge.
+    let above = put_commit(alloc, &mut store, SECOND_ENTRIES, &[&merge])?;
+    assert!(rt; head_tells(alloc, &mut store, &above, REFUSED, MERGE_LINE)?);
     Ok(())
 }
 
 // Puts a chain of so many commits, with the clocks 1, 2, 3 and so on, and answers the last two.
-fn put_long(
-    alloc: Global,
-    store: &mut MemStore,
-    count: u64,
-) -> Result<([u8; 40], [u8; 40]), Fail> {
+fn put_long(alloc: Global, store: &mut MemStore, count: u64) -> Result<([u8; 40], [u8; 40]), Fail> {
     put_blobs(alloc, store)?;
     let mut head = put_commit(alloc, store, FIRST_ENTRIES, &[])?;
     let mut below = head;
     for clock in 2..=count {
         let entry = format!(in alloc; "edit-clock-{clock}")?;
         below = head;
-        head = put_commit(alloc, store, &[entry.as_str(), "ops", "version-4"], &[&below])?;
+        head = put_commit(
+            alloc,
+            store,
+            &[entry.as_str(), "ops", "version-4"],
+            &[&below],
+        )?;
     }
     Ok((below, head))
+}
+
+// Whether the log of the bug with this head has so many lines.
+fn has_lines(alloc: Global, store: &mut MemStore, head: &[u8], count: usize) -> Result<bool, Fail> {
+    put_ref(alloc, store, head)?;
+    let mut sink = MemSink::new(alloc, List::new(alloc), 4096);
+    let status = run_words(alloc, store, &["f", "log", BUG], &mut sink)?;
+    let lines = sink.bytes().iter().filter(|b| **b == b'\n').count();
+    Ok(status == DONE && lines == count)
 }
 
 #[test]
@@ -318,13 +364,7 @@ fn no_more_than_65536_commits_are_logged(rt: HostRuntime) -> Result<(), Fail> {
     let alloc = rt.alloc();
     let mut store = MemStore::new(alloc, List::new(alloc));
     let (below, head) = put_long(alloc, &mut store, 65_537)?;
-    put_ref(alloc, &mut store, &below)?;
-    let mut sink = MemSink::new(alloc, List::new(alloc), 4096);
-    let status = run_words(alloc, &mut store, &["f", "log", BUG], &mut sink)?;
-    assert_eq!(rt; status, DONE);
-    let lines = sink.bytes().iter().filter(|b| **b == b'\n').count();
-    assert_eq!(rt; lines, 65_536);
-    put_ref(alloc, &mut store, &head)?;
-    assert!(rt; tells(alloc, &mut store, &["f", "log", BUG], REFUSED, DAMAGED)?);
+    assert!(rt; has_lines(alloc, &mut store, &below, 65_536)?);
+    assert!(rt; head_tells(alloc, &mut store, &head, REFUSED, DAMAGED)?);
     Ok(())
 }
