@@ -8,6 +8,7 @@ use gb_text::List;
 use std::alloc::Global;
 use std::test::Fail;
 
+// How a run ends, by the status with which the program does.
 const DONE: u8 = 0;
 
 const REFUSED: u8 = 1;
@@ -179,6 +180,8 @@ const WORDS: &[(&[&str], u8, &str)] = &[
     (&["f\u{1}", "log", BUG], REFUSED, BAD_FOLDER),
     (&["", "log", "x"], REFUSED, BAD_FOLDER),
     (&["f", "log", ZEROS], REFUSED, NOT_FOUND),
+    (&["f", "log", "--"], REFUSED, NOT_FOUND),
+    (&["f", "log", "x/../5f0f"], REFUSED, NOT_FOUND),
     (&["g", "log", BUG], REFUSED, NOT_FOUND),
     (
         &[
@@ -222,13 +225,32 @@ fn an_empty_folder_has_no_bug(rt: HostRuntime) -> Result<(), Fail> {
     Ok(())
 }
 
-// Whether a sink that takes five bytes a write, and refuses the second, holds this front of the log.
-fn failing_sink_holds(alloc: Global, store: &mut MemStore, front: &[u8]) -> Result<bool, Fail> {
+// The number of the write that a sink of five bytes a write refuses, how the log of the good bug
+// then ends, and what the sink holds.
+const FRONTS: &[(u64, u8, &str)] = &[
+    (0, OUT_FAULT, ""),
+    (1, OUT_FAULT, "2 7f6"),
+    (
+        17,
+        OUT_FAULT,
+        "2 7f655da1ff9f25bdf70595cc7abde9abdd502597\n3 95676b37fee876774c37570bec27230b8eaa3c43",
+    ),
+    (18, DONE, GOOD_LOG),
+];
+
+// Whether with such a sink the log ends so, and the sink holds this.
+fn sink_holds(
+    alloc: Global,
+    store: &mut MemStore,
+    call: u64,
+    status: u8,
+    text: &str,
+) -> Result<bool, Fail> {
     let mut fails = List::new(alloc);
-    let _ = fails.push(1);
+    let _ = fails.push(call);
     let mut sink = MemSink::new(alloc, fails, 5);
-    let status = run_words(alloc, store, &["f", "log", BUG], &mut sink)?;
-    Ok(status == OUT_FAULT && sink.bytes() == front)
+    let ended = run_words(alloc, store, &["f", "log", BUG], &mut sink)?;
+    Ok(ended == status && sink.bytes() == text.as_bytes())
 }
 
 #[test]
@@ -236,7 +258,9 @@ fn a_sink_that_fails_holds_a_front_of_the_text(rt: HostRuntime) -> Result<(), Fa
     let alloc = rt.alloc();
     let mut store = MemStore::new(alloc, List::new(alloc));
     put_bug(alloc, &mut store, Case::Good)?;
-    assert!(rt; failing_sink_holds(alloc, &mut store, b"2 7f6")?);
+    for (call, status, text) in FRONTS {
+        assert!(rt; sink_holds(alloc, &mut store, *call, *status, text)?);
+    }
     Ok(())
 }
 
