@@ -17,6 +17,3 @@ pub use fault::WalkFault;
 pub use laws::{a_log_has_no_fault, logs_are_determined};
 pub use status::{Refusal, Status, Stop};
 pub use top::run;
-
-#[cfg(test)]
-mod tests;

@@ -1,0 +1,280 @@
+//! Folder `f` with a bug of two commits, and what is other than good in it.
+use gb_store::{Content, MemStore, Store};
+use gb_text::{Folder, Name, Text};
+use git_object::{Kind, frame_text, name_of_text};
+use object_store::path_of;
+use std::alloc::Global;
+use std::test::Fail;
+
+pub const BUG: &str = "5f0f2c1f9e6c3f2b8f3c5f4b1d0f7a6e5d4c3b2a190807060504030201000fed";
+
+// The objects of the good bug, named as Git names them.
+pub const EMPTY: &str = "e69de29bb2d1d6434b8b29ae775ad8c2e48c5391";
+
+pub const ROOT_TREE: &str = "75cb0effd6c06a4790e158c3a73d4af18f02e3e8";
+
+pub const ROOT: &str = "7f655da1ff9f25bdf70595cc7abde9abdd502597";
+
+pub const TREE: &str = "5bcc65b56b2f7ed004d855d8dbf0939ea47958c5";
+
+pub const HEAD: &str = "95676b37fee876774c37570bec27230b8eaa3c43";
+
+const ROOT_ENTRIES: &[&str] = &["create-clock-1", "edit-clock-2", "ops", "version-4"];
+
+const HEAD_ENTRIES: &[&str] = &["edit-clock-3", "ops", "version-4"];
+
+// An empty blob, and a pack without operations, with their names.
+const EMPTY_TEXT: &[u8] = b"blob 0\0";
+
+const EMPTY_NAME: &[u8] =
+    b"\xe6\x9d\xe2\x9b\xb2\xd1\xd6\x43\x4b\x8b\x29\xae\x77\x5a\xd8\xc2\xe4\x8c\x53\x91";
+
+const PACK_TEXT: &[u8] =
+    b"blob 93\0{\"author\":{\"id\":\"000000000000000000000000000000000000000000000000000000000000000a\"},\"ops\":[]}";
+
+const PACK_NAME: &[u8] =
+    b"\xf4\x14\xcf\x14\x2e\x63\xf2\xb4\x8a\x03\xa6\x85\x35\x67\xfe\xd5\xae\xc2\x39\x88";
+
+const PERSONS: &[u8] =
+    b"author git-bug <git-bug@localhost> 100 +0000\ncommitter git-bug <git-bug@localhost> 100 +0000\n\ngit-bug\n";
+
+/// What is other than in the good bug: one thing. Objects stand under the SHA-1 of their texts, but
+/// for those of `Gone` and `Ends`.
+#[derive(Clone, Copy)]
+pub enum Case {
+    /// Nothing.
+    Good,
+    /// The file of the ref.
+    Ref(&'static [u8]),
+    /// The object that the ref names.
+    Head(&'static str),
+    /// The object that the head names as its parent.
+    Parent(&'static str),
+    /// The object that the head names as its tree.
+    Tree(&'static str),
+    /// The names in the root's tree.
+    RootEntries(&'static [&'static str]),
+    /// The names in the head's tree.
+    Entries(&'static [&'static str]),
+    /// The header of the head.
+    Header(&'static [u8]),
+    /// So many bytes are the head's content, by a longer message.
+    LongHead(usize),
+    /// So many bytes are the content of the head's tree, by one entry more.
+    LongTree(usize),
+    /// There is no file of this object.
+    Gone(&'static str),
+    /// These bytes stand for the last byte in the file of this object.
+    Ends(&'static str, &'static [u8]),
+}
+
+// Adds these parts to a text.
+fn append(text: &mut Vec<u8>, parts: &[&[u8]]) -> Result<(), Fail> {
+    for part in parts {
+        text.extend_from_slice(part)?;
+    }
+    Ok(())
+}
+
+// Adds letters up to so many bytes.
+fn fill(text: &mut Vec<u8>, size: usize) -> Result<(), Fail> {
+    for _ in text.len()..size {
+        text.push(b'x')?;
+    }
+    Ok(())
+}
+
+// The path of an object's file.
+fn path(alloc: Global, name: &Name) -> Result<Text, Fail> {
+    Ok(path_of(alloc, &Folder::read(alloc, "f")?, name)?)
+}
+
+// The path of the object with these digits.
+fn path_at(alloc: Global, digits: &str) -> Result<Text, Fail> {
+    let name = Name::read(digits.as_bytes()).ok_or("a name")?;
+    path(alloc, &name)
+}
+
+// Puts an object, and answers the digits of its name.
+fn put_text(alloc: Global, store: &mut MemStore, text: &[u8]) -> Result<[u8; 40], Fail> {
+    let name = name_of_text(text);
+    let path = path(alloc, &name)?;
+    store.put(alloc, path.as_str(), text)?;
+    Ok(name.text())
+}
+
+fn put(alloc: Global, store: &mut MemStore, kind: Kind, content: &[u8]) -> Result<[u8; 40], Fail> {
+    let text = frame_text(alloc, kind, content)?;
+    put_text(alloc, store, text.as_slice())
+}
+
+// The content of a tree of plain files with these names.
+fn tree_content(alloc: Global, names: &[&str]) -> Result<Vec<u8>, Fail> {
+    let mut content = Vec::new(alloc);
+    for name in names {
+        let object = if *name == "ops" {
+            PACK_NAME
+        } else {
+            EMPTY_NAME
+        };
+        append(&mut content, &[b"100644 ", name.as_bytes(), b"\0", object])?;
+    }
+    Ok(content)
+}
+
+fn put_tree(alloc: Global, store: &mut MemStore, names: &[&str]) -> Result<[u8; 40], Fail> {
+    let content = tree_content(alloc, names)?;
+    put(alloc, store, Kind::Tree, &content)
+}
+
+// The content of a commit, whose lines of parents are these.
+fn commit_content(alloc: Global, tree: &[u8], parents: &[u8]) -> Result<Vec<u8>, Fail> {
+    let mut content = Vec::new(alloc);
+    append(&mut content, &[b"tree ", tree, b"\n", parents, PERSONS])?;
+    Ok(content)
+}
+
+// The lines of these parents.
+fn parent_lines(alloc: Global, parents: &[&[u8]]) -> Result<Vec<u8>, Fail> {
+    let mut lines = Vec::new(alloc);
+    for parent in parents {
+        append(&mut lines, &[b"parent ", parent, b"\n"])?;
+    }
+    Ok(lines)
+}
+
+/// Puts a commit with a tree of these names, and answers the digits of its name.
+pub fn put_commit(
+    alloc: Global,
+    store: &mut MemStore,
+    names: &[&str],
+    parents: &[&[u8]],
+) -> Result<[u8; 40], Fail> {
+    let tree = put_tree(alloc, store, names)?;
+    let lines = parent_lines(alloc, parents)?;
+    let content = commit_content(alloc, &tree, &lines)?;
+    put(alloc, store, Kind::Commit, &content)
+}
+
+/// Puts the ref of the bug.
+pub fn put_ref(alloc: Global, store: &mut MemStore, text: &[u8]) -> Result<(), Fail> {
+    let path = format!(in alloc; "f/refs/bugs/{BUG}")?;
+    store.put(alloc, path.as_str(), text)?;
+    Ok(())
+}
+
+/// Puts the blobs that trees name.
+pub fn put_blobs(alloc: Global, store: &mut MemStore) -> Result<(), Fail> {
+    put_text(alloc, store, EMPTY_TEXT)?;
+    put_text(alloc, store, PACK_TEXT)?;
+    Ok(())
+}
+
+fn root_entries(case: Case) -> &'static [&'static str] {
+    match case {
+        Case::RootEntries(names) => names,
+        _ => ROOT_ENTRIES,
+    }
+}
+
+fn entries(case: Case) -> &'static [&'static str] {
+    match case {
+        Case::Entries(names) => names,
+        _ => HEAD_ENTRIES,
+    }
+}
+
+// Puts the head's tree.
+fn put_head_tree(alloc: Global, store: &mut MemStore, case: Case) -> Result<[u8; 40], Fail> {
+    let mut content = tree_content(alloc, entries(case))?;
+    if let Case::LongTree(size) = case {
+        append(&mut content, &[b"100644 "])?;
+        fill(&mut content, size.saturating_sub(21))?;
+        append(&mut content, &[b"\0", EMPTY_NAME])?;
+    }
+    put(alloc, store, Kind::Tree, &content)
+}
+
+// The content of the head, over this tree and this root.
+fn head_content(alloc: Global, case: Case, tree: &[u8], root: &[u8]) -> Result<Vec<u8>, Fail> {
+    let tree = match case {
+        Case::Tree(name) => name.as_bytes(),
+        _ => tree,
+    };
+    let parent = match case {
+        Case::Parent(name) => name.as_bytes(),
+        _ => root,
+    };
+    let lines = parent_lines(alloc, &[parent])?;
+    let mut content = commit_content(alloc, tree, &lines)?;
+    if let Case::LongHead(size) = case {
+        fill(&mut content, size)?;
+    }
+    Ok(content)
+}
+
+// Puts the head with this content.
+fn put_head(
+    alloc: Global,
+    store: &mut MemStore,
+    case: Case,
+    content: &[u8],
+) -> Result<[u8; 40], Fail> {
+    let Case::Header(header) = case else {
+        return put(alloc, store, Kind::Commit, content);
+    };
+    let mut text = Vec::new(alloc);
+    text.extend_from_slice(header)?;
+    text.extend_from_slice(content)?;
+    put_text(alloc, store, &text)
+}
+
+// Puts the ref that names this head.
+fn put_head_ref(alloc: Global, store: &mut MemStore, case: Case, head: &[u8]) -> Result<(), Fail> {
+    match case {
+        Case::Ref(text) => put_ref(alloc, store, text),
+        Case::Head(name) => put_ref(alloc, store, name.as_bytes()),
+        _ => put_ref(alloc, store, head),
+    }
+}
+
+// Puts other bytes in the place of the last byte of a file.
+fn change_end(alloc: Global, store: &mut MemStore, path: &str, end: &[u8]) -> Result<(), Fail> {
+    let Content::Whole(bytes) = store.read(alloc, path, 4096)? else {
+        return Ok(());
+    };
+    let Some((_, front)) = bytes.as_slice().split_last() else {
+        return Ok(());
+    };
+    let mut text = Vec::new(alloc);
+    append(&mut text, &[front, end])?;
+    store.put(alloc, path, &text)?;
+    Ok(())
+}
+
+// Removes or changes the file of an object.
+fn spoil(alloc: Global, store: &mut MemStore, case: Case) -> Result<(), Fail> {
+    match case {
+        Case::Gone(name) => {
+            let path = path_at(alloc, name)?;
+            store.remove(alloc, path.as_str())?;
+            Ok(())
+        }
+        Case::Ends(name, end) => {
+            let path = path_at(alloc, name)?;
+            change_end(alloc, store, path.as_str(), end)
+        }
+        _ => Ok(()),
+    }
+}
+
+/// Puts the bug of a case.
+pub fn put_bug(alloc: Global, store: &mut MemStore, case: Case) -> Result<(), Fail> {
+    put_blobs(alloc, store)?;
+    let root = put_commit(alloc, store, root_entries(case), &[])?;
+    let tree = put_head_tree(alloc, store, case)?;
+    let content = head_content(alloc, case, &tree, &root)?;
+    let head = put_head(alloc, store, case, &content)?;
+    put_head_ref(alloc, store, case, &head)?;
+    spoil(alloc, store, case)
+}
