@@ -1,0 +1,3 @@
+pub mod RestLemmas
+pub mod TreeLemmas
+pub mod HeadLaws

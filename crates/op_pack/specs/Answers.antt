@@ -1,0 +1,8 @@
+-- Answers of readers, with their causes.
+use Rattle.std.specs.Prelude.{◌≡◌, Option, Some, Result, Ok, Err}
+use Rattle.op_pack.specs.declared.fault.PackFault.{PackFault}
+
+-- What is answered is the value, and a fault that is named holds.
+abbrev pub Answers : {A : Type 0} → Option A → (PackFault → Type 0) → Result A PackFault → Type 0
+Answers value Fault (Ok a) = value ≡ Some a
+Answers value Fault (Err f) = Fault f
