@@ -5,5 +5,6 @@ pub mod OpsLemmas
 pub mod TextLemmas
 pub mod PackLaws
 pub mod PartsLaws
+pub mod ExactLaws
 pub mod RuleLaws
 pub mod BackLaws

@@ -1,10 +1,9 @@
 -- The operations of a pack that is read keep the rules of their kind.
-use Rattle.std.proofs.Common.{◌≡◌, ◌∙◌, ap, sym, refl, subst, List, [], ◌∷◌, ℕ, Bool, true, false, map, Option, Some, None, length}
-use Rattle.std.specs.Prelude.{option_and_then, if◌then◌else◌, All, nat_le, Result, Ok, Err, IfOk}
+use Rattle.std.proofs.Common.{◌≡◌, ◌∙◌, ap, refl, subst, List, [], ◌∷◌, ℕ, Bool, true, false, map, Option, Some, None}
+use Rattle.std.specs.Prelude.{if◌then◌else◌, All, Result, Ok, Err, IfOk}
 use Rattle.std.specs.List.{AllByRecursion}
 use Rattle.std.specs.Str.{IsUtf8, bytes_eq}
 use Rattle.std.proofs.lemmas.List.Elements.{All-head, All-tail}
-use Rattle.std.proofs.lemmas.Option.{some_pair_parts}
 use Rattle.gb_text.specs.declared.id.Id.{Id}
 use Rattle.json_span.specs.Grammar.{IsValueText}
 use Rattle.json_span.specs.Joined.{IsMemberOf}
@@ -15,12 +14,12 @@ use Rattle.op_kind.specs.CommonLaws.{map_some}
 use Rattle.op_kind.specs.Meaning.{Meaning, KeepsLaws}
 use Rattle.op_kind.specs.Members.{Fields, text_at, with_member, fields_of, values_of, value_or}
 use Rattle.op_pack.specs.Answers.{AnswersUnlessMemory}
-use Rattle.op_pack.specs.Packs.{place_of, ops_at, pack_of, pack_with, pack_at, before, hash_of, TextFault}
+use Rattle.op_pack.specs.Packs.{place_of, pack_at, TextFault, StandFor, IsPackOf}
 use Rattle.op_pack.specs.declared.fault.PackFault.{PackFault}
-use Rattle.op_pack.specs.Texts.{slices_at, parts_at, IsPackText}
+use Rattle.op_pack.specs.Texts.{slices_at, IsPackText}
 use Rattle.op_pack.specs.declared.pack.Pack.{Pack}
 use Rattle.op_pack.specs.declared.head.TreeHead.{TreeHead}
-use Rattle.op_pack.proofs.PartsLaws.{parts_found, parts_only}
+use Rattle.op_pack.proofs.ExactLaws.{pack_found}
 
 -- ---- the texts of operations
 
@@ -80,63 +79,29 @@ slices_good text author slices is =
 -- ---- the operations
 
 module _ {Op State Row : Type 0} (k : Meaning Op State Row) (laws : KeepsLaws k) where
-  before_some : {A : Type 0} (x : Option A) (xs : Option (List A)) (all : List A) → before x xs ≡ Some all → (a : A) × (rest : List A) × (x ≡ Some a) × (xs ≡ Some rest) × (all ≡ a ∷ rest)
-  before_some None xs all h = absurd (cc)
-  before_some (Some a) None all h = absurd (cc)
-  before_some (Some a) (Some rest) all h = (a, rest, refl, refl, cc (h))
+  all_keep : (head : TreeHead) (author : Id) (slices : List (List ℕ)) (ops : List Op) → AllByRecursion (IsGood 99) slices → StandFor k head author slices ops → AllByRecursion k.KeepsRules ops
+  all_keep head author [] [] all stand = tt
+  all_keep head author [] (o ∷ os) all stand = absurd stand
+  all_keep head author (s ∷ ss) [] all stand = absurd stand
+  all_keep head author (s ∷ ss) (o ∷ os) all stand = (laws.keeps_rules (place_of head author s) s o all.0.utf8 all.0.value stand.0, all_keep head author ss os all.1 stand.1)
 
-  ops_keep : (head : TreeHead) (author : Id) (slices : List (List ℕ)) (ops : List Op) → AllByRecursion (IsGood 99) slices → ops_at k head author slices ≡ Some ops → AllByRecursion k.KeepsRules ops
-  ops_keep head author [] [] all h = tt
-  ops_keep head author [] (o ∷ os) all h = absurd (cc)
-  ops_keep head author (s ∷ ss) ops all h =
-      let parts = before_some (k.read_at (place_of head author s) s) (ops_at k head author ss) ops h in
-      let here = laws.keeps_rules (place_of head author s) s parts.0 all.0.utf8 all.0.value parts.2 in
-      subst (AllByRecursion k.KeepsRules) (sym parts.4) (here, ops_keep head author ss parts.1 all.1 parts.3)
+  all_stand : (head : TreeHead) (author : Id) (slices : List (List ℕ)) (ops : List Op) → StandFor k head author slices ops → map (λ o. (k.common_of o).place) ops ≡ map (place_of head author) slices
+  all_stand head author [] [] stand = refl
+  all_stand head author [] (o ∷ os) stand = absurd stand
+  all_stand head author (s ∷ ss) [] stand = absurd stand
+  all_stand head author (s ∷ ss) (o ∷ os) stand =
+      ap (λ p. p ∷ map (λ o. (k.common_of o).place) os) (laws.stands_there (place_of head author s) s o stand.0)
+      ∙ ap (λ ps. place_of head author s ∷ ps) (all_stand head author ss os stand.1)
 
-  ops_stand : (head : TreeHead) (author : Id) (slices : List (List ℕ)) (ops : List Op) → ops_at k head author slices ≡ Some ops → map (λ o. (k.common_of o).place) ops ≡ map (place_of head author) slices
-  ops_stand head author [] [] h = refl
-  ops_stand head author [] (o ∷ os) h = absurd (cc)
-  ops_stand head author (s ∷ ss) ops h =
-      let parts = before_some (k.read_at (place_of head author s) s) (ops_at k head author ss) ops h in
-      ap (map (λ o. (k.common_of o).place)) parts.4
-      ∙ ap (λ p. p ∷ map (λ o. (k.common_of o).place) parts.1) (laws.stands_there (place_of head author s) s parts.0 parts.2)
-      ∙ ap (λ ps. place_of head author s ∷ ps) (ops_stand head author ss parts.1 parts.3)
+  -- The operations of a pack keep the rules of their kind.
+  pub pack_keeps : (head : TreeHead) (text : List ℕ) (slices : List (List ℕ)) (pack : Pack Op) → IsPackOf k head text slices pack → AllByRecursion k.KeepsRules pack.ops
+  pack_keeps head text slices pack is = all_keep head pack.author slices pack.ops (slices_good text pack.author slices is.text_is) is.ops_are
 
-  if_some : {A : Type 0} (b : Bool) (x : Option A) (a : A) → (if b then x else None) ≡ Some a → x ≡ Some a
-  if_some true x a h = h
-  if_some false x a h = absurd (cc)
-
-  pub record IsReadFrom (head : TreeHead) (text : List ℕ) (pack : Pack Op) : Type 0 where
-    pub author : Id
-    pub slices : List (List ℕ)
-    pub parts : parts_at text ≡ Some (author, slices)
-    pub ops : ops_at k head author slices ≡ Some pack.ops
-
-  read_parts : (head : TreeHead) (text : List ℕ) (parts : Option (Id × List (List ℕ))) (pack : Pack Op) → parts_at text ≡ parts → option_and_then (pack_of k head (hash_of text)) parts ≡ Some pack → IsReadFrom head text pack
-  read_parts head text None pack is h = absurd (cc)
-  read_parts head text (Some parts) pack is h =
-      let some = if_some (nat_le (length parts.1) 4096) _ pack h in
-      let found = map_some (pack_with k head (hash_of text) parts.0) (ops_at k head parts.0 parts.1) pack some in
-      record { author = parts.0; slices = parts.1; parts = is; ops = found.1 ∙ ap (λ (p : Pack Op). Some p.ops) found.2 }
-
-  pub read_from : (head : TreeHead) (text : List ℕ) (pack : Pack Op) → pack_at k head text ≡ Some pack → IsReadFrom head text pack
-  unfolding pack_at
-  read_from head text pack h = read_parts head text (parts_at text) pack refl h
-
-  -- The operations of a pack that is read keep the rules of their kind.
-  pub read_keeps : (head : TreeHead) (text : List ℕ) (pack : Pack Op) → pack_at k head text ≡ Some pack → AllByRecursion k.KeepsRules pack.ops
-  read_keeps head text pack h =
-      let from = read_from head text pack h in
-      ops_keep head from.author from.slices pack.ops (slices_good text from.author from.slices (parts_found text from.author from.slices from.parts)) from.ops
+  -- The operations of a pack stand at the places of their texts.
+  pub pack_stands : (head : TreeHead) (text : List ℕ) (slices : List (List ℕ)) (pack : Pack Op) → IsPackOf k head text slices pack → map (λ o. (k.common_of o).place) pack.ops ≡ map (place_of head pack.author) slices
+  pack_stands head text slices pack is = all_stand head pack.author slices pack.ops is.ops_are
 
   -- What is answered has operations that keep the rules.
   pub rules_answer : (head : TreeHead) (text : List ℕ) (r : Result (Pack Op) PackFault) → AnswersUnlessMemory (pack_at k head text) (TextFault k text) r → IfOk r (λ pack. AllByRecursion k.KeepsRules pack.ops)
-  rules_answer head text (Ok pack) h = read_keeps head text pack h
+  rules_answer head text (Ok pack) h = let found = pack_found k head text pack h in pack_keeps head text found.0 pack found.1
   rules_answer head text (Err f) h = tt
-
-  -- The operations of a pack that is read stand at the places of their texts.
-  pub read_stands : (head : TreeHead) (text : List ℕ) (pack : Pack Op) (author : Id) (slices : List (List ℕ)) → pack_at k head text ≡ Some pack → IsPackText text author slices → map (λ o. (k.common_of o).place) pack.ops ≡ map (place_of head author) slices
-  read_stands head text pack author slices h is =
-      let from = read_from head text pack h in
-      let same = some_pair_parts from.author author from.slices slices (sym from.parts ∙ parts_only text author slices is) in
-      ops_stand head from.author from.slices pack.ops from.ops ∙ ap (λ a. map (place_of head a) from.slices) same.0 ∙ ap (map (place_of head author)) same.1

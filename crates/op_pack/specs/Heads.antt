@@ -26,13 +26,15 @@ rest_after front e = if bytes_eq (take (length front) e.name) front then Some (d
 abbrev pub rests_after : List ℕ → List Entry → List (List ℕ)
 rests_after front entries = filter_map (rest_after front) entries
 
--- what follows `version-`, `edit-clock-` and `create-clock-` in the names of a tree's entries
+-- what follows `version-` in the names of a tree's entries
 abbrev pub versions : Tree → List (List ℕ)
 versions t = rests_after (codes "version-") t.entries
 
+-- what follows `edit-clock-` in them
 abbrev pub edit_clocks : Tree → List (List ℕ)
 edit_clocks t = rests_after (codes "edit-clock-") t.entries
 
+-- what follows `create-clock-` in them
 abbrev pub create_clocks : Tree → List (List ℕ)
 create_clocks t = rests_after (codes "create-clock-") t.entries
 

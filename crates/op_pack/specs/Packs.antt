@@ -1,5 +1,5 @@
 -- The pack of operations that a text stands for, what may be wrong with the text, and how a pack is written.
-use Rattle.std.specs.Prelude.{◌≡◌, ⊤, ◌<◌, nat_le, ℕ, ◌+◌, List, [], ◌∷◌, ◌++◌, map, length, Option, Some, None, option_and_then, if◌then◌else◌, codes}
+use Rattle.std.specs.Prelude.{◌≡◌, ⊤, ◌<◌, ◌≤◌, nat_le, ℕ, ◌+◌, List, [], ◌∷◌, ◌++◌, map, length, Option, Some, None, option_and_then, if◌then◌else◌, codes}
 use Rattle.std.specs.Option.{option_map}
 use Rattle.std.specs.List.{slice_get}
 use Rattle.hex.specs.Hex.{encode_lower}
@@ -8,7 +8,7 @@ use Rattle.gb_text.specs.declared.id.Id.{Id}
 use Rattle.json_span.specs.Joined.{joined}
 use Rattle.op_kind.specs.Meaning.{Meaning}
 use Rattle.op_kind.specs.declared.place.Place.{Place}
-use Rattle.op_pack.specs.Texts.{parts_at}
+use Rattle.op_pack.specs.Texts.{IsPackText, parts_at}
 use Rattle.op_pack.specs.declared.fault.PackFault.{PackFault}
 use Rattle.op_pack.specs.declared.fault.PackFault.TheVariants.{Memory, UnknownVersion, NoOps, BadClock, BadPack, BadOperation, TooLarge}
 use Rattle.op_pack.specs.declared.head.TreeHead.{TreeHead}
@@ -49,6 +49,23 @@ module _ {Op State Row : Type 0} (k : Meaning Op State Row) where
   -- The pack that a text stands for beside a tree with this head.
   unfoldable pub pack_at : TreeHead → List ℕ → Option (Pack Op)
   pack_at head text = option_and_then (pack_of head (hash_of text)) (parts_at text)
+
+  -- each text stands for the operation beside it, at the place of the text
+  abbrev pub StandFor : TreeHead → Id → List (List ℕ) → List Op → Type 0
+  StandFor head author [] [] = ⊤
+  StandFor head author [] (o ∷ os) = ⊥
+  StandFor head author (slice ∷ slices) [] = ⊥
+  StandFor head author (slice ∷ slices) (o ∷ os) = (k.read_at (place_of head author slice) slice ≡ Some o) × StandFor head author slices os
+
+  -- The text, beside a tree with this head, is that of the pack, with these texts of operations as they stand: they are at most 4,096, and each stands for an operation of the pack, in order.
+  pub record IsPackOf (head : TreeHead) (text : List ℕ) (slices : List (List ℕ)) (pack : Pack Op) : Type 0 where
+    pub text_is : IsPackText text pack.author slices
+    pub few : length slices ≤ most_operations
+    pub id_is : pack.id ≡ hash_of text
+    pub version_is : pack.version ≡ head.version
+    pub edit_is : pack.edit ≡ head.edit
+    pub create_is : pack.create ≡ head.create
+    pub ops_are : StandFor head pack.author slices pack.ops
 
   -- the fault holds of the operations' texts
   abbrev pub SlicesFault : List (List ℕ) → PackFault → Type 0

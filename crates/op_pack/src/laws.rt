@@ -7,7 +7,7 @@ ghost use Rattle.git_object.specs.declared.tree.Tree.{Tree as TreeValue};
 ghost use Rattle.op_kind.specs.declared.fault.OpFault.TheVariants as operation;
 ghost use Rattle.op_pack.specs.Heads.{head_of, HeadFault};
 ghost use Rattle.op_pack.specs.Texts.{IsPackText, IsPack, parts_at};
-ghost use Rattle.op_pack.specs.Packs.{place_of, pack_at, TextFault, pack_text, MayStand, written_pack};
+ghost use Rattle.op_pack.specs.Packs.{place_of, pack_at, IsPackOf, TextFault, pack_text, MayStand, written_pack};
 ghost use Rattle.op_pack.specs.declared.fault.PackFault.{PackFault as FaultValue};
 ghost use Rattle.op_pack.specs.declared.fault.PackFault.TheVariants.{Memory, BadOperation};
 ghost use Rattle.op_pack.specs.declared.head.TreeHead.{TreeHead as HeadValue};
@@ -53,15 +53,23 @@ pub fn pack_or_fault<K: OpKind>()
         → TextFault K.meaning text (BadOperation i operation.Memory) → ⊥ }
 {}
 
-/// The operations of a pack that is read keep the rules of their kind, so they can be written again,
-/// and each stands at the place of its text.
-pub fn read_operations_keep_rules<K: OpKind>()
-    ensures rules { (head : HeadValue) (text : List ℕ) (pack : PackValue K)
-        → pack_at K.meaning head text ≡ Some pack → AllByRecursion K.meaning.KeepsRules pack.ops }
-    ensures places { (head : HeadValue) (text : List ℕ) (pack : PackValue K)
-        (author : IdValue) (slices : List (List ℕ)) → pack_at K.meaning head text ≡ Some pack
-        → IsPackText text author slices
-        → map (λ o. (K.meaning.common_of o).place) pack.ops ≡ map (place_of head author) slices }
+/// `pack_at` gives exactly the pack that a text is of.
+pub fn packs_are_exact<K: OpKind>()
+    ensures found { (head : HeadValue) (text : List ℕ) (pack : PackValue K)
+        → pack_at K.meaning head text ≡ Some pack
+        → (slices : List (List ℕ)) × IsPackOf K.meaning head text slices pack }
+    ensures only { (head : HeadValue) (text : List ℕ) (slices : List (List ℕ)) (pack : PackValue K)
+        → IsPackOf K.meaning head text slices pack → pack_at K.meaning head text ≡ Some pack }
+{}
+
+/// The operations of a pack keep the rules of their kind, so they can be written again, and each stands
+/// at the place of its text.
+pub fn operations_keep_rules<K: OpKind>()
+    ensures rules { (head : HeadValue) (text : List ℕ) (slices : List (List ℕ)) (pack : PackValue K)
+        → IsPackOf K.meaning head text slices pack → AllByRecursion K.meaning.KeepsRules pack.ops }
+    ensures places { (head : HeadValue) (text : List ℕ) (slices : List (List ℕ)) (pack : PackValue K)
+        → IsPackOf K.meaning head text slices pack
+        → map (λ o. (K.meaning.common_of o).place) pack.ops ≡ map (place_of head pack.author) slices }
 {}
 
 /// What is written of operations that keep the rules of their kind is a pack text with their written

@@ -10,8 +10,8 @@ mod parts;
 pub use fault::PackFault;
 pub use head::{TreeHead, read_head, tree_for};
 pub use laws::{
-    head_or_fault, pack_or_fault, packs_are_determined, parts_are_exact,
-    read_operations_keep_rules, written_packs_read_back,
+    head_or_fault, operations_keep_rules, pack_or_fault, packs_are_determined, packs_are_exact,
+    parts_are_exact, written_packs_read_back,
 };
 pub use pack::Pack;
 

@@ -4,6 +4,7 @@ ghost use Rattle.std.specs.List.{AllByRecursion};
 ghost use Rattle.gb_text.specs.Digits.{IsId};
 ghost use Rattle.json_span.specs.Joined.{joined, behind_commas};
 ghost use Rattle.op_pack.specs.Answers.{AnswersUnlessMemory};
+ghost use Rattle.op_pack.specs.Packs.{hash_of, ops_at, SlicesFault};
 
 use crate::parts::read_parts;
 use crate::{PackFault, TreeHead};
@@ -12,7 +13,7 @@ use op_kind::{OpFault, OpKind, Place};
 use sha2::{Digest, Sha256};
 use std::alloc::Global;
 
-/// The most operations that a pack may have.
+// The most operations that a pack may have.
 const MOST_OPERATIONS: usize = 4096;
 
 /// The operations that one commit adds, in order (git-bug's data model). `id` is the SHA-256 of the
@@ -26,8 +27,6 @@ pub struct Pack<K> {
     pub author: Id,
     pub ops: List<K>,
 }
-
-ghost use Rattle.op_pack.specs.Packs.{hash_of, ops_at, SlicesFault};
 
 // The SHA-256 of a text.
 fn hash_of(text: &[u8]) -> Id
