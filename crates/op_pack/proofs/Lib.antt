@@ -1,0 +1,10 @@
+pub mod RestLemmas
+pub mod TreeLemmas
+pub mod HeadLaws
+pub mod OpsLemmas
+pub mod TextLemmas
+pub mod PackLaws
+pub mod PartsLaws
+pub mod ExactLaws
+pub mod RuleLaws
+pub mod BackLaws

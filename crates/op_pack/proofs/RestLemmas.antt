@@ -1,0 +1,28 @@
+-- Entries by the fronts of their names, one entry more.
+use Rattle.std.proofs.Common.{◌≡◌, ℕ, ◌+◌, ◌<◌, Bool, true, false, cond, List, [], ◌∷◌, length, drop, get_or, Some, None, inl, inr, refl, sym, ◌∙◌, ap}
+use Rattle.std.proofs.lemmas.List.{drop_more}
+use Rattle.std.specs.List.{cons_option, find, AllByRecursion}
+use Rattle.git_object.specs.declared.entry.Entry.{Entry}
+use Rattle.gb_text.specs.Decimal.{decimal_of}
+use Rattle.op_pack.specs.Heads.{rest_after, rests_after, IsTold}
+
+-- what follows the front in the names from an entry on
+pub rests_drop : (front : List ℕ) (entries : List Entry) (i : ℕ) (e : Entry) → i < length entries → e ≡ get_or entries i e
+    → rests_after front (drop i entries) ≡ cons_option (rest_after front e) (rests_after front (drop (i + 1) entries))
+rests_drop front entries i e lt is =
+    ap (rests_after front) (drop_more entries i e lt)
+    ∙ ap (λ (x : Entry). cons_option (rest_after front x) (rests_after front (drop (i + 1) entries))) (sym is)
+
+-- what is told of further texts is told where a text that is no decimal stands before them
+pub told_more : (n : ℕ) (text : List ℕ) (texts : List (List ℕ)) → decimal_of text ≡ None → IsTold n texts → IsTold n (text ∷ texts)
+told_more n text texts none told = elim told [ inl some ↦ inl (inr some) | inr all ↦ inr (all.0, (none, all.1)) ]
+
+none_more : {X : Type 0} (p : X → Bool) (x : X) (xs : List X) (b : Bool) → p x ≡ b → cond b (Some x) (find p xs) ≡ None
+    → (find p xs ≡ None → AllByRecursion (λ x. p x ≡ false) xs) → AllByRecursion (λ x. p x ≡ false) (x ∷ xs)
+none_more p x xs true is e rest = absurd (cc)
+none_more p x xs false is e rest = (is, rest e)
+
+-- where none passes each fails
+pub find_none : {X : Type 0} (p : X → Bool) (xs : List X) → find p xs ≡ None → AllByRecursion (λ x. p x ≡ false) xs
+find_none p [] e = tt
+find_none p (x ∷ xs) e = none_more p x xs (p x) refl e (λ h. find_none p xs h)

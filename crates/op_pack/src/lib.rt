@@ -1,0 +1,19 @@
+//! The pack of a commit: what its tree says, and the text of its operations.
+#![tactic(auto)]
+
+mod fault;
+mod head;
+mod laws;
+mod pack;
+mod parts;
+
+pub use fault::PackFault;
+pub use head::{TreeHead, read_head, tree_for};
+pub use laws::{
+    head_or_fault, operations_keep_rules, pack_or_fault, packs_are_determined, packs_are_exact,
+    parts_are_exact, written_packs_read_back,
+};
+pub use pack::Pack;
+
+#[cfg(test)]
+mod tests;

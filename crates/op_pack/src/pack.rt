@@ -1,0 +1,161 @@
+//! Packs: the operations that one commit adds.
+ghost use Rattle.std.specs.Prelude.{◌≡◌, ◌≤◌, ◌++◌, length, IfOk, OnOk, Some, map};
+ghost use Rattle.std.specs.List.{AllByRecursion};
+ghost use Rattle.gb_text.specs.Digits.{IsId};
+ghost use Rattle.json_span.specs.Joined.{joined, behind_commas};
+ghost use Rattle.op_pack.specs.Answers.{AnswersUnlessMemory};
+ghost use Rattle.op_pack.specs.Packs.{hash_of, ops_at, SlicesFault};
+
+use crate::parts::read_parts;
+use crate::{PackFault, TreeHead};
+use gb_text::{Bytes, Id, List, Memory};
+use op_kind::{OpFault, OpKind, Place};
+use sha2::{Digest, Sha256};
+use std::alloc::Global;
+
+// The most operations that a pack may have.
+const MOST_OPERATIONS: usize = 4096;
+
+/// The operations that one commit adds, in order (git-bug's data model). `id` is the SHA-256 of the
+/// pack's text. The version and the clocks are those of the commit's tree.
+#[derive(Drop)]
+pub struct Pack<K> {
+    pub id: Id,
+    pub version: u64,
+    pub edit: u64,
+    pub create: Option<u64>,
+    pub author: Id,
+    pub ops: List<K>,
+}
+
+// The SHA-256 of a text.
+fn hash_of(text: &[u8]) -> Id
+    ensures { result ≡ hash_of text.now }
+{
+    Id::from_bytes(Sha256::digest(text))
+}
+
+// The operations that texts stand for, each at the place of its text.
+#[tactic(auto, using(crate::proofs::OpsLemmas::front_more, crate::proofs::OpsLemmas::no_front))]
+fn read_ops<K: OpKind>(
+    alloc: Global,
+    head: &TreeHead,
+    author: Id,
+    slices: &[&[u8]],
+) -> Result<List<K>, PackFault>
+    ensures { AnswersUnlessMemory
+        (ops_at K.meaning head.now author (map (λ s. s.now) slices.now))
+        (SlicesFault K.meaning (map (λ s. s.now) slices.now)) result }
+{
+    let mut ops = List::new(alloc);
+    for (i, slice) in slices.iter().enumerate() {
+        let place = Place {
+            id: hash_of(slice),
+            author,
+            edit: head.edit,
+            create: head.create,
+        };
+        match K::read_op(alloc, place, slice) {
+            Ok(op) => {
+                if ops.push(op).is_err() {
+                    return Err(PackFault::Memory);
+                }
+            }
+            Err(OpFault::Memory) => return Err(PackFault::Memory),
+            Err(fault) => return Err(PackFault::BadOperation(i as u64, fault)),
+        }
+    }
+    Ok(ops)
+}
+
+impl<K: OpKind> Pack<K> {
+    ghost use Rattle.op_pack.specs.Packs.{pack_at, TextFault, pack_text, MayStand, written_pack};
+    ghost use Rattle.op_pack.specs.declared.fault.PackFault.{PackFault as FaultValue};
+    ghost use Rattle.op_pack.specs.declared.head.TreeHead.{TreeHead as HeadValue};
+
+    /// The pack that a text stands for beside a tree with this head (git-bug's data model, format 4).
+    /// Ok exactly where the text is UTF-8 and a JSON object (RFC 8259) with one member `author`, an
+    /// object with one member `id`, which is a text of 64 lower-case hexadecimal digits; at most one
+    /// member `ops`, `null` or an array of at most 4,096 elements; and each element is an operation of
+    /// the kind. Names are compared as they read, and other members are ignored. The id of an operation
+    /// is the SHA-256 of its element as it stands, and the pack's id that of the whole text. Any other
+    /// text is refused by a fault that holds of it, where memory did not run out.
+    pub fn read(alloc: Global, head: &TreeHead, text: &[u8]) -> Result<Pack<K>, PackFault>
+        ensures answer { AnswersUnlessMemory (pack_at K.meaning head.now text.now)
+            (TextFault K.meaning text.now) result }
+        ensures sound { IfOk result (λ _. (fault : FaultValue) → TextFault K.meaning text.now fault → ⊥) }
+        ensures rules { IfOk result (λ pack. AllByRecursion K.meaning.KeepsRules pack.ops) }
+    {
+        Pack::parse(alloc, head, text)
+    }
+
+    #[tactic(auto, unfolding(crate::specs::Packs::pack_at, crate::specs::Packs::TextFault))]
+    fn parse(alloc: Global, head: &TreeHead, text: &[u8]) -> Result<Pack<K>, PackFault>
+        ensures { AnswersUnlessMemory (pack_at K.meaning head.now text.now)
+            (TextFault K.meaning text.now) result }
+    {
+        let Some(parts) = read_parts(alloc, text)? else {
+            return Err(PackFault::BadPack);
+        };
+        if parts.slices.len() > MOST_OPERATIONS {
+            return Err(PackFault::TooLarge(4097));
+        }
+        let ops = read_ops(alloc, head, parts.author, &parts.slices)?;
+        Ok(Pack {
+            id: hash_of(text),
+            version: head.version,
+            edit: head.edit,
+            create: head.create,
+            author: parts.author,
+            ops,
+        })
+    }
+
+    /// The pack's text: its author and its operations, without white space. The other fields do not
+    /// matter.
+    pub fn write(&self, alloc: Global) -> Result<Bytes, Memory>
+        ensures text { IfOk result (λ text. text ≡ pack_text K.meaning self.now.author self.now.ops) }
+        ensures reads_back { (head : HeadValue) → length self.now.ops ≤ 4096
+            → MayStand K.meaning head self.now.author self.now.ops
+            → IfOk result (λ text. pack_at K.meaning head text
+            ≡ Some (written_pack K.meaning head self.now.author self.now.ops)) }
+    {
+        self.print(alloc)
+    }
+
+    #[tactic(auto, unfolding(crate::specs::Packs::pack_text))]
+    fn print(&self, alloc: Global) -> Result<Bytes, Memory>
+        ensures text { IfOk result (λ text. text ≡ pack_text K.meaning self.now.author self.now.ops) }
+        ensures author { IfOk result (λ _. IsId self.now.author) }
+    {
+        let mut text = Vec::new(alloc);
+        text.extend_from_slice(b"{\"author\":{\"id\":\"")?;
+        text.extend_from_slice(&self.author.text())?;
+        text.extend_from_slice(b"\"},\"ops\":[")?;
+        append_ops(alloc, &mut text, self.ops.as_slice())?;
+        text.extend_from_slice(b"]}")?;
+        Ok(Bytes::from_vec(text))
+    }
+}
+
+// Puts operations behind a text, with commas between.
+fn append_ops<K: OpKind>(alloc: Global, text: &mut Vec<u8>, ops: &[K]) -> Result<(), Memory>
+    ensures { OnOk result (text.new.items ≡ text.old.items ++ joined (map K.meaning.written ops.now)) }
+{
+    let Some((first, rest)) = ops.split_first() else {
+        return Ok(());
+    };
+    text.extend_from_slice(first.write_op(alloc)?.as_slice())?;
+    append_rest(alloc, text, rest)
+}
+
+// Puts further operations behind a text, a comma before each.
+fn append_rest<K: OpKind>(alloc: Global, text: &mut Vec<u8>, ops: &[K]) -> Result<(), Memory>
+    ensures { OnOk result (text.new.items ≡ text.old.items ++ behind_commas (map K.meaning.written ops.now)) }
+{
+    for op in ops {
+        text.push(b',')?;
+        text.extend_from_slice(op.write_op(alloc)?.as_slice())?;
+    }
+    Ok(())
+}

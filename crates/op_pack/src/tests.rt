@@ -1,0 +1,271 @@
+//! What no clause says: worked trees and texts, and that calls succeed.
+use crate::{Pack, PackFault, TreeHead, read_head, tree_for};
+use gb_text::{Bytes, Id, List, Memory, Name};
+use git_object::{Entry, Mode, Tree};
+use op_kind::{AnyOp, OpFault, OpKind};
+use std::alloc::Global;
+use std::test::Fail;
+
+const OPS: Name = Name { bytes: [7; 20] };
+
+const HEAD: TreeHead = TreeHead {
+    version: 4,
+    edit: 7,
+    create: Some(3),
+    ops: OPS,
+};
+
+const AUTHOR: Id = Id { bytes: [1; 32] };
+
+/// The text before the operations of a pack of the author, and the text behind them.
+const FRONT: &[u8] =
+    b"{\"author\":{\"id\":\"0101010101010101010101010101010101010101010101010101010101010101\"},\"ops\":[";
+
+const BACK: &[u8] = b"]}";
+
+const OPERATION: &[u8] =
+    b"{ \"nonce\":\"AAAAAAAAAAAAAAAAAAAAAAAAAAA=\",\"timestamp\":0,\"title\":\"a\\u003cb\",\"type\":1}";
+
+/// A tree of plain files with these names.
+fn files(alloc: Global, names: &[&str]) -> Result<Tree, Memory> {
+    let mut entries = Vec::new(alloc);
+    for name in names {
+        let name = Bytes::from_slice(alloc, name.as_bytes())?;
+        entries.push(Entry {
+            mode: Mode::Plain,
+            name,
+            object: OPS,
+        })?;
+    }
+    Ok(Tree {
+        entries: List::from_vec(entries),
+    })
+}
+
+#[test]
+fn trees_that_are_made_read_back(rt: HostRuntime) -> Result<(), Fail> {
+    let alloc = rt.alloc();
+    let tree = tree_for(alloc, 2, None, &OPS)?;
+    let head = TreeHead {
+        version: 4,
+        edit: 2,
+        create: None,
+        ops: OPS,
+    };
+    assert_eq!(rt; read_head(&tree), Ok(head));
+    let empty = tree.entries.as_slice()[1].object;
+    assert_eq!(rt;
+        empty.text().as_slice(),
+        b"e69de29bb2d1d6434b8b29ae775ad8c2e48c5391".as_slice()
+    );
+    let tree = tree_for(alloc, 9223372036854775807, Some(1), &OPS)?;
+    let head = TreeHead {
+        edit: 9223372036854775807,
+        create: Some(1),
+        ..head
+    };
+    assert_eq!(rt; read_head(&tree), Ok(head));
+    assert!(rt; tree.has_good_names(alloc)?);
+    Ok(())
+}
+
+#[test]
+fn each_fault_of_a_tree_is_named(rt: HostRuntime) -> Result<(), Fail> {
+    let alloc = rt.alloc();
+    let rows: [(&[&str], PackFault); 12] = [
+        (
+            &["ops", "version-5", "edit-clock-1"],
+            PackFault::UnknownVersion(5),
+        ),
+        (
+            &["ops", "version-", "edit-clock-1"],
+            PackFault::UnknownVersion(0),
+        ),
+        (
+            &["ops", "version-04", "edit-clock-1"],
+            PackFault::UnknownVersion(0),
+        ),
+        (
+            &["ops", "version-x", "version-4", "edit-clock-1"],
+            PackFault::UnknownVersion(4),
+        ),
+        (&["version-4", "edit-clock-1"], PackFault::NoOps),
+        (&["ops", "version-4"], PackFault::BadClock),
+        (&["ops", "version-4", "edit-clock-0"], PackFault::BadClock),
+        (&["ops", "version-4", "edit-clock-01"], PackFault::BadClock),
+        (&["ops", "version-4", "edit-clock-"], PackFault::BadClock),
+        (
+            &["ops", "version-4", "edit-clock-9223372036854775808"],
+            PackFault::BadClock,
+        ),
+        (
+            &["ops", "version-4", "edit-clock-1", "edit-clock-2"],
+            PackFault::BadClock,
+        ),
+        (
+            &[
+                "ops",
+                "version-4",
+                "edit-clock-1",
+                "create-clock-1",
+                "create-clock-2",
+            ],
+            PackFault::BadClock,
+        ),
+    ];
+    for (names, fault) in rows {
+        assert_eq!(rt; read_head(&files(alloc, names)?), Err(fault));
+    }
+    assert!(rt; read_head(&files(alloc, &[])?).is_err());
+    Ok(())
+}
+
+#[test]
+fn the_operations_stand_in_a_file(rt: HostRuntime) -> Result<(), Fail> {
+    let alloc = rt.alloc();
+    let modes = [Mode::Exec, Mode::Link, Mode::Folder, Mode::Module];
+    for mode in modes {
+        let tree = files(alloc, &["version-4", "edit-clock-1", "x"])?;
+        let mut entries = tree.entries.into_vec();
+        entries.push(Entry {
+            mode,
+            name: Bytes::from_slice(alloc, b"ops")?,
+            object: OPS,
+        })?;
+        let tree = Tree {
+            entries: List::from_vec(entries),
+        };
+        assert_eq!(rt; read_head(&tree).is_ok(), mode == Mode::Exec);
+    }
+    Ok(())
+}
+
+/// The texts one after the other.
+fn joined(alloc: Global, texts: &[&[u8]]) -> Result<Vec<u8>, Memory> {
+    let mut all = Vec::new(alloc);
+    for text in texts {
+        all.extend_from_slice(text)?;
+    }
+    Ok(all)
+}
+
+fn read(alloc: Global, text: &[u8]) -> Result<Pack<AnyOp>, PackFault> {
+    Pack::read(alloc, &HEAD, text)
+}
+
+/// Writes a pack and reads it again.
+fn carry<K: OpKind>(alloc: Global, pack: &Pack<K>) -> Result<Pack<K>, PackFault> {
+    let text = pack.write(alloc)?;
+    Pack::read(alloc, &HEAD, text.as_slice())
+}
+
+#[test]
+fn a_pack_without_operations_is_written_and_read(rt: HostRuntime) -> Result<(), Fail> {
+    let alloc = rt.alloc();
+    let pack: Pack<AnyOp> = Pack {
+        id: AUTHOR,
+        version: 4,
+        edit: 7,
+        create: None,
+        author: AUTHOR,
+        ops: List::new(alloc),
+    };
+    let wanted = joined(alloc, &[FRONT, BACK])?;
+    assert_eq!(rt; pack.write(alloc)?.as_slice(), wanted.as_slice());
+    let again = carry(alloc, &pack)?;
+    assert_eq!(rt; (again.author, again.ops.len()), (AUTHOR, 0));
+    assert_eq!(rt; (again.version, again.edit, again.create), (4, 7, Some(3)));
+    Ok(())
+}
+
+#[test]
+fn unknown_members_and_white_space_are_accepted(rt: HostRuntime) -> Result<(), Fail> {
+    let alloc = rt.alloc();
+    let text =
+        b"{ \"ops\" : null , \"x\":[1.5,{\"y\":null}], \"author\":{\"name\":\"n\",\"id\":\"0101010101010101010101010101010101010101010101010101010101010101\"} }";
+    let pack = read(alloc, text)?;
+    assert_eq!(rt; (pack.author, pack.ops.len()), (AUTHOR, 0));
+    assert_eq!(rt;
+        pack.id.text().as_slice(),
+        b"d7807d2f68bf4e484bbb556f83546789f1710953e4f097a3f053a1d034e354fb".as_slice()
+    );
+    Ok(())
+}
+
+#[test]
+fn an_operation_is_named_by_its_text_as_it_stands(rt: HostRuntime) -> Result<(), Fail> {
+    let alloc = rt.alloc();
+    let text = joined(alloc, &[FRONT, b" ", OPERATION, b"\n", BACK])?;
+    let pack = read(alloc, &text)?;
+    assert_eq!(rt; pack.ops.len(), 1);
+    let op = pack.ops.as_slice().first().ok_or("an operation")?;
+    let place = op.common().place;
+    assert_eq!(rt;
+        place.id.text().as_slice(),
+        b"ab9a0be2162978b694c642ad66c46cc56bca4342943eefe0fa10a08ba54db890".as_slice()
+    );
+    assert_eq!(rt;
+        (place.author, place.edit, place.create),
+        (AUTHOR, 7, Some(3))
+    );
+    let again = carry(alloc, &pack)?;
+    let op = again.ops.as_slice().first().ok_or("an operation")?;
+    assert_eq!(rt; op.common().place, place);
+    Ok(())
+}
+
+#[test]
+fn a_bad_operation_is_told_by_its_index(rt: HostRuntime) -> Result<(), Fail> {
+    let alloc = rt.alloc();
+    let text = joined(alloc, &[FRONT, OPERATION, b",[]", BACK])?;
+    assert!(rt;
+        matches!(
+            read(alloc, &text),
+            Err(PackFault::BadOperation(1, OpFault::NotObject))
+        )
+    );
+    Ok(())
+}
+
+#[test]
+fn other_texts_are_no_packs(rt: HostRuntime) -> Result<(), Fail> {
+    let alloc = rt.alloc();
+    let author: &[u8] =
+        b"\"author\":{\"id\":\"0101010101010101010101010101010101010101010101010101010101010101\"}";
+    let refused: [&[&[u8]]; 10] = [
+        &[b"[]"],
+        &[b"{}"],
+        &[b"{\"author\":null}"],
+        &[b"{\"author\":{}}"],
+        &[b"{\"author\":{\"id\":\"01\"}}"],
+        &[b"{", author, b",", author, b"}"],
+        &[b"{", author, b",\"ops\":null,\"\\u006fps\":[]}"],
+        &[
+            b"{\"author\":{\"id\":\"0101010101010101010101010101010101010101010101010101010101010101\",\"id\":\"0101010101010101010101010101010101010101010101010101010101010101\"}}",
+        ],
+        &[b"{", author, b",\"ops\":{}}"],
+        &[b"{", author, b",\"x\":\"\xff\"}"],
+    ];
+    for texts in refused {
+        let text = joined(alloc, texts)?;
+        assert!(rt; matches!(read(alloc, &text), Err(PackFault::BadPack)));
+    }
+    let text = joined(alloc, &[b"{", author, b"}"])?;
+    assert_eq!(rt; read(alloc, &text)?.ops.len(), 0);
+    Ok(())
+}
+
+#[test]
+fn a_pack_has_at_most_4096_operations(rt: HostRuntime) -> Result<(), Fail> {
+    let alloc = rt.alloc();
+    let mut text = joined(alloc, &[FRONT, OPERATION])?;
+    for _ in 1..4096 {
+        text.push(b',')?;
+        text.extend_from_slice(OPERATION)?;
+    }
+    let most = joined(alloc, &[&text, BACK])?;
+    assert_eq!(rt; read(alloc, &most)?.ops.len(), 4096);
+    let more = joined(alloc, &[&text, b",", OPERATION, BACK])?;
+    assert!(rt; matches!(read(alloc, &more), Err(PackFault::TooLarge(4097))));
+    Ok(())
+}
