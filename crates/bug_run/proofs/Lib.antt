@@ -1,5 +1,5 @@
 pub mod AnswerLemmas
-pub mod ClockLemmas
 pub mod FreeLemmas
 pub mod LogLemmas
+pub mod PackLemmas
 pub mod StepLemmas

@@ -1,5 +1,5 @@
 -- What a commit of the walk without a good clock says of the whole walk.
-use Rattle.std.proofs.Common.{◌≡◌, inr, ℕ, ◌+◌, ◌<◌, ◌≤◌, zero, suc, List, [], ◌∷◌, ◌++◌, length, take, get_or, Some, option_and_then, Err, refl, sym, ◌∙◌, ap, subst, arith}
+use Rattle.std.proofs.Common.{◌≡◌, ◌⊎◌, inl, inr, ℕ, ◌+◌, ◌<◌, ◌≤◌, zero, suc, List, [], ◌∷◌, ◌++◌, length, take, get_or, Some, option_and_then, Err, refl, sym, ◌∙◌, ap, subst, arith}
 use Rattle.std.proofs.lemmas.List.{get_or_default, take_more}
 use Rattle.gb_text.specs.declared.id.Name.{Name}
 use Rattle.git_object.specs.declared.commit.Commit.{Commit}
@@ -8,10 +8,10 @@ use Rattle.commit_chain.specs.Objects.{commit_at, tree_at}
 use Rattle.commit_chain.specs.Chain.{IsCommit, Walked, Meets, MeetsCommit}
 use Rattle.commit_chain.specs.declared.chain.Met.{Met}
 use Rattle.commit_chain.proofs.PassLemmas.{Linked, Linked-walked, Linked-above, linked_at, meets_first, no_merge-walked}
-use Rattle.bug_run.specs.Clocks.{edit_clock_of}
+use Rattle.op_pack.specs.Heads.{edit_clock_of}
 use Rattle.bug_run.specs.Walk.{Needs, FaultHolds, clock_at}
-use Rattle.bug_run.specs.Log.{Clocked}
-use Rattle.bug_run.specs.Answers.{HasNoClock, SomeHasNoClock, ClockAnswers, ClocksAnswers, RisingAnswers, Falls, WalkRefused}
+use Rattle.bug_run.specs.Log.{Clocked, HasPack}
+use Rattle.bug_run.specs.Answers.{CannotRead, HasNoOps, HasNoPack, IsNoTree, SomeHasNoPack, ClockAnswers, ClocksAnswers, RisingAnswers, Falls, WalkRefused}
 use Rattle.bug_run.specs.declared.log.Step.{Step}
 use Rattle.bug_run.specs.declared.fault.WalkFault.{WalkFault}
 use Rattle.bug_run.specs.declared.fault.WalkFault.TheVariants as fault
@@ -21,41 +21,49 @@ use Rattle.bug_run.proofs.StepLemmas.{FaultHolds-read}
 
 -- one commit and its step more
 pub Clocked-push : (objects : Objects) (mets : List Met) (steps : List Step) (met : Met) (step : Step) → Clocked objects mets steps
-    → step.name ≡ met.name → option_and_then edit_clock_of (tree_at objects met.tree) ≡ Some step.clock → Clocked objects (mets ++ met ∷ []) (steps ++ step ∷ [])
-Clocked-push objects [] [] met step clocked named clock = (named, clock, tt)
-Clocked-push objects [] (s ∷ ss) met step clocked named clock = absurd clocked
-Clocked-push objects (m ∷ ms) [] met step clocked named clock = absurd clocked
-Clocked-push objects (m ∷ ms) (s ∷ ss) met step clocked named clock = (clocked.0, clocked.1, Clocked-push objects ms ss met step clocked.2 named clock)
+    → step.name ≡ met.name → HasPack objects met → option_and_then edit_clock_of (tree_at objects met.tree) ≡ Some step.clock → Clocked objects (mets ++ met ∷ []) (steps ++ step ∷ [])
+Clocked-push objects [] [] met step clocked named pack clock = (named, pack, clock, tt)
+Clocked-push objects [] (s ∷ ss) met step clocked named pack clock = absurd clocked
+Clocked-push objects (m ∷ ms) [] met step clocked named pack clock = absurd clocked
+Clocked-push objects (m ∷ ms) (s ∷ ss) met step clocked named pack clock = (clocked.0, clocked.1, clocked.2, Clocked-push objects ms ss met step clocked.3 named pack clock)
 
--- a commit that the walk met and that has no edit clock is a fault of the walk
-FaultHolds-clock : (objects : Objects) (head : Name) (met : Met) (parents : List Name) (f : WalkFault) → Meets objects head met.name → IsCommit objects met parents
-    → HasNoClock objects met f → FaultHolds objects head f
-FaultHolds-clock objects head met parents f meets is h = each f h
+-- a commit that the walk met and that has no pack is a fault of the walk
+FaultHolds-pack : (objects : Objects) (head : Name) (met : Met) (parents : List Name) (f : WalkFault) → Meets objects head met.name → IsCommit objects met parents
+    → HasNoPack objects met f → FaultHolds objects head f
+FaultHolds-pack objects head met parents f meets is h = each f h
   where
     met_commit : MeetsCommit objects head met.name is.commit
     met_commit = record { meets = meets; held = is.held }
 
     needs : Needs objects head met.tree
-    needs = inr (met.name, is.commit, met_commit, sym is.tree)
+    needs = inr (inl (record { of = met.name; commit = is.commit; meets = met_commit; is = sym is.tree }))
 
-    each : (f : WalkFault) → HasNoClock objects met f → FaultHolds objects head f
-    each (fault.Missing n) h = FaultHolds-read objects head met.tree (fault.Missing n) needs h
-    each (fault.Damaged n) h = FaultHolds-read objects head met.tree (fault.Damaged n) needs h
-    each (fault.Large n) h = FaultHolds-read objects head met.tree (fault.Large n) needs h
-    each (fault.NotCommit n) h = absurd h
-    each (fault.BadTree n) h = rw h.0 (is.commit, met_commit, h.1, ap (object_at objects) (sym is.tree) ∙ h.2, h.3)
-    each (fault.BadClock n) h = rw h.0 (is.commit, met_commit, h.1, ap (tree_at objects) (sym is.tree) ∙ h.2, h.3)
-    each (fault.ClockOrder n p) h = absurd h
-    each fault.TooLong h = absurd h
+    needs_ops : (f : WalkFault) → (unread : HasNoOps objects met f) → Needs objects head unread.ops
+    needs_ops f unread = inr (inr (record { of = met.name; commit = is.commit; meets = met_commit; tree = unread.tree; held = ap (tree_at objects) (sym is.tree) ∙ unread.held; named = unread.named }))
+
+    either : (f : WalkFault) → IsNoTree objects met f ⊎ HasNoOps objects met f → (IsNoTree objects met f → CannotRead objects met.tree f) → FaultHolds objects head f
+    either f (inl tree) there = FaultHolds-read objects head met.tree f needs (there tree)
+    either f (inr ops) there = FaultHolds-read objects head ops.ops f (needs_ops f ops) ops.fails
+
+    each : (f : WalkFault) → HasNoPack objects met f → FaultHolds objects head f
+    each (fault.Missing n) h = either (fault.Missing n) h (λ x. x)
+    each (fault.Damaged n) h = either (fault.Damaged n) h (λ x. x)
+    each (fault.Large n) h = either (fault.Large n) h (λ x. x)
+    each (fault.NotCommit n) h = either (fault.NotCommit n) h (λ x. x)
+    each (fault.BadTree n) (inl h) = rw h.0 (is.commit, met_commit, h.1, ap (object_at objects) (sym is.tree) ∙ h.2, h.3)
+    each (fault.BadTree n) (inr ops) = absurd ops.fails
+    each (fault.BadPack n f) h = rw h.0 (is.commit, met_commit, h.1, ap (tree_at objects) (sym is.tree) ∙ h.2, h.3)
+    each (fault.ClockOrder n p) h = either (fault.ClockOrder n p) h (λ x. x)
+    each fault.TooLong h = either fault.TooLong h (λ x. x)
 
 -- so is one among the commits of a whole walk
 pub WalkRefused-clock : (objects : Objects) (head : Name) (walk : List Met) (f : WalkFault) → Walked objects head walk → length walk ≤ 65536
-    → SomeHasNoClock objects walk f → WalkRefused objects head (stop.Fault f)
+    → SomeHasNoPack objects walk f → WalkRefused objects head (stop.Fault f)
 WalkRefused-clock objects head walk f walked near h =
     let met = h.0 in
     let at = linked_at objects head walk h.1.0 met (Linked-walked objects head walk walked) near h.1.1 in
     let here = subst (λ (m : Met). Meets objects head m.name × ((parents : List Name) × IsCommit objects m parents)) h.1.2 at in
-    (no_merge-walked objects head walk walked, FaultHolds-clock objects head met here.1.0 f here.0 here.1.1 h.2)
+    (no_merge-walked objects head walk walked, FaultHolds-pack objects head met here.1.0 f here.0 here.1.1 h.2)
 
 -- the edit clock of a commit that is held
 pub clock_at-held : (objects : Objects) (met : Met) (parents : List Name) (clock : ℕ) → IsCommit objects met parents
@@ -71,20 +79,20 @@ falls_at : (objects : Objects) (head : Name) (walk : List Met) (steps : List Ste
 falls_at objects head [] steps k j d linked near clocked next lt le = absurd linked
 falls_at objects head (m ∷ ms) [] k j d linked near clocked next lt le = absurd (omega (arith, lt))
 falls_at objects head (m ∷ []) (s ∷ []) k j d linked near clocked next lt le = absurd (omega (arith, next, lt))
-falls_at objects head (m ∷ []) (s ∷ t ∷ ss) k j d linked near clocked next lt le = absurd clocked.2
-falls_at objects head (m ∷ n ∷ ms) (s ∷ []) k j d linked near clocked next lt le = absurd clocked.2
+falls_at objects head (m ∷ []) (s ∷ t ∷ ss) k j d linked near clocked next lt le = absurd clocked.3
+falls_at objects head (m ∷ n ∷ ms) (s ∷ []) k j d linked near clocked next lt le = absurd clocked.3
 falls_at objects head (m ∷ n ∷ ms) (s ∷ t ∷ ss) zero j d linked near clocked next lt le =
     let is = linked.0.1 in
-    let low = clock_at-held objects m linked.1.0 s.clock linked.1.1 clocked.1 in
-    let high = clock_at-held objects n (m.name ∷ []) t.clock is clocked.2.1 in
+    let low = clock_at-held objects m linked.1.0 s.clock linked.1.1 clocked.2 in
+    let high = clock_at-held objects n (m.name ∷ []) t.clock is clocked.3.2 in
     let one : j ≡ 1 = omega (arith, next) in
     let fall : t.clock ≤ s.clock = rw one at le in
     let meets : Meets objects head n.name = meets_first objects head n ms (Linked-above objects head m n ms linked) (omega (arith, near)) in
     let holds : FaultHolds objects head (fault.ClockOrder n.name m.name) = (is.commit, record { meets = meets; held = is.held }, is.has, t.clock, s.clock, high, low, fall) in
-    rw (one, clocked.2.0, clocked.0) holds
+    rw (one, clocked.3.0, clocked.0) holds
 falls_at objects head (m ∷ n ∷ ms) (s ∷ t ∷ ss) (suc k) zero d linked near clocked next lt le = absurd (omega (arith, next))
 falls_at objects head (m ∷ n ∷ ms) (s ∷ t ∷ ss) (suc k) (suc j) d linked near clocked next lt le =
-    falls_at objects head (n ∷ ms) (t ∷ ss) k j d (Linked-above objects head m n ms linked) (omega (arith, near)) clocked.2 (omega (arith, next)) (omega (arith, lt)) le
+    falls_at objects head (n ∷ ms) (t ∷ ss) k j d (Linked-above objects head m n ms linked) (omega (arith, near)) clocked.3 (omega (arith, next)) (omega (arith, lt)) le
 
 -- so is one among the commits of a whole walk
 pub WalkRefused-falls : (objects : Objects) (head : Name) (walk : List Met) (steps : List Step) (f : WalkFault) → Walked objects head walk → length walk ≤ 65536
@@ -103,12 +111,12 @@ ClocksAnswers-at objects walk k d (stop.Fault f) lt h = (get_or walk k d, (k, lt
 
 -- the clock of the next of these commits
 pub Clocked-more : (objects : Objects) (walk : List Met) (steps : List Step) (k clock : ℕ) (d : Met) → k < length walk → Clocked objects (take k walk) steps
-    → option_and_then edit_clock_of (tree_at objects (get_or walk k d).tree) ≡ Some clock
+    → HasPack objects (get_or walk k d) → option_and_then edit_clock_of (tree_at objects (get_or walk k d).tree) ≡ Some clock
     → Clocked objects (take (k + 1) walk) (steps ++ record { name = (get_or walk k d).name; clock = clock } ∷ [])
-Clocked-more objects walk steps k clock d lt clocked e =
+Clocked-more objects walk steps k clock d lt clocked pack e =
     let step : Step = record { name = (get_or walk k d).name; clock = clock } in
     subst (λ (ms : List Met). Clocked objects ms (steps ++ step ∷ [])) (sym (take_more walk k d lt))
-    (Clocked-push objects (take k walk) steps (get_or walk k d) step clocked refl e)
+    (Clocked-push objects (take k walk) steps (get_or walk k d) step clocked refl pack e)
 
 -- what keeps the clocks of a whole walk from being read is why there is no log
 pub WalkRefused-clocks : (objects : Objects) (head : Name) (walk : List Met) (s : WalkStop) → Walked objects head walk → length walk ≤ 65536

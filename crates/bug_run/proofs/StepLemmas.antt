@@ -22,7 +22,7 @@ CannotRead-none objects name (fault.Damaged n) h = h.1.is_none
 CannotRead-none objects name (fault.Large n) h = object_at-large objects name h.1
 CannotRead-none objects name (fault.NotCommit n) h = absurd h
 CannotRead-none objects name (fault.BadTree n) h = absurd h
-CannotRead-none objects name (fault.BadClock n) h = absurd h
+CannotRead-none objects name (fault.BadPack n g) h = absurd h
 CannotRead-none objects name (fault.ClockOrder n p) h = absurd h
 CannotRead-none objects name fault.TooLong h = absurd h
 
@@ -33,7 +33,7 @@ FaultHolds-read objects head name (fault.Damaged n) needs h = rw h.0 (needs, h.1
 FaultHolds-read objects head name (fault.Large n) needs h = rw h.0 (needs, h.1)
 FaultHolds-read objects head name (fault.NotCommit n) needs h = absurd h
 FaultHolds-read objects head name (fault.BadTree n) needs h = absurd h
-FaultHolds-read objects head name (fault.BadClock n) needs h = absurd h
+FaultHolds-read objects head name (fault.BadPack n g) needs h = absurd h
 FaultHolds-read objects head name (fault.ClockOrder n p) needs h = absurd h
 FaultHolds-read objects head name fault.TooLong needs h = absurd h
 

@@ -1,5 +1,5 @@
 -- The answers to the parts of the walk, each with what is so of the objects.
-use Rattle.std.specs.Prelude.{◌≡◌, ◌<◌, ◌≤◌, ◌+◌, ⊤, ℕ, Contains, slice_index_or, List, [], ◌∷◌, length, Vec, Option, Some, None, Result, Ok, Err, option_and_then}
+use Rattle.std.specs.Prelude.{◌≡◌, ◌⊎◌, IsSome, ◌<◌, ◌≤◌, ◌+◌, ⊤, ℕ, Contains, slice_index_or, List, [], ◌∷◌, length, Vec, Option, Some, None, Result, Ok, Err, option_and_then}
 use Rattle.std.specs.declared.alloc.Global.{Global}
 use Rattle.gb_text.specs.declared.id.Name.{Name}
 use Rattle.git_object.specs.declared.tree.Tree.{Tree}
@@ -8,8 +8,13 @@ use Rattle.object_store.specs.Held.{Objects, object_at, IsDamaged, IsLarge}
 use Rattle.commit_chain.specs.Objects.{as_tree, tree_at}
 use Rattle.commit_chain.specs.Chain.{MeetsMerge}
 use Rattle.commit_chain.specs.declared.chain.Met.{Met}
-use Rattle.bug_run.specs.Clocks.{edit_clock_of}
-use Rattle.bug_run.specs.Log.{Clocked, Rises, IsLog}
+use Rattle.op_kind.specs.AnyKind.{any_kind}
+use Rattle.op_pack.specs.Heads.{HeadFault, edit_clock_of, head_of, ops_of}
+use Rattle.op_pack.specs.Packs.{TextFault, pack_at}
+use Rattle.op_pack.specs.declared.fault.PackFault.TheVariants as pack_fault
+use Rattle.op_pack.specs.declared.head.TreeHead.{TreeHead}
+use Rattle.bug_run.specs.Packs.{PackFails, as_blob, blob_at}
+use Rattle.bug_run.specs.Log.{Clocked, HasPack, Rises, IsLog}
 use Rattle.bug_run.specs.Walk.{FaultHolds}
 use Rattle.bug_run.specs.declared.log.Step.{Step}
 use Rattle.bug_run.specs.declared.fault.WalkFault.{WalkFault}
@@ -43,28 +48,72 @@ TreeAnswers objects met (Err stop.Disk) = ⊤
 TreeAnswers objects met (Err (stop.Merge n)) = ⊥
 TreeAnswers objects met (Err (stop.Fault f)) = IsNoTree objects met f
 
--- a fault that keeps a commit from having an edit clock
-abbrev pub HasNoClock : Objects → Met → WalkFault → Type 0
-HasNoClock objects met (fault.BadClock n) = (n ≡ met.name) × (tree : Tree) × (tree_at objects met.tree ≡ Some tree) × (edit_clock_of tree ≡ None)
-HasNoClock objects met f = IsNoTree objects met f
+-- a fault that keeps a tree from saying a pack
+abbrev pub HasNoHead : Tree → Met → WalkFault → Type 0
+HasNoHead tree met (fault.BadPack n f) = (n ≡ met.name) × HeadFault tree f
+HasNoHead tree met f = ⊥
+
+abbrev pub HeadAnswers : Tree → Met → Result TreeHead WalkStop → Type 0
+HeadAnswers tree met (Ok head) = head_of tree ≡ Some head
+HeadAnswers tree met (Err stop.Memory) = ⊥
+HeadAnswers tree met (Err stop.Disk) = ⊥
+HeadAnswers tree met (Err (stop.Merge n)) = ⊥
+HeadAnswers tree met (Err (stop.Fault f)) = HasNoHead tree met f
+
+-- a fault that keeps what a tree names as its pack's text from being a blob
+abbrev pub IsNoText : Objects → Met → Name → WalkFault → Type 0
+IsNoText objects met ops (fault.BadPack n f) = (n ≡ met.name) × (f ≡ pack_fault.NoOps) × (object : Object) × (object_at objects ops ≡ Some object) × (as_blob object ≡ None)
+IsNoText objects met ops f = CannotRead objects ops f
+
+abbrev pub TextAnswers : Objects → Met → Name → Result (List ℕ) WalkStop → Type 0
+TextAnswers objects met ops (Ok text) = blob_at objects ops ≡ Some text
+TextAnswers objects met ops (Err stop.Memory) = ⊤
+TextAnswers objects met ops (Err stop.Disk) = ⊤
+TextAnswers objects met ops (Err (stop.Merge n)) = ⊥
+TextAnswers objects met ops (Err (stop.Fault f)) = IsNoText objects met ops f
+
+-- a fault that keeps a text from being that of a pack
+abbrev pub IsNoPack : List ℕ → Met → WalkFault → Type 0
+IsNoPack text met (fault.BadPack n f) = (n ≡ met.name) × TextFault any_kind text f
+IsNoPack text met f = ⊥
+
+abbrev pub PackAnswers : TreeHead → List ℕ → Met → Result Unit WalkStop → Type 0
+PackAnswers head text met (Ok _) = IsSome (pack_at any_kind head text)
+PackAnswers head text met (Err stop.Memory) = ⊤
+PackAnswers head text met (Err stop.Disk) = ⊥
+PackAnswers head text met (Err (stop.Merge n)) = ⊥
+PackAnswers head text met (Err (stop.Fault f)) = IsNoPack text met f
+
+-- what the tree of a commit names as its pack's text cannot be read
+pub record HasNoOps (objects : Objects) (met : Met) (f : WalkFault) : Type 0 where
+  pub tree : Tree
+  pub held : tree_at objects met.tree ≡ Some tree
+  pub ops : Name
+  pub named : ops_of tree ≡ Some ops
+  pub fails : CannotRead objects ops f
+
+-- a fault that keeps a commit from having a pack
+abbrev pub HasNoPack : Objects → Met → WalkFault → Type 0
+HasNoPack objects met (fault.BadPack n f) = (n ≡ met.name) × (tree : Tree) × (tree_at objects met.tree ≡ Some tree) × PackFails objects tree f
+HasNoPack objects met f = IsNoTree objects met f ⊎ HasNoOps objects met f
 
 abbrev pub ClockAnswers : Objects → Met → Result ℕ WalkStop → Type 0
-ClockAnswers objects met (Ok clock) = option_and_then edit_clock_of (tree_at objects met.tree) ≡ Some clock
+ClockAnswers objects met (Ok clock) = HasPack objects met × (option_and_then edit_clock_of (tree_at objects met.tree) ≡ Some clock)
 ClockAnswers objects met (Err stop.Memory) = ⊤
 ClockAnswers objects met (Err stop.Disk) = ⊤
 ClockAnswers objects met (Err (stop.Merge n)) = ⊥
-ClockAnswers objects met (Err (stop.Fault f)) = HasNoClock objects met f
+ClockAnswers objects met (Err (stop.Fault f)) = HasNoPack objects met f
 
--- a commit among these has no edit clock
-abbrev pub SomeHasNoClock : Objects → List Met → WalkFault → Type 0
-SomeHasNoClock objects walk f = (met : Met) × Contains walk met × HasNoClock objects met f
+-- a commit among these has no pack
+abbrev pub SomeHasNoPack : Objects → List Met → WalkFault → Type 0
+SomeHasNoPack objects walk f = (met : Met) × Contains walk met × HasNoPack objects met f
 
 abbrev pub ClocksAnswers : Objects → List Met → Result (Vec Step Global) WalkStop → Type 0
 ClocksAnswers objects walk (Ok steps) = Clocked objects walk steps.items
 ClocksAnswers objects walk (Err stop.Memory) = ⊤
 ClocksAnswers objects walk (Err stop.Disk) = ⊤
 ClocksAnswers objects walk (Err (stop.Merge n)) = ⊥
-ClocksAnswers objects walk (Err (stop.Fault f)) = SomeHasNoClock objects walk f
+ClocksAnswers objects walk (Err (stop.Fault f)) = SomeHasNoPack objects walk f
 
 -- a commit whose clock is not above that of the one before it
 abbrev pub Falls : List Step → WalkFault → Type 0

@@ -1,6 +1,6 @@
 pub mod Answers
-pub mod Clocks
 pub mod Log
+pub mod Packs
 pub mod Refusals
 pub mod Run
 pub mod Stops

@@ -11,7 +11,8 @@ use Rattle.ref_store.specs.Refs.{Head, Absent, Bad, ref_at}
 use Rattle.commit_chain.specs.Objects.{tree_at}
 use Rattle.commit_chain.specs.Chain.{Walked, MeetsMerge}
 use Rattle.commit_chain.specs.declared.chain.Met.{Met}
-use Rattle.bug_run.specs.Clocks.{edit_clock_of}
+use Rattle.op_pack.specs.Heads.{edit_clock_of}
+use Rattle.bug_run.specs.Packs.{pack_under}
 use Rattle.bug_run.specs.Walk.{FaultHolds}
 use Rattle.bug_run.specs.declared.log.Step.{Step}
 use Rattle.bug_run.specs.declared.fault.WalkFault.{WalkFault}
@@ -19,13 +20,17 @@ use Rattle.bug_run.specs.declared.status.Refusal.TheVariants as refusal
 use Rattle.bug_run.specs.declared.status.Stop.{Stop}
 use Rattle.bug_run.specs.declared.status.Stop.TheVariants as stop
 
--- the steps are these commits, each with the edit clock of its tree
+-- a commit that the walk met has a pack: its tree says one, and the blob that the tree names is its text
+abbrev pub HasPack : Objects → Met → Type 0
+HasPack objects met = IsSome (pack_under objects met.tree)
+
+-- the steps are these commits, each with a pack, and with the edit clock of its tree
 abbrev pub Clocked : Objects → List Met → List Step → Type 0
 Clocked objects [] [] = ⊤
 Clocked objects [] (step ∷ steps) = ⊥
 Clocked objects (met ∷ mets) [] = ⊥
 Clocked objects (met ∷ mets) (step ∷ steps) =
-    (step.name ≡ met.name) × (option_and_then edit_clock_of (tree_at objects met.tree) ≡ Some step.clock) × Clocked objects mets steps
+    (step.name ≡ met.name) × HasPack objects met × (option_and_then edit_clock_of (tree_at objects met.tree) ≡ Some step.clock) × Clocked objects mets steps
 
 -- each clock is below the next
 abbrev pub Rises : List Step → Type 0

@@ -7,13 +7,30 @@ use Rattle.git_object.specs.declared.object.Object.{Object}
 use Rattle.object_store.specs.Held.{Objects, object_at, IsDamaged, IsLarge}
 use Rattle.commit_chain.specs.Objects.{as_commit, as_tree, commit_at, tree_at}
 use Rattle.commit_chain.specs.Chain.{Meets, MeetsCommit, IsTooLong}
-use Rattle.bug_run.specs.Clocks.{edit_clock_of}
+use Rattle.op_pack.specs.Heads.{edit_clock_of, ops_of}
+use Rattle.bug_run.specs.Packs.{PackFails}
 use Rattle.bug_run.specs.declared.fault.WalkFault.{WalkFault}
 use Rattle.bug_run.specs.declared.fault.WalkFault.TheVariants as fault
 
--- the walk needs the object of a name: it meets the name, or a commit whose tree has it
+-- a name is the tree of a commit that the walk meets
+pub record NeedsTree (objects : Objects) (head name : Name) : Type 0 where
+  pub of : Name
+  pub commit : Commit
+  pub meets : MeetsCommit objects head of commit
+  pub is : commit.tree ≡ name
+
+-- a name stands at the file `ops` of the tree of a commit that the walk meets
+pub record NeedsOps (objects : Objects) (head name : Name) : Type 0 where
+  pub of : Name
+  pub commit : Commit
+  pub meets : MeetsCommit objects head of commit
+  pub tree : Tree
+  pub held : tree_at objects commit.tree ≡ Some tree
+  pub named : ops_of tree ≡ Some name
+
+-- the log needs the object of a name: a commit that the walk meets, its tree, or what the tree's file `ops` names
 abbrev pub Needs : Objects → Name → Name → Type 0
-Needs objects head name = Meets objects head name ⊎ ((of : Name) × (commit : Commit) × MeetsCommit objects head of commit × (commit.tree ≡ name))
+Needs objects head name = Meets objects head name ⊎ (NeedsTree objects head name ⊎ NeedsOps objects head name)
 
 -- the edit clock of the commit that a name holds
 abbrev pub clock_at : Objects → Name → Option ℕ
@@ -27,8 +44,8 @@ FaultHolds objects head (fault.Large name) = Needs objects head name × IsLarge 
 FaultHolds objects head (fault.NotCommit name) = Meets objects head name × (object : Object) × (object_at objects name ≡ Some object) × (as_commit object ≡ None)
 FaultHolds objects head (fault.BadTree name) =
     (commit : Commit) × MeetsCommit objects head name commit × (object : Object) × (object_at objects commit.tree ≡ Some object) × (as_tree object ≡ None)
-FaultHolds objects head (fault.BadClock name) =
-    (commit : Commit) × MeetsCommit objects head name commit × (tree : Tree) × (tree_at objects commit.tree ≡ Some tree) × (edit_clock_of tree ≡ None)
+FaultHolds objects head (fault.BadPack name f) =
+    (commit : Commit) × MeetsCommit objects head name commit × (tree : Tree) × (tree_at objects commit.tree ≡ Some tree) × PackFails objects tree f
 FaultHolds objects head (fault.ClockOrder name parent) =
     (commit : Commit) × MeetsCommit objects head name commit × (commit.parents ≡ parent ∷ [])
     × (clock : ℕ) × (below : ℕ) × (clock_at objects name ≡ Some clock) × (clock_at objects parent ≡ Some below) × (clock ≤ below)

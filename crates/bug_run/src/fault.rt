@@ -2,12 +2,13 @@
 use commit_chain::{ChainFault, ChainStop};
 use gb_text::{Memory, Name};
 use object_store::ObjFault;
+use op_pack::PackFault;
 use std::alloc::{AllocError, AllocFailed};
 
 /// What is wrong with a bug's commits.
 #[derive(Clone, Copy, Debug, PartialEq, Eq)]
 pub enum WalkFault {
-    /// No file stands under this name of a commit or of its tree.
+    /// No file stands under this name of a commit, of its tree or of its pack's text.
     Missing(Name),
     /// The file under this name is no object text with that SHA-1.
     Damaged(Name),
@@ -17,8 +18,8 @@ pub enum WalkFault {
     NotCommit(Name),
     /// The tree of this commit is no tree.
     BadTree(Name),
-    /// The tree of this commit has not just one good edit clock.
-    BadClock(Name),
+    /// The tree of this commit, or the text that it names, is no pack, by this fault.
+    BadPack(Name, PackFault),
     /// The clock of this commit is not above that of its parent.
     ClockOrder(Name, Name),
     /// There are more than 65,536 commits.

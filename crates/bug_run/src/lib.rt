@@ -1,16 +1,15 @@
 //! The top call: what the words ask, done over a store and told to a sink.
 #![tactic(auto)]
 
-mod clock;
 mod fault;
 mod laws;
 mod log;
 mod name;
+mod pack;
 mod print;
 mod refusal;
 mod status;
 mod top;
-mod tree;
 mod words;
 
 pub use fault::WalkFault;

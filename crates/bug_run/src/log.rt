@@ -4,14 +4,13 @@ ghost use Rattle.gb_store.specs.Faults.{KeepsFaults};
 ghost use Rattle.gb_store.specs.Files.{files_of};
 ghost use Rattle.object_store.specs.Held.{objects_in};
 ghost use Rattle.ref_store.specs.Refs.{Head, ref_at};
-ghost use Rattle.bug_run.specs.Answers.{ClockAnswers, ClocksAnswers, RisingAnswers, StepsAnswers};
+ghost use Rattle.bug_run.specs.Answers.{ClocksAnswers, RisingAnswers, StepsAnswers};
 ghost use Rattle.bug_run.specs.Log.{LogAnswers, WalkTold, bug_ref, log_line, log_text_of};
 
-use crate::clock::edit_clock;
 use crate::fault::{WalkFault, WalkStop};
 use crate::name::push_name;
 use crate::status::{Refusal, Stop};
-use crate::tree::tree_of;
+use crate::pack::clock_of;
 use commit_chain::{Met, walk};
 use gb_store::Store;
 use gb_text::{Folder, Id, Memory, Name, Text};
@@ -118,24 +117,6 @@ fn clocks<S: Store>(
         })?;
     }
     Ok(steps)
-}
-
-// The edit clock of a commit that the walk met.
-fn clock_of<S: Store>(
-    alloc: Global,
-    disk: &mut S,
-    folder: &Folder,
-    met: &Met,
-) -> Result<u64, WalkStop>
-    ensures answers { IsTrue S.tells → ClockAnswers (objects_in (files_of (S.history disk.old)) folder.now) met.now result }
-    ensures unwritten { IsTrue S.tells → S.history disk.new ≡ S.history disk.old }
-    ensures caused { KeepsFaults S.never_fails S.faults (IsErrOf result WalkStop.Disk) disk.old disk.new }
-{
-    let tree = tree_of(alloc, disk, folder, met)?;
-    match edit_clock(&tree) {
-        Some(clock) => Ok(clock),
-        None => Err(WalkStop::Fault(WalkFault::BadClock(met.name))),
-    }
 }
 
 // Whether each clock is above the one before.

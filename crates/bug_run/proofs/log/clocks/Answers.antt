@@ -5,8 +5,8 @@ use Rattle.gb_store.specs.Files.{History, files_of}
 use Rattle.gb_store.proofs.FaultLemmas.{KeepsFaults_then}
 use Rattle.object_store.specs.Held.{objects_in}
 use Rattle.commit_chain.specs.Objects.{tree_at}
-use Rattle.bug_run.specs.Clocks.{edit_clock_of}
-use Rattle.bug_run.specs.Log.{Clocked}
+use Rattle.op_pack.specs.Heads.{edit_clock_of}
+use Rattle.bug_run.specs.Log.{Clocked, HasPack}
 use Rattle.bug_run.specs.Answers.{ClockAnswers, ClocksAnswers}
 use Rattle.commit_chain.specs.declared.chain.Met.{Met}
 use Rattle.bug_run.specs.declared.log.Step.{Step}
@@ -37,9 +37,10 @@ loop-met-preserved g c =
     record {
       clocked = λ tells.
           let clock : option_and_then edit_clock_of (tree_at objects met.tree) ≡ Some c.in_ok-clock.clock =
-          subst (λ (h : History). option_and_then edit_clock_of (tree_at (objects_in (files_of h) c.args.folder.now) met.tree) ≡ Some c.in_ok-clock.clock) (c.loop-met.invariant.unwritten tells) (c.in_ok-clock.ensures.answers tells) in
+          subst (λ (h : History). option_and_then edit_clock_of (tree_at (objects_in (files_of h) c.args.folder.now) met.tree) ≡ Some c.in_ok-clock.clock) (c.loop-met.invariant.unwritten tells) (c.in_ok-clock.ensures.answers tells).1 in
+          let pack : HasPack objects met = subst (λ (h : History). HasPack (objects_in (files_of h) c.args.folder.now) met) (c.loop-met.invariant.unwritten tells) (c.in_ok-clock.ensures.answers tells).0 in
           subst (λ (steps : List Step). Clocked objects (take (c.loop-met.met-index + 1) c.args.walk.now) steps) (sym pushed)
-          (Clocked-more objects c.args.walk.now c.loop-met.steps.items c.loop-met.met-index c.in_ok-clock.clock none c.loop-met-test.true (c.loop-met.invariant.clocked tells) clock);
+          (Clocked-more objects c.args.walk.now c.loop-met.steps.items c.loop-met.met-index c.in_ok-clock.clock none c.loop-met-test.true (c.loop-met.invariant.clocked tells) pack clock);
       unwritten = λ tells. c.in_ok-clock.ensures.unwritten tells ∙ c.loop-met.invariant.unwritten tells;
       caused = KeepsFaults_then g.S.Store.never_fails g.S.Store.faults _ ⊥ c.args.disk.now c.loop-met.disk c.clock_of.new.disk (λ none. absurd none) c.loop-met.invariant.caused c.in_ok-clock.ensures.caused;
     }

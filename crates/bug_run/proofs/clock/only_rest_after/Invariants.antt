@@ -1,6 +1,0 @@
-use Rattle.std.proofs.Common.{◌≡◌, ◌++◌, drop, option_copied, option_to_list}
-use Rattle.bug_run.specs.Clocks.{rests_after}
-use Rattle.bug_run.proofs.clock.only_rest_after.Given as goal
-
-abbrev pub invariant-loop-entry : goal.invariant-loop-entry
-invariant-loop-entry l = option_to_list (option_copied l.found) ++ rests_after l.front (drop l.entry-index l.entries) ≡ rests_after l.front l.entries
