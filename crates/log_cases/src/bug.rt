@@ -17,6 +17,8 @@ pub const ROOT: &str = "7f655da1ff9f25bdf70595cc7abde9abdd502597";
 
 pub const TREE: &str = "5bcc65b56b2f7ed004d855d8dbf0939ea47958c5";
 
+pub const PACK: &str = "f414cf142e63f2b48a03a6853567fed5aec23988";
+
 pub const HEAD: &str = "95676b37fee876774c37570bec27230b8eaa3c43";
 
 const ROOT_ENTRIES: &[&str] = &["create-clock-1", "edit-clock-2", "ops", "version-4"];
@@ -31,6 +33,14 @@ const EMPTY_NAME: &[u8] =
 
 const PACK_TEXT: &[u8] =
     b"blob 93\0{\"author\":{\"id\":\"000000000000000000000000000000000000000000000000000000000000000a\"},\"ops\":[]}";
+
+const EMPTY_PACK: &[u8] =
+    b"{\"author\":{\"id\":\"000000000000000000000000000000000000000000000000000000000000000a\"},\"ops\":[]}";
+
+const PACK_FRONT: &[u8] =
+    b"{\"author\":{\"id\":\"000000000000000000000000000000000000000000000000000000000000000a\"},\"ops\":[";
+
+const OPERATION: &[u8] = b"{\"nonce\":\"AAAAAAAAAAAAAAAAAAAAAAAAAAA=\",\"timestamp\":0,\"type\":1}";
 
 const PACK_NAME: &[u8] =
     b"\xf4\x14\xcf\x14\x2e\x63\xf2\xb4\x8a\x03\xa6\x85\x35\x67\xfe\xd5\xae\xc2\x39\x88";
@@ -62,6 +72,14 @@ pub enum Case {
     LongHead(usize),
     /// So many bytes are the content of the head's tree, by one entry more.
     LongTree(usize),
+    /// The text of the head's pack.
+    Pack(&'static [u8]),
+    /// So many bytes are the text of the head's pack, by spaces at its end.
+    LongPack(usize),
+    /// The head's pack has so many operations.
+    Operations(usize),
+    /// The mode and the object of `ops` in the head's tree.
+    Ops(&'static [u8], &'static [u8]),
     /// There is no file of this object.
     Gone(&'static str),
     /// These bytes stand for the last byte in the file of this object.
@@ -76,10 +94,10 @@ fn append(text: &mut Vec<u8>, parts: &[&[u8]]) -> Result<(), Fail> {
     Ok(())
 }
 
-// Adds letters up to so many bytes.
-fn fill(text: &mut Vec<u8>, size: usize) -> Result<(), Fail> {
+// Adds one byte again and again, up to so many bytes.
+fn fill(text: &mut Vec<u8>, byte: u8, size: usize) -> Result<(), Fail> {
     for _ in text.len()..size {
-        text.push(b'x')?;
+        text.push(byte)?;
     }
     Ok(())
 }
@@ -108,22 +126,24 @@ fn put(alloc: Global, store: &mut MemStore, kind: Kind, content: &[u8]) -> Resul
     put_text(alloc, store, text.as_slice())
 }
 
-// The content of a tree of plain files with these names.
-fn tree_content(alloc: Global, names: &[&str]) -> Result<Vec<u8>, Fail> {
+// The content of a tree of files with these names, all plain and empty but for `ops`.
+fn tree_content(alloc: Global, names: &[&str], mode: &[u8], ops: &[u8]) -> Result<Vec<u8>, Fail> {
     let mut content = Vec::new(alloc);
     for name in names {
-        let object = if *name == "ops" {
-            PACK_NAME
+        if *name == "ops" {
+            append(&mut content, &[mode, b" ops\0", ops])?;
         } else {
-            EMPTY_NAME
-        };
-        append(&mut content, &[b"100644 ", name.as_bytes(), b"\0", object])?;
+            append(
+                &mut content,
+                &[b"100644 ", name.as_bytes(), b"\0", EMPTY_NAME],
+            )?;
+        }
     }
     Ok(content)
 }
 
 fn put_tree(alloc: Global, store: &mut MemStore, names: &[&str]) -> Result<[u8; 40], Fail> {
-    let content = tree_content(alloc, names)?;
+    let content = tree_content(alloc, names, b"100644", PACK_NAME)?;
     put(alloc, store, Kind::Tree, &content)
 }
 
@@ -184,12 +204,53 @@ fn entries(case: Case) -> &'static [&'static str] {
     }
 }
 
+// Adds a pack of so many operations.
+fn append_operations(text: &mut Vec<u8>, count: usize) -> Result<(), Fail> {
+    append(text, &[PACK_FRONT, OPERATION])?;
+    for _ in 1..count {
+        append(text, &[b",", OPERATION])?;
+    }
+    append(text, &[b"]}"])
+}
+
+// The text of the head's pack.
+fn pack_text(alloc: Global, case: Case) -> Result<Vec<u8>, Fail> {
+    let mut text = Vec::new(alloc);
+    match case {
+        Case::Pack(pack) => append(&mut text, &[pack])?,
+        Case::Operations(count) => append_operations(&mut text, count)?,
+        Case::LongPack(size) => {
+            append(&mut text, &[EMPTY_PACK])?;
+            fill(&mut text, b' ', size)?;
+        }
+        _ => append(&mut text, &[EMPTY_PACK])?,
+    }
+    Ok(text)
+}
+
+// Puts the blob of the head's pack, and answers its name.
+fn put_pack(alloc: Global, store: &mut MemStore, case: Case) -> Result<[u8; 20], Fail> {
+    let content = pack_text(alloc, case)?;
+    let text = frame_text(alloc, Kind::Blob, &content)?;
+    put_text(alloc, store, text.as_slice())?;
+    Ok(name_of_text(text.as_slice()).bytes)
+}
+
+// The entries of the head's tree, whose pack has this name.
+fn head_entries(alloc: Global, case: Case, pack: &[u8]) -> Result<Vec<u8>, Fail> {
+    match case {
+        Case::Ops(mode, object) => tree_content(alloc, entries(case), mode, object),
+        _ => tree_content(alloc, entries(case), b"100644", pack),
+    }
+}
+
 // Puts the head's tree.
 fn put_head_tree(alloc: Global, store: &mut MemStore, case: Case) -> Result<[u8; 40], Fail> {
-    let mut content = tree_content(alloc, entries(case))?;
+    let pack = put_pack(alloc, store, case)?;
+    let mut content = head_entries(alloc, case, &pack)?;
     if let Case::LongTree(size) = case {
         append(&mut content, &[b"100644 "])?;
-        fill(&mut content, size.saturating_sub(21))?;
+        fill(&mut content, b'x', size.saturating_sub(21))?;
         append(&mut content, &[b"\0", EMPTY_NAME])?;
     }
     put(alloc, store, Kind::Tree, &content)
@@ -208,7 +269,7 @@ fn head_content(alloc: Global, case: Case, tree: &[u8], root: &[u8]) -> Result<V
     let lines = parent_lines(alloc, &[parent])?;
     let mut content = commit_content(alloc, tree, &lines)?;
     if let Case::LongHead(size) = case {
-        fill(&mut content, size)?;
+        fill(&mut content, b'x', size)?;
     }
     Ok(content)
 }

@@ -1,6 +1,6 @@
 //! What is told of good bugs, and of bugs in which one thing is wrong.
 use crate::bug::{
-    BUG, Case, EMPTY, HEAD, ROOT, ROOT_TREE, TREE, put_blobs, put_bug, put_commit, put_ref,
+    BUG, Case, EMPTY, HEAD, PACK, ROOT, ROOT_TREE, TREE, put_blobs, put_bug, put_commit, put_ref,
 };
 use bug_run::{Status, run};
 use gb_store::{Fail as Listed, MemSink, MemStore};
@@ -92,6 +92,24 @@ const LOGGED: &[(Case, &str)] = &[
         Case::LongTree(4_194_291),
         "2 7f655da1ff9f25bdf70595cc7abde9abdd502597\n3 c4b3d63c4cd69cc7b6b7609ade6953804a213402\n",
     ),
+    (
+        Case::LongPack(4_194_291),
+        "2 7f655da1ff9f25bdf70595cc7abde9abdd502597\n3 8886eae2d35e3618482ce5b23beb7a4a08345f51\n",
+    ),
+    (
+        Case::Operations(4_096),
+        "2 7f655da1ff9f25bdf70595cc7abde9abdd502597\n3 c6e0768d5219bb7b3114cae1d6e202518d3672c1\n",
+    ),
+    (
+        Case::Pack(
+            b"{ \"ops\" : null , \"x\":[1.5,{\"y\":null}], \"author\":{\"name\":\"n\",\"id\":\"000000000000000000000000000000000000000000000000000000000000000a\"} }",
+        ),
+        "2 7f655da1ff9f25bdf70595cc7abde9abdd502597\n3 7d79e13a058bd3e274281ea241732b1d6ff8753f\n",
+    ),
+    (
+        Case::Entries(&["create-clock-7", "edit-clock-3", "ops", "version-4", "x"]),
+        "2 7f655da1ff9f25bdf70595cc7abde9abdd502597\n3 1efab93a23e03d6973b6c9333878fa124f9a3c8e\n",
+    ),
 ];
 
 // Bugs that are damaged.
@@ -137,7 +155,67 @@ const SPOILED: &[Case] = &[
     Case::RootEntries(&["create-clock-1", "edit-clock-", "ops", "version-4"]),
     Case::RootEntries(&["create-clock-1", "edit-clock-0", "ops", "version-4"]),
     Case::RootEntries(&["create-clock-1", "edit-clock-01", "ops", "version-4"]),
+    Case::RootEntries(&["create-clock-0", "edit-clock-2", "ops", "version-4"]),
+    Case::RootEntries(&["create-clock-1", "edit-clock-2", "ops"]),
+    Case::Entries(&["create-clock-x", "edit-clock-3", "ops", "version-4"]),
+    Case::Entries(&[
+        "create-clock-1",
+        "create-clock-2",
+        "edit-clock-3",
+        "ops",
+        "version-4",
+    ]),
+    Case::Entries(&["edit-clock-3", "ops"]),
+    Case::Entries(&["edit-clock-3", "ops", "version-"]),
+    Case::Entries(&["edit-clock-3", "ops", "version-5"]),
+    Case::Entries(&["edit-clock-3", "ops", "version-04"]),
+    Case::Entries(&["edit-clock-3", "ops", "version-4", "version-5"]),
+    Case::Entries(&["edit-clock-3", "version-4"]),
+    Case::Ops(b"40000", ROOT_TREE_BYTES),
+    Case::Ops(b"120000", PACK_BYTES),
+    Case::Ops(b"100644", ROOT_TREE_BYTES),
+    Case::Ops(b"100644", &[7; 20]),
+    Case::Gone(PACK),
+    Case::Ends(PACK, b"x"),
+    Case::Ends(PACK, b""),
+    Case::LongPack(4_194_292),
+    Case::Pack(b""),
+    Case::Pack(b"{}"),
+    Case::Pack(b"[]"),
+    Case::Pack(b"{\"author\":null}"),
+    Case::Pack(b"{\"author\":{\"id\":\"a\"}}"),
+    Case::Pack(TWO_AUTHORS),
+    Case::Pack(TWO_IDS),
+    Case::Pack(TWO_OPS),
+    Case::Pack(NOT_UTF8),
+    Case::Pack(NO_LIST),
+    Case::Pack(BAD_OPERATION),
+    Case::Operations(4_097),
 ];
+
+const ROOT_TREE_BYTES: &[u8] =
+    b"\x75\xcb\x0e\xff\xd6\xc0\x6a\x47\x90\xe1\x58\xc3\xa7\x3d\x4a\xf1\x8f\x02\xe3\xe8";
+
+const PACK_BYTES: &[u8] =
+    b"\xf4\x14\xcf\x14\x2e\x63\xf2\xb4\x8a\x03\xa6\x85\x35\x67\xfe\xd5\xae\xc2\x39\x88";
+
+const TWO_AUTHORS: &[u8] =
+    b"{\"author\":{\"id\":\"000000000000000000000000000000000000000000000000000000000000000a\"},\"author\":{\"id\":\"000000000000000000000000000000000000000000000000000000000000000a\"}}";
+
+const TWO_IDS: &[u8] =
+    b"{\"author\":{\"id\":\"000000000000000000000000000000000000000000000000000000000000000a\",\"id\":\"000000000000000000000000000000000000000000000000000000000000000a\"}}";
+
+const TWO_OPS: &[u8] =
+    b"{\"author\":{\"id\":\"000000000000000000000000000000000000000000000000000000000000000a\"},\"ops\":[],\"\\u006fps\":[]}";
+
+const NOT_UTF8: &[u8] =
+    b"{\"author\":{\"id\":\"000000000000000000000000000000000000000000000000000000000000000a\"},\"x\":\"\xff\"}";
+
+const NO_LIST: &[u8] =
+    b"{\"author\":{\"id\":\"000000000000000000000000000000000000000000000000000000000000000a\"},\"ops\":{}}";
+
+const BAD_OPERATION: &[u8] =
+    b"{\"author\":{\"id\":\"000000000000000000000000000000000000000000000000000000000000000a\"},\"ops\":[{\"type\":1}]}";
 
 #[test]
 fn good_bugs_are_logged(rt: HostRuntime) -> Result<(), Fail> {
@@ -277,11 +355,11 @@ fn failing_tells(alloc: Global, call: u64, status: u8, text: &str) -> Result<boo
 #[test]
 fn a_store_that_fails_prints_nothing(rt: HostRuntime) -> Result<(), Fail> {
     let alloc = rt.alloc();
-    // Seven files are put, and five are read.
-    for call in 7..12 {
+    // Eight files are put, and seven are read.
+    for call in 8..15 {
         assert!(rt; failing_tells(alloc, call, DISK_FAULT, "")?);
     }
-    assert!(rt; failing_tells(alloc, 12, DONE, GOOD_LOG)?);
+    assert!(rt; failing_tells(alloc, 15, DONE, GOOD_LOG)?);
     Ok(())
 }
 
@@ -333,9 +411,9 @@ fn a_chain_is_logged_from_the_root_to_the_head(rt: HostRuntime) -> Result<(), Fa
     let mut store = MemStore::new(alloc, List::new(alloc));
     let (_, two) = put_two(alloc, &mut store)?;
     let head = put_commit(alloc, &mut store, NINTH_ENTRIES, &[&two])?;
-    // One write puts the ref, and each of three commits and their trees is read once.
+    // One write puts the ref, and each of three commits, its tree and its pack's text is read once.
     let writes = store.writes().saturating_add(1);
-    let reads = store.reads().saturating_add(6);
+    let reads = store.reads().saturating_add(9);
     let holds = head_tells(alloc, &mut store, &head, DONE, CHAIN_LOG)?;
     assert!(rt; holds && store.writes() == writes && store.reads() == reads);
     Ok(())
