@@ -1,3 +1,6 @@
 mod TextLemmas
 mod FieldLemmas
 mod AnswerLemmas
+pub mod SortedLemmas
+pub mod PairLemmas
+pub mod PairTexts

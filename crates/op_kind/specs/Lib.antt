@@ -6,6 +6,7 @@ pub mod Common
 pub mod CommonLaws
 pub mod Forms
 pub mod Written
+pub mod Pairs
 pub mod QuotedLaws
 pub mod WritingLaws
 pub mod ListLaws

@@ -78,7 +78,8 @@ names_read depth (f ∷ fs) each =
     ap (λ name. with_member name f.1 (fields_of (map named fs))) (quoted_reads f.0 each.0.name)
     ∙ ap (λ rest. (f.0, f.1) ∷ rest) (names_read depth fs each.1)
 
-each_member : (low high : ℕ) (fs : Fields) → low ≤ high → EachWritable low fs → All (IsMemberOf high) (map named fs)
+-- Members that are written are those of an object.
+pub each_member : (low high : ℕ) (fs : Fields) → low ≤ high → EachWritable low fs → All (IsMemberOf high) (map named fs)
 each_member low high [] le each = All-nil (IsMemberOf high)
 each_member low high (f ∷ fs) le each =
     All-cons (IsMemberOf high) (named f) (map named fs) (quoted_is_string f.0, deeper low high f.1 le each.0.value) (each_member low high fs le each.1)
@@ -113,7 +114,8 @@ joined_utf8 : (depth : ℕ) (fs : Fields) → EachWritable depth fs → IsUtf8 (
 joined_utf8 depth [] each = IsUtf8-are_ascii [] refl
 joined_utf8 depth (f ∷ fs) each = IsUtf8-append _ _ (member_utf8 depth f each.0) (commas_utf8 depth fs each.1)
 
-fields_utf8 : (depth : ℕ) (fs : Fields) → EachWritable depth fs → IsUtf8 (fields_text fs)
+-- What is written of members is UTF-8.
+pub fields_utf8 : (depth : ℕ) (fs : Fields) → EachWritable depth fs → IsUtf8 (fields_text fs)
 fields_utf8 depth fs each = IsUtf8-append (123 ∷ []) _ opening (IsUtf8-append _ _ (joined_utf8 depth fs each) closing)
 
 -- What is written of members with at most 98 brackets open is the text of an operation.

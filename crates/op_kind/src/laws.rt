@@ -1,21 +1,27 @@
 //! Laws of the definitions that the contracts cite. No call of them does anything.
 ghost use Rattle.std.specs.Prelude.{◌≡◌, ◌≤◌, ◌<◌, ◌-◌, ◌^◌, ℕ, List, Some, None, decimal};
+ghost use Rattle.std.specs.List.{Contains};
+ghost use Rattle.std.specs.List.Sorted.{IsPermutation};
 ghost use Rattle.std.specs.Str.{IsUtf8};
 ghost use Rattle.hex.specs.Hex.{encode_lower};
 ghost use Rattle.gb_text.specs.Decimal.{decimal_of};
 ghost use Rattle.gb_text.specs.Digits.{IsId};
 ghost use Rattle.gb_text.specs.declared.id.Id.{Id as IdValue};
 ghost use Rattle.json.specs.Print.{quoted};
-ghost use Rattle.op_kind.specs.Common.{common_at, time_at, nonce_in, CommonFault};
+ghost use Rattle.json_span.specs.Parts.{members_of};
+ghost use Rattle.op_kind.specs.Common.{common_at, time_at, nonce_in, metadata_at, CommonFault};
 ghost use Rattle.op_kind.specs.Forms.{id_at, texts_at};
 ghost use Rattle.op_kind.specs.Members.{Fields, text_at, fields_at};
+ghost use Rattle.op_kind.specs.Metadata.{pairs_at};
 ghost use Rattle.op_kind.specs.Nonces.{IsNonce};
 ghost use Rattle.op_kind.specs.OpText.{IsOpText};
-ghost use Rattle.op_kind.specs.Written.{fields_text, nonce_text, texts_text, EachUtf8, EachWritable};
+ghost use Rattle.op_kind.specs.Pairs.{pairs_text, AreInKeyOrder, ArePairsOf, EachPairUtf8};
+ghost use Rattle.op_kind.specs.Written.{fields_text, nonce_text, texts_text, EachUtf8, IsWritable, EachWritable};
 ghost use Rattle.op_kind.specs.declared.fault.OpFault.{OpFault as FaultValue};
 ghost use Rattle.op_kind.specs.declared.fault.OpFault.TheVariants.{Memory};
 ghost use Rattle.op_kind.specs.declared.place.Place.{Place as PlaceValue};
 ghost use Rattle.op_kind.specs.declared.place.Common.{Common as CommonValue};
+ghost use Rattle.op_kind.specs.declared.place.Pair.{Pair as PairValue};
 
 /// A text has a common part exactly where none of its faults holds, and want of memory is none of
 /// them. The common part has the place that it is read at, and depends on it in nothing else.
@@ -40,6 +46,44 @@ pub fn written_values_read_back()
     ensures nonces { (n : List ℕ) → IsNonce n → nonce_in (nonce_text n) ≡ Some n }
     ensures ids { (id : IdValue) → IsId id → id_at (quoted (encode_lower id.bytes)) ≡ Some id }
     ensures lists { (texts : List (List ℕ)) → EachUtf8 texts → texts_at (texts_text texts) ≡ Some texts }
+    ensures pairs { (pairs : List PairValue) → AreInKeyOrder pairs → EachPairUtf8 pairs
+        → pairs_at (pairs_text pairs) ≡ Some pairs }
+    ensures metadata { (pairs : List PairValue) → AreInKeyOrder pairs → EachPairUtf8 pairs
+        → metadata_at (pairs_text pairs) ≡ Some pairs }
+{}
+
+/// What a value is written as can be the value of a member: it is UTF-8 and a value text. A text, a
+/// number, a nonce and an id have no bracket, a list of texts and an object of pairs have one.
+pub fn written_values_are_values()
+    ensures texts { (depth : ℕ) (name text : List ℕ) → IsUtf8 name → IsUtf8 text
+        → IsWritable depth (name, quoted text) }
+    ensures decimals { (depth : ℕ) (name : List ℕ) (n : ℕ) → IsUtf8 name → n < 2 ^ 64
+        → IsWritable depth (name, decimal n) }
+    ensures nonces { (depth : ℕ) (name n : List ℕ) → IsUtf8 name
+        → IsWritable depth (name, nonce_text n) }
+    ensures ids { (depth : ℕ) (name : List ℕ) (id : IdValue) → IsUtf8 name
+        → IsWritable depth (name, quoted (encode_lower id.bytes)) }
+    ensures lists { (depth : ℕ) (name : List ℕ) (texts : List (List ℕ)) → 1 ≤ depth → IsUtf8 name
+        → EachUtf8 texts → IsWritable depth (name, texts_text texts) }
+    ensures pairs { (depth : ℕ) (name : List ℕ) (pairs : List PairValue) → 1 ≤ depth → IsUtf8 name
+        → EachPairUtf8 pairs → IsWritable depth (name, pairs_text pairs) }
+{}
+
+/// The pairs that an object is read as are those of its members, in byte order of their keys, and no
+/// key stands there twice. So they depend on which members there are, and not on their order.
+pub fn pairs_are_in_key_order()
+    ensures found { (json : List ℕ) (pairs : List PairValue) → pairs_at json ≡ Some pairs
+        → ArePairsOf json pairs }
+    ensures only { (json : List ℕ) (pairs : List PairValue) → ArePairsOf json pairs
+        → pairs_at json ≡ Some pairs }
+    ensures metadata { (json : List ℕ) (pairs : List PairValue) → metadata_at json ≡ Some pairs
+        → AreInKeyOrder pairs }
+    ensures same { (pairs others : List PairValue) → AreInKeyOrder pairs → AreInKeyOrder others
+        → ((pair : PairValue) → Contains pairs pair → Contains others pair)
+        → ((pair : PairValue) → Contains others pair → Contains pairs pair) → pairs ≡ others }
+    ensures moved { (json other : List ℕ) (members others : List (List ℕ × List ℕ))
+        → members_of json ≡ Some members → members_of other ≡ Some others
+        → IsPermutation members others → pairs_at json ≡ pairs_at other }
 {}
 
 /// The members that are written are those that are read, and what is written of them is the text of an
