@@ -4,3 +4,4 @@ mod AnswerLemmas
 pub mod SortedLemmas
 pub mod PairLemmas
 pub mod PairTexts
+pub mod ReadLaws

@@ -8,7 +8,7 @@ use Rattle.std.specs.declared.cmp.Ordering.{Ordering}
 use Rattle.std.specs.declared.cmp.Ordering.TheVariants.{Less}
 use Rattle.std.specs.Ordering.{nat_cmp, is_eq, eq_by_cmp}
 use Rattle.std.specs.Option.{option_map, unwrap_or}
-use Rattle.std.specs.List.{AllByRecursion, AllZip, Contains, IsDistinct}
+use Rattle.std.specs.List.{AllByRecursion, AllZip, Contains}
 use Rattle.std.specs.List.Sorted.{IsStrictlySortedBy, IsPermutation}
 use Rattle.std.specs.Map.{lookup}
 use Rattle.std.specs.BTreeMap.{insert_entry, is_at}
@@ -24,7 +24,7 @@ use Rattle.op_kind.specs.Members.{text_at}
 use Rattle.op_kind.specs.Metadata.{Entries, with_texts, entries_from, pair_of, pairs_at}
 use Rattle.op_kind.specs.Pairs.{by_key, AreInKeyOrder, texts_of, both_of, ArePairsOf}
 use Rattle.op_kind.specs.declared.place.Pair.{Pair}
-use Rattle.op_kind.proofs.SortedLemmas.{same_elements, by_first, put_sorted, put_adds}
+use Rattle.op_kind.proofs.SortedLemmas.{same_elements, put_sorted, put_adds}
 
 -- ---- entries in byte order
 
@@ -234,10 +234,14 @@ pairs_by_members a b ms ns first second p = by (pairs_at a) (pairs_at b) refl re
 
 -- ---- metadata
 
+-- Pairs that are read are in byte order of their keys.
+pub pairs_ascending : (json : Bytes) (ps : List Pair) → pairs_at json ≡ Some ps → AreInKeyOrder ps
+pairs_ascending json ps h = let is = pairs_found json ps h in is.ascending
+
 from_null : (null : Bool) (json : Bytes) (ps : List Pair) → (if null then Some [] else pairs_at json) ≡ Some ps → AreInKeyOrder ps
 unfolding IsStrictlySortedBy
 from_null true json ps h = let e : [] ≡ ps = cc (h) in subst AreInKeyOrder e tt
-from_null false json ps h = let is = pairs_found json ps h in is.ascending
+from_null false json ps h = pairs_ascending json ps h
 
 -- Metadata that is read is in byte order of its keys.
 pub metadata_ascends : (json : Bytes) (ps : List Pair) → metadata_at json ≡ Some ps → AreInKeyOrder ps

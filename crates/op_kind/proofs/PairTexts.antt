@@ -1,5 +1,5 @@
 -- What pairs are written as reads back, and can be a member's value.
-use Rattle.std.proofs.Common.{◌≡◌, ◌≤◌, refl, subst, ap, ◌∙◌, sym, ℕ, List, [], ◌∷◌, Some, map, arith}
+use Rattle.std.proofs.Common.{◌≡◌, ◌≤◌, refl, subst, sym, ℕ, List, [], ◌∷◌, Some, map, arith}
 use Rattle.std.specs.Str.{IsUtf8}
 use Rattle.std.specs.List.Sorted.{IsPermutation}
 use Rattle.std.proofs.lemmas.List.Sorted.{IsPermutation-refl}

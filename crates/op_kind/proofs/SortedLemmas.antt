@@ -1,13 +1,12 @@
 -- Lists that ascend strictly: those with the same elements are equal, and an entry that is put in its place leaves them so.
-use Rattle.std.proofs.Common.{◌≡◌, ◌<◌, ◌∙◌, ◌++◌, ◌⊎◌, inl, inr, refl, sym, ap, subst, ℕ, zero, suc, List, [], ◌∷◌, Option, None, Some, map, length, arith}
-use Rattle.std.specs.Prelude.{true, false, cond}
+use Rattle.std.proofs.Common.{◌≡◌, ◌<◌, ◌∙◌, ◌⊎◌, inl, inr, refl, sym, subst, zero, suc, List, [], ◌∷◌, length, arith}
+use Rattle.std.specs.Prelude.{false}
 use Rattle.std.specs.declared.cmp.Ordering.{Ordering}
 use Rattle.std.specs.declared.cmp.Ordering.TheVariants.{Less, Equal, Greater}
 use Rattle.std.specs.Ordering.{is_eq, match_ordering}
 use Rattle.std.specs.Cmp.{IsTotalOrder}
 use Rattle.std.specs.List.{AllByRecursion, Contains}
 use Rattle.std.specs.List.Sorted.{IsStrictlySortedBy, IsPermutation}
-use Rattle.std.specs.Map.{lookup}
 use Rattle.std.specs.BTreeMap.{insert_entry, is_at}
 use Rattle.std.proofs.lemmas.Cmp.{tied_itself}
 use Rattle.std.proofs.lemmas.Map.{NonePasses}
@@ -56,8 +55,8 @@ module _ {X : Type 0} {R : X → X → Ordering} (o : IsTotalOrder R) where
   same_elements (x ∷ xs) (y ∷ ys) s t f g =
       let e : x ≡ y = heads_same x y xs ys s.0 t.0 (first_or_later x y ys (f x (first x xs))) (first_or_later y x xs (g y (first y ys))) in
       let rest : xs ≡ ys = same_elements xs ys s.1 t.1
-          (λ z c. in_rest x y z xs ys s.0 e c (first_or_later z y ys (f z (later z x xs c))))
-          (λ z c. in_rest y x z ys xs t.0 (sym e) c (first_or_later z x xs (g z (later z y ys c)))) in
+      (λ z c. in_rest x y z xs ys s.0 e c (first_or_later z y ys (f z (later z x xs c))))
+      (λ z c. in_rest y x z ys xs t.0 (sym e) c (first_or_later z x xs (g z (later z y ys c)))) in
       λ i. e i ∷ rest i
 
 -- ---- an entry in its place

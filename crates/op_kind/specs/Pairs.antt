@@ -7,7 +7,7 @@ use Rattle.std.specs.Ordering.{nat_cmp}
 use Rattle.std.specs.Cmp.Lexicographic.{slice_cmp}
 use Rattle.json.specs.Print.{quoted}
 use Rattle.json_span.specs.Parts.{members_of}
-use Rattle.op_kind.specs.Members.{Fields, text_at}
+use Rattle.op_kind.specs.Members.{text_at}
 use Rattle.op_kind.specs.Written.{fields_text}
 use Rattle.op_kind.specs.declared.place.Pair.{Pair}
 

@@ -1,5 +1,5 @@
 //! Laws of the definitions that the contracts cite. No call of them does anything.
-ghost use Rattle.std.specs.Prelude.{◌≡◌, ◌≤◌, ◌<◌, ◌-◌, ◌^◌, ℕ, List, Some, None, decimal};
+ghost use Rattle.std.specs.Prelude.{◌≡◌, ◌≤◌, ◌<◌, ◌-◌, ◌^◌, ℕ, List, Option, Some, None, decimal};
 ghost use Rattle.std.specs.List.{Contains};
 ghost use Rattle.std.specs.List.Sorted.{IsPermutation};
 ghost use Rattle.std.specs.Str.{IsUtf8};
@@ -9,16 +9,17 @@ ghost use Rattle.gb_text.specs.Digits.{IsId};
 ghost use Rattle.gb_text.specs.declared.id.Id.{Id as IdValue};
 ghost use Rattle.json.specs.Print.{quoted};
 ghost use Rattle.json_span.specs.Parts.{members_of};
+ghost use Rattle.op_kind.specs.Bounds.{IsWithinBounds};
 ghost use Rattle.op_kind.specs.Common.{common_at, time_at, nonce_in, metadata_at, CommonFault};
-ghost use Rattle.op_kind.specs.Forms.{id_at, texts_at};
-ghost use Rattle.op_kind.specs.Members.{Fields, text_at, fields_at};
+ghost use Rattle.op_kind.specs.Forms.{id_at, texts_at, FaultOfOne, FaultOfOptional};
+ghost use Rattle.op_kind.specs.Members.{Fields, text_at, fields_at, only_value, value_or};
 ghost use Rattle.op_kind.specs.Metadata.{pairs_at};
 ghost use Rattle.op_kind.specs.Nonces.{IsNonce};
 ghost use Rattle.op_kind.specs.OpText.{IsOpText};
 ghost use Rattle.op_kind.specs.Pairs.{pairs_text, AreInKeyOrder, ArePairsOf, EachPairUtf8};
 ghost use Rattle.op_kind.specs.Written.{fields_text, nonce_text, texts_text, EachUtf8, IsWritable, EachWritable};
 ghost use Rattle.op_kind.specs.declared.fault.OpFault.{OpFault as FaultValue};
-ghost use Rattle.op_kind.specs.declared.fault.OpFault.TheVariants.{Memory};
+ghost use Rattle.op_kind.specs.declared.fault.OpFault.TheVariants.{Memory, BadMember};
 ghost use Rattle.op_kind.specs.declared.place.Place.{Place as PlaceValue};
 ghost use Rattle.op_kind.specs.declared.place.Common.{Common as CommonValue};
 ghost use Rattle.op_kind.specs.declared.place.Pair.{Pair as PairValue};
@@ -36,6 +37,21 @@ pub fn common_part_or_fault()
     ensures moved { (here there : PlaceValue) (text : List ℕ) (common : CommonValue)
         → common_at here text ≡ Some common
         → common_at there text ≡ Some (record common { place = there }) }
+{}
+
+/// A member by its form has a value exactly where its fault does not hold: the member that must stand,
+/// and the one that may be absent.
+pub fn member_value_or_fault<A>()
+    ensures lacking { (number : ℕ) (read : List ℕ → Option A) (values : List (List ℕ))
+        (fault : FaultValue) → FaultOfOne number read values fault → only_value read values ≡ None }
+    ensures one { (number : ℕ) (read : List ℕ → Option A) (values : List (List ℕ))
+        → only_value read values ≡ None → FaultOfOne number read values (BadMember number) }
+    ensures broken { (absent : A) (number : ℕ) (read : List ℕ → Option A) (values : List (List ℕ))
+        (fault : FaultValue) → FaultOfOptional number read values fault
+        → value_or absent read values ≡ None }
+    ensures optional { (absent : A) (number : ℕ) (read : List ℕ → Option A)
+        (values : List (List ℕ)) → value_or absent read values ≡ None
+        → FaultOfOptional number read values (BadMember number) }
 {}
 
 /// What a value is written as reads as the value.
@@ -76,14 +92,30 @@ pub fn pairs_are_in_key_order()
         → ArePairsOf json pairs }
     ensures only { (json : List ℕ) (pairs : List PairValue) → ArePairsOf json pairs
         → pairs_at json ≡ Some pairs }
-    ensures metadata { (json : List ℕ) (pairs : List PairValue) → metadata_at json ≡ Some pairs
-        → AreInKeyOrder pairs }
     ensures same { (pairs others : List PairValue) → AreInKeyOrder pairs → AreInKeyOrder others
         → ((pair : PairValue) → Contains pairs pair → Contains others pair)
         → ((pair : PairValue) → Contains others pair → Contains pairs pair) → pairs ≡ others }
     ensures moved { (json other : List ℕ) (members others : List (List ℕ × List ℕ))
         → members_of json ≡ Some members → members_of other ≡ Some others
         → IsPermutation members others → pairs_at json ≡ pairs_at other }
+{}
+
+/// What a value reads as can be written again: texts are UTF-8, numbers within their limits, and pairs
+/// in byte order of their keys. So is a common part.
+pub fn read_values_are_within_bounds()
+    ensures texts { (json text : List ℕ) → text_at json ≡ Some text → IsUtf8 text }
+    ensures decimals { (json : List ℕ) (n : ℕ) → decimal_of json ≡ Some n → n < 2 ^ 64 }
+    ensures times { (json : List ℕ) (n : ℕ) → time_at json ≡ Some n → n ≤ 2 ^ 63 - 1 }
+    ensures nonces { (json n : List ℕ) → nonce_in json ≡ Some n → IsNonce n }
+    ensures ids { (json : List ℕ) (id : IdValue) → id_at json ≡ Some id → IsId id }
+    ensures lists { (json : List ℕ) (texts : List (List ℕ)) → texts_at json ≡ Some texts
+        → EachUtf8 texts }
+    ensures pairs { (json : List ℕ) (pairs : List PairValue) → pairs_at json ≡ Some pairs
+        → AreInKeyOrder pairs × EachPairUtf8 pairs }
+    ensures metadata { (json : List ℕ) (pairs : List PairValue) → metadata_at json ≡ Some pairs
+        → AreInKeyOrder pairs × EachPairUtf8 pairs }
+    ensures common { (place : PlaceValue) (text : List ℕ) (common : CommonValue)
+        → common_at place text ≡ Some common → IsWithinBounds common }
 {}
 
 /// The members that are written are those that are read, and what is written of them is the text of an
