@@ -5,3 +5,4 @@ pub mod SortedLemmas
 pub mod PairLemmas
 pub mod PairTexts
 pub mod ReadLaws
+pub mod KindLemmas

@@ -238,11 +238,16 @@ pairs_by_members a b ms ns first second p = by (pairs_at a) (pairs_at b) refl re
 pub pairs_ascending : (json : Bytes) (ps : List Pair) → pairs_at json ≡ Some ps → AreInKeyOrder ps
 pairs_ascending json ps h = let is = pairs_found json ps h in is.ascending
 
-from_null : (null : Bool) (json : Bytes) (ps : List Pair) → (if null then Some [] else pairs_at json) ≡ Some ps → AreInKeyOrder ps
+-- What holds of the empty list and of each list that reads holds of what `null` or a list reads as.
+pub null_or_read : {A : Type 0} (P : List A → Type 0) (read : Option (List A)) (null : Bool) (xs : List A) → P [] → ((ys : List A) → read ≡ Some ys → P ys)
+    → (if null then Some [] else read) ≡ Some xs → P xs
+null_or_read P read true xs none each h = let e : [] ≡ xs = cc (h) in subst P e none
+null_or_read P read false xs none each h = each xs h
+
+pub none_in_order : AreInKeyOrder []
 unfolding IsStrictlySortedBy
-from_null true json ps h = let e : [] ≡ ps = cc (h) in subst AreInKeyOrder e tt
-from_null false json ps h = pairs_ascending json ps h
+none_in_order = tt
 
 -- Metadata that is read is in byte order of its keys.
 pub metadata_ascends : (json : Bytes) (ps : List Pair) → metadata_at json ≡ Some ps → AreInKeyOrder ps
-metadata_ascends json ps h = from_null (bytes_eq json (codes "null")) json ps h
+metadata_ascends json ps h = null_or_read AreInKeyOrder (pairs_at json) (bytes_eq json (codes "null")) ps none_in_order (pairs_ascending json) h

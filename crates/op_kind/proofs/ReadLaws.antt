@@ -2,7 +2,6 @@
 use Rattle.std.proofs.Common.{◌≡◌, ◌≤◌, ◌<◌, ◌^◌, ◌-◌, ◌++◌, refl, subst, ℕ, List, [], ◌∷◌, Bool, true, false, Option, None, Some, map, leb-true}
 use Rattle.std.specs.Prelude.{option_and_then, All, IfSome, nat_le, codes, if◌then◌else◌}
 use Rattle.std.specs.Str.{IsUtf8, is_utf8, bytes_eq}
-use Rattle.std.specs.List.Sorted.{IsStrictlySortedBy}
 use Rattle.std.proofs.lemmas.Str.{IsUtf8-from_is_utf8}
 use Rattle.std.proofs.lemmas.List.Elements.{All-nil, All-cons, All-head, All-tail}
 use Rattle.std.proofs.lemmas.List.Sorted.{All-permutation}
@@ -27,7 +26,7 @@ use Rattle.op_kind.specs.Written.{EachUtf8}
 use Rattle.op_kind.specs.declared.place.Place.{Place}
 use Rattle.op_kind.specs.declared.place.Common.{Common}
 use Rattle.op_kind.specs.declared.place.Pair.{Pair}
-use Rattle.op_kind.proofs.PairLemmas.{pairs_found, metadata_ascends}
+use Rattle.op_kind.proofs.PairLemmas.{pairs_found, null_or_read, none_in_order, metadata_ascends}
 
 then_some : {A B : Type 0} (f : A → Option B) (o : Option A) (b : B) → option_and_then f o ≡ Some b → (a : A) × (o ≡ Some a) × (f a ≡ Some b)
 then_some f None b h = absurd (cc (h))
@@ -86,13 +85,9 @@ elements_are_utf8 : (json : List ℕ) (ts : List (List ℕ)) → elements_at jso
 unfolding elements_at
 elements_are_utf8 json ts h = let s = then_some (texts_from []) (elements_of json) ts h in each_from [] s.0 ts tt s.2
 
-null_or_elements : (null : Bool) (json : List ℕ) (ts : List (List ℕ)) → (if null then Some [] else elements_at json) ≡ Some ts → EachUtf8 ts
-null_or_elements true json ts h = let e : [] ≡ ts = cc (h) in subst EachUtf8 e tt
-null_or_elements false json ts h = elements_are_utf8 json ts h
-
 -- Texts that are read are UTF-8.
 pub texts_are_utf8 : (json : List ℕ) (ts : List (List ℕ)) → texts_at json ≡ Some ts → EachUtf8 ts
-texts_are_utf8 json ts h = null_or_elements (bytes_eq json (codes "null")) json ts h
+texts_are_utf8 json ts h = null_or_read EachUtf8 (elements_at json) (bytes_eq json (codes "null")) ts tt (elements_are_utf8 json) h
 
 -- ---- pairs
 
@@ -120,13 +115,9 @@ pairs_are_utf8 json ps h =
     let is = pairs_found json ps h in
     each_pair ps (All-permutation BothUtf8 _ _ is.same (members_utf8 is.members))
 
-null_or_pairs : (null : Bool) (json : List ℕ) (ps : List Pair) → (if null then Some [] else pairs_at json) ≡ Some ps → EachPairUtf8 ps
-null_or_pairs true json ps h = let e : [] ≡ ps = cc (h) in subst EachPairUtf8 e tt
-null_or_pairs false json ps h = pairs_are_utf8 json ps h
-
 -- Metadata that is read is UTF-8.
 pub metadata_is_utf8 : (json : List ℕ) (ps : List Pair) → metadata_at json ≡ Some ps → EachPairUtf8 ps
-metadata_is_utf8 json ps h = null_or_pairs (bytes_eq json (codes "null")) json ps h
+metadata_is_utf8 json ps h = null_or_read EachPairUtf8 (pairs_at json) (bytes_eq json (codes "null")) ps tt (pairs_are_utf8 json) h
 
 -- ---- common parts
 
@@ -156,10 +147,6 @@ four_are (Some k) (Some t) (Some n) (Some m) x h =
     let e : record { kind = k; time = t; nonce = n; metadata = m } ≡ x = cc (h) in
     subst (AllFour (Some k) (Some t) (Some n) (Some m)) e (record { kind = refl; time = refl; nonce = refl; metadata = refl })
 
-empty_order : AreInKeyOrder []
-unfolding IsStrictlySortedBy
-empty_order = tt
-
 parts_within : (p : Place) (fs : Fields) (x : Parts) → parts_of fs ≡ Some x → IsWithinBounds (at_place p x)
 unfolding parts_of kind_of time_of nonce_of metadata_of
 parts_within p fs x h =
@@ -168,7 +155,7 @@ parts_within p fs x h =
       kind = the_value decimal_of (λ n. n < 2 ^ 64) decimal_is_below (values_of (codes "type") fs) x.kind four.kind;
       time = the_value time_at (λ n. n ≤ 2 ^ 63 - 1) time_is_low (values_of (codes "timestamp") fs) x.time four.time;
       nonce = the_value nonce_in IsNonce nonce_is_one (values_of (codes "nonce") fs) x.nonce four.nonce;
-      order = value_or_absent [] metadata_at AreInKeyOrder empty_order metadata_ascends (values_of (codes "metadata") fs) x.metadata four.metadata;
+      order = value_or_absent [] metadata_at AreInKeyOrder none_in_order metadata_ascends (values_of (codes "metadata") fs) x.metadata four.metadata;
       texts = value_or_absent [] metadata_at EachPairUtf8 tt metadata_is_utf8 (values_of (codes "metadata") fs) x.metadata four.metadata;
     }
 

@@ -13,6 +13,7 @@ use Rattle.json_span.proofs.ValueLaws.{deeper}
 use Rattle.op_kind.specs.Forms.{texts_from, elements_at, texts_at}
 use Rattle.op_kind.specs.QuotedLaws.{quoted_is_value, quoted_reads}
 use Rattle.op_kind.specs.Written.{EachUtf8, IsWritable, texts_text}
+use Rattle.op_kind.specs.WritingLaws.{comma}
 
 all_read : (before ts : List (List ℕ)) → EachUtf8 ts → texts_from before (map quoted ts) ≡ Some (before ++ ts)
 all_read before [] each = ap Some (sym (append-nil before))
@@ -39,9 +40,6 @@ texts_are_value ts = array_value 0 (map quoted ts) (all_values 0 ts)
 
 closed : IsUtf8 (93 ∷ [])
 closed = IsUtf8-are_ascii (93 ∷ []) refl
-
-comma : IsUtf8 (44 ∷ [])
-comma = IsUtf8-are_ascii (44 ∷ []) refl
 
 commas_utf8 : (ts : List (List ℕ)) → EachUtf8 ts → IsUtf8 (behind_commas (map quoted ts))
 commas_utf8 [] each = IsUtf8-nil

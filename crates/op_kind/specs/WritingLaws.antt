@@ -86,7 +86,8 @@ fields_read depth fs low each =
     ap (option_map fields_of) (members_joined (map named fs) (each_member depth 100 fs low each))
     ∙ ap Some (names_read depth fs each)
 
-comma : IsUtf8 (44 ∷ [])
+-- A comma is UTF-8.
+pub comma : IsUtf8 (44 ∷ [])
 comma = IsUtf8-are_ascii (44 ∷ []) refl
 
 colon : IsUtf8 (58 ∷ [])

@@ -1,5 +1,5 @@
 //! Laws of the definitions that the contracts cite. No call of them does anything.
-ghost use Rattle.std.specs.Prelude.{◌≡◌, ◌≤◌, ◌<◌, ◌-◌, ◌^◌, ℕ, List, Option, Some, None, decimal};
+ghost use Rattle.std.specs.Prelude.{◌≡◌, ◌≢◌, ◌≤◌, ◌<◌, ◌-◌, ◌^◌, ℕ, List, Option, Some, None, decimal};
 ghost use Rattle.std.specs.List.{Contains};
 ghost use Rattle.std.specs.List.Sorted.{IsPermutation};
 ghost use Rattle.std.specs.Str.{IsUtf8};
@@ -8,9 +8,11 @@ ghost use Rattle.gb_text.specs.Decimal.{decimal_of};
 ghost use Rattle.gb_text.specs.Digits.{IsId};
 ghost use Rattle.gb_text.specs.declared.id.Id.{Id as IdValue};
 ghost use Rattle.json.specs.Print.{quoted};
+ghost use Rattle.json_span.specs.Grammar.{IsValueText};
 ghost use Rattle.json_span.specs.Parts.{members_of};
 ghost use Rattle.op_kind.specs.Bounds.{IsWithinBounds};
 ghost use Rattle.op_kind.specs.Common.{common_at, time_at, nonce_in, metadata_at, CommonFault};
+ghost use Rattle.op_kind.specs.Fold.{state_from, row_from};
 ghost use Rattle.op_kind.specs.Forms.{id_at, texts_at, FaultOfOne, FaultOfOptional};
 ghost use Rattle.op_kind.specs.Members.{Fields, text_at, fields_at, only_value, value_or};
 ghost use Rattle.op_kind.specs.Metadata.{pairs_at};
@@ -23,6 +25,8 @@ ghost use Rattle.op_kind.specs.declared.fault.OpFault.TheVariants.{Memory, BadMe
 ghost use Rattle.op_kind.specs.declared.place.Place.{Place as PlaceValue};
 ghost use Rattle.op_kind.specs.declared.place.Common.{Common as CommonValue};
 ghost use Rattle.op_kind.specs.declared.place.Pair.{Pair as PairValue};
+
+use crate::OpKind;
 
 /// A text has a common part exactly where none of its faults holds, and want of memory is none of
 /// them. The common part has the place that it is read at, and depends on it in nothing else.
@@ -124,4 +128,27 @@ pub fn written_members_read_back()
     ensures members { (fields : Fields) → EachWritable 98 fields
         → fields_at (fields_text fields) ≡ Some fields }
     ensures text { (fields : Fields) → EachWritable 98 fields → IsOpText (fields_text fields) }
+{}
+
+/// What every kind keeps, by the laws of a kind alone. What was read of a text that a pack may hold is
+/// written and read again; what is written is read at any place where the operation may stand; a text
+/// is no operation exactly where it has a fault; and the row of the last state is the last row.
+pub fn kinds_read_what_they_write<K: OpKind>()
+    ensures again { (place : PlaceValue) (text : List ℕ) (op : K) → IsUtf8 text → IsValueText 99 text
+        → K.meaning.read_at place text ≡ Some op
+        → K.meaning.read_at place (K.meaning.written op) ≡ Some op }
+    ensures carried { (here there : PlaceValue) (op : K) → K.meaning.KeepsRules op
+        → K.meaning.Fits there op
+        → K.meaning.read_at there (K.meaning.written (K.meaning.placed here op))
+        ≡ Some (K.meaning.placed there op) }
+    ensures placed { (place : PlaceValue) (op : K) → K.meaning.common_of (K.meaning.placed place op)
+        ≡ record (K.meaning.common_of op) { place = place } }
+    ensures text { (op : K) → K.meaning.KeepsRules op → IsOpText (K.meaning.written op) }
+    ensures refused { (place : PlaceValue) (text : List ℕ) (fault : FaultValue)
+        → K.meaning.HasFault text fault → K.meaning.read_at place text ≡ None }
+    ensures cause { (place : PlaceValue) (text : List ℕ) → K.meaning.read_at place text ≡ None
+        → (fault : FaultValue) × K.meaning.HasFault text fault × (fault ≢ Memory) }
+    ensures rows { (state : K.State) (ops : List K)
+        → K.meaning.row_of (state_from K.meaning state ops)
+        ≡ row_from K.meaning (K.meaning.row_of state) ops }
 {}

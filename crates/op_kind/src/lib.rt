@@ -19,9 +19,9 @@ pub use fault::OpFault;
 pub use forms::{decimal_in, id_in, optional_text_in, pairs_in, text_in, texts_in};
 pub use kind::OpKind;
 pub use laws::{
-    common_part_or_fault, member_value_or_fault, pairs_are_in_key_order,
-    read_values_are_within_bounds, written_members_read_back, written_values_are_values,
-    written_values_read_back,
+    common_part_or_fault, kinds_read_what_they_write, member_value_or_fault,
+    pairs_are_in_key_order, read_values_are_within_bounds, written_members_read_back,
+    written_values_are_values, written_values_read_back,
 };
 pub use members::{Field, find, read_fields, read_text};
 pub use metadata::read_pairs;
