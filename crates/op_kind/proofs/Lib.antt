@@ -1,3 +1,8 @@
 mod TextLemmas
 mod FieldLemmas
 mod AnswerLemmas
+pub mod SortedLemmas
+pub mod PairLemmas
+pub mod PairTexts
+pub mod ReadLaws
+pub mod KindLemmas

@@ -1,11 +1,14 @@
 pub mod Answers
 pub mod Members
 pub mod Nonces
+pub mod NonceLaws
 pub mod Metadata
 pub mod Common
 pub mod CommonLaws
 pub mod Forms
 pub mod Written
+pub mod Pairs
+pub mod Bounds
 pub mod QuotedLaws
 pub mod WritingLaws
 pub mod ListLaws

@@ -1,5 +1,5 @@
 -- Nonces, and their texts.
-use Rattle.std.specs.Prelude.{ℕ, ◌≤◌, ◌&&◌, nat_le, List, length, Option, Some, None, option_and_then, if◌then◌else◌}
+use Rattle.std.specs.Prelude.{ℕ, ◌≤◌, ◌&&◌, nat_le, nat_lt, Bool, true, List, [], ◌∷◌, length, Option, Some, None, option_and_then, if◌then◌else◌}
 use Rattle.std.specs.Result.{result_ok}
 use Rattle.base64.specs.Engines.{standard}
 use Rattle.base64.specs.GeneralPurpose.{decode_of, IsBytes}
@@ -10,9 +10,14 @@ pub record IsNonce (n : List ℕ) : Type 0 where
   pub most : length n ≤ 64
   pub bytes : IsBytes n
 
+-- each number is a byte
+abbrev pub are_bytes : List ℕ → Bool
+are_bytes [] = true
+are_bytes (b ∷ bs) = nat_lt b 256 && are_bytes bs
+
 -- the bytes, where there are 20 to 64
 abbrev pub nonce_of_bytes : List ℕ → Option (List ℕ)
-nonce_of_bytes bytes = if nat_le 20 (length bytes) && nat_le (length bytes) 64 then Some bytes else None
+nonce_of_bytes bytes = if nat_le 20 (length bytes) && nat_le (length bytes) 64 && are_bytes bytes then Some bytes else None
 
 -- The nonce of a text: standard base64 with padding of 20 to 64 bytes (RFC 4648, section 4).
 unfoldable pub nonce_at : List ℕ → Option (List ℕ)

@@ -1,8 +1,7 @@
 -- What members are written as reads back, and is the text of an operation.
-use Rattle.std.proofs.Common.{◌≡◌, ◌≤◌, ◌<◌, ◌^◌, ◌-◌, ◌∙◌, ◌&&◌, refl, ap, List, [], ◌∷◌, ℕ, Bool, true, Some, None, map, length, arith, le-leb}
-use Rattle.std.specs.Prelude.{option_and_then, decimal, All, nat_le, nat_lt, if◌then◌else◌}
+use Rattle.std.proofs.Common.{◌≡◌, ◌≤◌, ◌<◌, ◌^◌, ◌-◌, ◌∙◌, ◌&&◌, refl, ap, List, [], ◌∷◌, ℕ, Bool, true, Some, None, map, arith, le-leb}
+use Rattle.std.specs.Prelude.{option_and_then, decimal, All, nat_lt, if◌then◌else◌}
 use Rattle.std.specs.Option.{option_map}
-use Rattle.std.specs.Result.{result_ok}
 use Rattle.std.specs.Str.{IsUtf8, IsAscii}
 use Rattle.std.proofs.lemmas.Bool.{and_parts, ltb-true}
 use Rattle.std.proofs.lemmas.Str.Ascii.{IsAscii-nil, IsAscii-cons}
@@ -27,7 +26,8 @@ use Rattle.json_span.proofs.ValueLaws.{deeper, decimal_value}
 use Rattle.op_kind.specs.Common.{within_limit, time_at, nonce_in}
 use Rattle.op_kind.specs.Forms.{id_at}
 use Rattle.op_kind.specs.Members.{Fields, with_member, fields_of, fields_at}
-use Rattle.op_kind.specs.Nonces.{IsNonce, nonce_at, nonce_of_bytes}
+use Rattle.op_kind.specs.Nonces.{IsNonce, nonce_at}
+use Rattle.op_kind.specs.NonceLaws.{decoded_nonce}
 use Rattle.op_kind.specs.OpText.{IsOpText}
 use Rattle.op_kind.specs.QuotedLaws.{quoted_is_string, quoted_is_value, quoted_reads}
 use Rattle.op_kind.specs.Written.{named, fields_text, nonce_text, IsWritable, EachWritable}
@@ -56,11 +56,7 @@ encoded_utf8 : (n : List ℕ) → IsUtf8 (encode_of standard n)
 encoded_utf8 n = IsUtf8-from_ascii _ (IsAscii-encode_of standard n)
 
 decoded : (n : List ℕ) → IsNonce n → nonce_at (encode_of standard n) ≡ Some n
-unfolding nonce_at
-decoded n is =
-    ap (λ r. option_and_then nonce_of_bytes (result_ok r)) (decode_of-encode_of standard n (search arith) is.bytes)
-    ∙ ap (λ b. if b && nat_le (length n) 64 then Some n else None) (le-leb 20 (length n) is.least)
-    ∙ ap (λ b. if true && b then Some n else None) (le-leb (length n) 64 is.most)
+decoded n is = decoded_nonce (encode_of standard n) n (decode_of-encode_of standard n (search arith) is.bytes) is.least is.most is.bytes
 
 -- The text of a nonce reads as the nonce.
 pub nonce_reads : (n : List ℕ) → IsNonce n → nonce_in (nonce_text n) ≡ Some n
@@ -78,7 +74,8 @@ names_read depth (f ∷ fs) each =
     ap (λ name. with_member name f.1 (fields_of (map named fs))) (quoted_reads f.0 each.0.name)
     ∙ ap (λ rest. (f.0, f.1) ∷ rest) (names_read depth fs each.1)
 
-each_member : (low high : ℕ) (fs : Fields) → low ≤ high → EachWritable low fs → All (IsMemberOf high) (map named fs)
+-- Members that are written are those of an object.
+pub each_member : (low high : ℕ) (fs : Fields) → low ≤ high → EachWritable low fs → All (IsMemberOf high) (map named fs)
 each_member low high [] le each = All-nil (IsMemberOf high)
 each_member low high (f ∷ fs) le each =
     All-cons (IsMemberOf high) (named f) (map named fs) (quoted_is_string f.0, deeper low high f.1 le each.0.value) (each_member low high fs le each.1)
@@ -89,7 +86,8 @@ fields_read depth fs low each =
     ap (option_map fields_of) (members_joined (map named fs) (each_member depth 100 fs low each))
     ∙ ap Some (names_read depth fs each)
 
-comma : IsUtf8 (44 ∷ [])
+-- A comma is UTF-8.
+pub comma : IsUtf8 (44 ∷ [])
 comma = IsUtf8-are_ascii (44 ∷ []) refl
 
 colon : IsUtf8 (58 ∷ [])
@@ -113,7 +111,8 @@ joined_utf8 : (depth : ℕ) (fs : Fields) → EachWritable depth fs → IsUtf8 (
 joined_utf8 depth [] each = IsUtf8-are_ascii [] refl
 joined_utf8 depth (f ∷ fs) each = IsUtf8-append _ _ (member_utf8 depth f each.0) (commas_utf8 depth fs each.1)
 
-fields_utf8 : (depth : ℕ) (fs : Fields) → EachWritable depth fs → IsUtf8 (fields_text fs)
+-- What is written of members is UTF-8.
+pub fields_utf8 : (depth : ℕ) (fs : Fields) → EachWritable depth fs → IsUtf8 (fields_text fs)
 fields_utf8 depth fs each = IsUtf8-append (123 ∷ []) _ opening (IsUtf8-append _ _ (joined_utf8 depth fs each) closing)
 
 -- What is written of members with at most 98 brackets open is the text of an operation.

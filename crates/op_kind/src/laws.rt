@@ -1,21 +1,32 @@
 //! Laws of the definitions that the contracts cite. No call of them does anything.
-ghost use Rattle.std.specs.Prelude.{◌≡◌, ◌≤◌, ◌<◌, ◌-◌, ◌^◌, ℕ, List, Some, None, decimal};
+ghost use Rattle.std.specs.Prelude.{◌≡◌, ◌≢◌, ◌≤◌, ◌<◌, ◌-◌, ◌^◌, ℕ, List, Option, Some, None, decimal};
+ghost use Rattle.std.specs.List.{Contains};
+ghost use Rattle.std.specs.List.Sorted.{IsPermutation};
 ghost use Rattle.std.specs.Str.{IsUtf8};
 ghost use Rattle.hex.specs.Hex.{encode_lower};
 ghost use Rattle.gb_text.specs.Decimal.{decimal_of};
 ghost use Rattle.gb_text.specs.Digits.{IsId};
 ghost use Rattle.gb_text.specs.declared.id.Id.{Id as IdValue};
 ghost use Rattle.json.specs.Print.{quoted};
-ghost use Rattle.op_kind.specs.Common.{common_at, time_at, nonce_in, CommonFault};
-ghost use Rattle.op_kind.specs.Forms.{id_at, texts_at};
-ghost use Rattle.op_kind.specs.Members.{Fields, text_at, fields_at};
+ghost use Rattle.json_span.specs.Grammar.{IsValueText};
+ghost use Rattle.json_span.specs.Parts.{members_of};
+ghost use Rattle.op_kind.specs.Bounds.{IsWithinBounds};
+ghost use Rattle.op_kind.specs.Common.{common_at, time_at, nonce_in, metadata_at, CommonFault};
+ghost use Rattle.op_kind.specs.Fold.{state_from, row_from};
+ghost use Rattle.op_kind.specs.Forms.{id_at, texts_at, FaultOfOne, FaultOfOptional};
+ghost use Rattle.op_kind.specs.Members.{Fields, text_at, fields_at, only_value, value_or};
+ghost use Rattle.op_kind.specs.Metadata.{pairs_at};
 ghost use Rattle.op_kind.specs.Nonces.{IsNonce};
 ghost use Rattle.op_kind.specs.OpText.{IsOpText};
-ghost use Rattle.op_kind.specs.Written.{fields_text, nonce_text, texts_text, EachUtf8, EachWritable};
+ghost use Rattle.op_kind.specs.Pairs.{pairs_text, AreInKeyOrder, ArePairsOf, EachPairUtf8};
+ghost use Rattle.op_kind.specs.Written.{fields_text, nonce_text, texts_text, EachUtf8, IsWritable, EachWritable};
 ghost use Rattle.op_kind.specs.declared.fault.OpFault.{OpFault as FaultValue};
-ghost use Rattle.op_kind.specs.declared.fault.OpFault.TheVariants.{Memory};
+ghost use Rattle.op_kind.specs.declared.fault.OpFault.TheVariants.{Memory, BadMember};
 ghost use Rattle.op_kind.specs.declared.place.Place.{Place as PlaceValue};
 ghost use Rattle.op_kind.specs.declared.place.Common.{Common as CommonValue};
+ghost use Rattle.op_kind.specs.declared.place.Pair.{Pair as PairValue};
+
+use crate::OpKind;
 
 /// A text has a common part exactly where none of its faults holds, and want of memory is none of
 /// them. The common part has the place that it is read at, and depends on it in nothing else.
@@ -32,6 +43,21 @@ pub fn common_part_or_fault()
         → common_at there text ≡ Some (record common { place = there }) }
 {}
 
+/// A member by its form has a value exactly where its fault does not hold: the member that must stand,
+/// and the one that may be absent.
+pub fn member_value_or_fault<A>()
+    ensures lacking { (number : ℕ) (read : List ℕ → Option A) (values : List (List ℕ))
+        (fault : FaultValue) → FaultOfOne number read values fault → only_value read values ≡ None }
+    ensures one { (number : ℕ) (read : List ℕ → Option A) (values : List (List ℕ))
+        → only_value read values ≡ None → FaultOfOne number read values (BadMember number) }
+    ensures broken { (absent : A) (number : ℕ) (read : List ℕ → Option A) (values : List (List ℕ))
+        (fault : FaultValue) → FaultOfOptional number read values fault
+        → value_or absent read values ≡ None }
+    ensures optional { (absent : A) (number : ℕ) (read : List ℕ → Option A)
+        (values : List (List ℕ)) → value_or absent read values ≡ None
+        → FaultOfOptional number read values (BadMember number) }
+{}
+
 /// What a value is written as reads as the value.
 pub fn written_values_read_back()
     ensures texts { (text : List ℕ) → IsUtf8 text → text_at (quoted text) ≡ Some text }
@@ -40,6 +66,60 @@ pub fn written_values_read_back()
     ensures nonces { (n : List ℕ) → IsNonce n → nonce_in (nonce_text n) ≡ Some n }
     ensures ids { (id : IdValue) → IsId id → id_at (quoted (encode_lower id.bytes)) ≡ Some id }
     ensures lists { (texts : List (List ℕ)) → EachUtf8 texts → texts_at (texts_text texts) ≡ Some texts }
+    ensures pairs { (pairs : List PairValue) → AreInKeyOrder pairs → EachPairUtf8 pairs
+        → pairs_at (pairs_text pairs) ≡ Some pairs }
+    ensures metadata { (pairs : List PairValue) → AreInKeyOrder pairs → EachPairUtf8 pairs
+        → metadata_at (pairs_text pairs) ≡ Some pairs }
+{}
+
+/// What a value is written as can be the value of a member: it is UTF-8 and a value text. A text, a
+/// number, a nonce and an id have no bracket, a list of texts and an object of pairs have one.
+pub fn written_values_are_values()
+    ensures texts { (depth : ℕ) (name text : List ℕ) → IsUtf8 name → IsUtf8 text
+        → IsWritable depth (name, quoted text) }
+    ensures decimals { (depth : ℕ) (name : List ℕ) (n : ℕ) → IsUtf8 name → n < 2 ^ 64
+        → IsWritable depth (name, decimal n) }
+    ensures nonces { (depth : ℕ) (name n : List ℕ) → IsUtf8 name
+        → IsWritable depth (name, nonce_text n) }
+    ensures ids { (depth : ℕ) (name : List ℕ) (id : IdValue) → IsUtf8 name
+        → IsWritable depth (name, quoted (encode_lower id.bytes)) }
+    ensures lists { (depth : ℕ) (name : List ℕ) (texts : List (List ℕ)) → 1 ≤ depth → IsUtf8 name
+        → EachUtf8 texts → IsWritable depth (name, texts_text texts) }
+    ensures pairs { (depth : ℕ) (name : List ℕ) (pairs : List PairValue) → 1 ≤ depth → IsUtf8 name
+        → EachPairUtf8 pairs → IsWritable depth (name, pairs_text pairs) }
+{}
+
+/// The pairs that an object is read as are those of its members, in byte order of their keys, and no
+/// key stands there twice. So they depend on which members there are, and not on their order.
+pub fn pairs_are_in_key_order()
+    ensures found { (json : List ℕ) (pairs : List PairValue) → pairs_at json ≡ Some pairs
+        → ArePairsOf json pairs }
+    ensures only { (json : List ℕ) (pairs : List PairValue) → ArePairsOf json pairs
+        → pairs_at json ≡ Some pairs }
+    ensures same { (pairs others : List PairValue) → AreInKeyOrder pairs → AreInKeyOrder others
+        → ((pair : PairValue) → Contains pairs pair → Contains others pair)
+        → ((pair : PairValue) → Contains others pair → Contains pairs pair) → pairs ≡ others }
+    ensures moved { (json other : List ℕ) (members others : List (List ℕ × List ℕ))
+        → members_of json ≡ Some members → members_of other ≡ Some others
+        → IsPermutation members others → pairs_at json ≡ pairs_at other }
+{}
+
+/// What a value reads as can be written again: texts are UTF-8, numbers within their limits, and pairs
+/// in byte order of their keys. So is a common part.
+pub fn read_values_are_within_bounds()
+    ensures texts { (json text : List ℕ) → text_at json ≡ Some text → IsUtf8 text }
+    ensures decimals { (json : List ℕ) (n : ℕ) → decimal_of json ≡ Some n → n < 2 ^ 64 }
+    ensures times { (json : List ℕ) (n : ℕ) → time_at json ≡ Some n → n ≤ 2 ^ 63 - 1 }
+    ensures nonces { (json n : List ℕ) → nonce_in json ≡ Some n → IsNonce n }
+    ensures ids { (json : List ℕ) (id : IdValue) → id_at json ≡ Some id → IsId id }
+    ensures lists { (json : List ℕ) (texts : List (List ℕ)) → texts_at json ≡ Some texts
+        → EachUtf8 texts }
+    ensures pairs { (json : List ℕ) (pairs : List PairValue) → pairs_at json ≡ Some pairs
+        → AreInKeyOrder pairs × EachPairUtf8 pairs }
+    ensures metadata { (json : List ℕ) (pairs : List PairValue) → metadata_at json ≡ Some pairs
+        → AreInKeyOrder pairs × EachPairUtf8 pairs }
+    ensures common { (place : PlaceValue) (text : List ℕ) (common : CommonValue)
+        → common_at place text ≡ Some common → IsWithinBounds common }
 {}
 
 /// The members that are written are those that are read, and what is written of them is the text of an
@@ -48,4 +128,27 @@ pub fn written_members_read_back()
     ensures members { (fields : Fields) → EachWritable 98 fields
         → fields_at (fields_text fields) ≡ Some fields }
     ensures text { (fields : Fields) → EachWritable 98 fields → IsOpText (fields_text fields) }
+{}
+
+/// What every kind keeps, by the laws of a kind alone. What was read of a text that a pack may hold is
+/// written and read again; what is written is read at any place where the operation may stand; a text
+/// is no operation exactly where it has a fault; and the row of the last state is the last row.
+pub fn kinds_read_what_they_write<K: OpKind>()
+    ensures again { (place : PlaceValue) (text : List ℕ) (op : K) → IsUtf8 text → IsValueText 99 text
+        → K.meaning.read_at place text ≡ Some op
+        → K.meaning.read_at place (K.meaning.written op) ≡ Some op }
+    ensures carried { (here there : PlaceValue) (op : K) → K.meaning.KeepsRules op
+        → K.meaning.Fits there op
+        → K.meaning.read_at there (K.meaning.written (K.meaning.placed here op))
+        ≡ Some (K.meaning.placed there op) }
+    ensures placed { (place : PlaceValue) (op : K) → K.meaning.common_of (K.meaning.placed place op)
+        ≡ record (K.meaning.common_of op) { place = place } }
+    ensures text { (op : K) → K.meaning.KeepsRules op → IsOpText (K.meaning.written op) }
+    ensures refused { (place : PlaceValue) (text : List ℕ) (fault : FaultValue)
+        → K.meaning.HasFault text fault → K.meaning.read_at place text ≡ None }
+    ensures cause { (place : PlaceValue) (text : List ℕ) → K.meaning.read_at place text ≡ None
+        → (fault : FaultValue) × K.meaning.HasFault text fault × (fault ≢ Memory) }
+    ensures rows { (state : K.State) (ops : List K)
+        → K.meaning.row_of (state_from K.meaning state ops)
+        ≡ row_from K.meaning (K.meaning.row_of state) ops }
 {}

@@ -18,12 +18,18 @@ pub use common::read_common;
 pub use fault::OpFault;
 pub use forms::{decimal_in, id_in, optional_text_in, pairs_in, text_in, texts_in};
 pub use kind::OpKind;
-pub use laws::{common_part_or_fault, written_members_read_back, written_values_read_back};
+pub use laws::{
+    common_part_or_fault, kinds_read_what_they_write, member_value_or_fault,
+    pairs_are_in_key_order, read_values_are_within_bounds, written_members_read_back,
+    written_values_are_values, written_values_read_back,
+};
 pub use members::{Field, find, read_fields, read_text};
 pub use metadata::read_pairs;
 pub use nonce::Nonce;
 pub use place::{Common, Pair, Place};
-pub use written::{Written, print_decimal, quote, quote_nonce, write_members};
+pub use written::{
+    Written, print_decimal, quote, quote_nonce, quote_pairs, quote_texts, write_members,
+};
 
 #[cfg(test)]
 mod tests;

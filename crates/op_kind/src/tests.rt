@@ -5,9 +5,10 @@ ghost use Rattle.op_kind.specs.OpText.{IsOpText};
 
 use crate::{
     AnyOp, Nonce, OpFault, OpKind, Place, Written, decimal_in, id_in, optional_text_in, pairs_in,
-    print_decimal, quote, quote_nonce, read_common, read_fields, text_in, texts_in, write_members,
+    print_decimal, quote, quote_nonce, quote_pairs, quote_texts, read_common, read_fields,
+    read_pairs, text_in, texts_in, write_members,
 };
-use gb_text::{Bytes, Id, Memory};
+use gb_text::{Bytes, Id, Memory, Text};
 use std::alloc::Global;
 use std::test::Fail;
 
@@ -283,5 +284,39 @@ fn members_are_written_without_white_space(rt: HostRuntime) -> Result<(), Fail> 
         wanted.as_slice()
     );
     assert_eq!(rt; write_members(alloc, &[])?.as_slice(), b"{}".as_slice());
+    Ok(())
+}
+
+#[test]
+fn members_of_another_form_are_refused(rt: HostRuntime) -> Result<(), Fail> {
+    let alloc = rt.alloc();
+    let text =
+        b"{\"new_metadata\":null,\"target\":\"01\",\"added\":[\"x\",1],\"was\":null,\"status\":\"1\"}";
+    let fields = read_fields(alloc, text)?.ok_or("an object")?;
+    let faults = [
+        pairs_in(alloc, &fields, "new_metadata", 13).err(),
+        id_in(alloc, &fields, "target", 12).err(),
+        texts_in(alloc, &fields, "added", 10).err(),
+        optional_text_in(alloc, &fields, "was", 6).err(),
+        decimal_in(&fields, "status", 9).err(),
+    ];
+    for (fault, number) in faults.iter().zip([13, 12, 10, 6, 9]) {
+        assert!(rt; *fault == Some(OpFault::BadMember(number)));
+    }
+    Ok(())
+}
+
+#[test]
+fn pairs_and_lists_are_written_in_their_order(rt: HostRuntime) -> Result<(), Fail> {
+    let alloc = rt.alloc();
+    let pairs = read_pairs(alloc, b"{ \"b\": \"\\u000a\", \"\\u0061\": \"\" }")?.ok_or("pairs")?;
+    assert_eq!(rt;
+        quote_pairs(alloc, pairs.as_slice())?.as_str(),
+        "{\"a\":\"\",\"b\":\"\\n\"}"
+    );
+    assert_eq!(rt; quote_pairs(alloc, &[])?.as_str(), "{}");
+    let texts = [Text::from_str(alloc, "x")?, Text::from_str(alloc, "\"")?];
+    assert_eq!(rt; quote_texts(alloc, &texts)?.as_str(), "[\"x\",\"\\\"\"]");
+    assert_eq!(rt; quote_texts(alloc, &[])?.as_str(), "[]");
     Ok(())
 }

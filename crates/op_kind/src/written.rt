@@ -1,10 +1,11 @@
 //! How members are written: an object's text without white space, each name in quotes.
-ghost use Rattle.std.specs.Prelude.{◌≡◌, ◌++◌, map, decimal, IfOk, OnOk};
+ghost use Rattle.std.specs.Prelude.{◌≡◌, ◌∷◌, [], ◌++◌, map, decimal, string_bytes, IfOk, OnOk};
 ghost use Rattle.json.specs.Print.{quoted};
 ghost use Rattle.json_span.specs.Joined.{behind_commas, member_text};
-ghost use Rattle.op_kind.specs.Written.{fields_text, nonce_text, named};
+ghost use Rattle.op_kind.specs.Pairs.{pairs_text};
+ghost use Rattle.op_kind.specs.Written.{fields_text, nonce_text, texts_text, named};
 
-use crate::Nonce;
+use crate::{Nonce, Pair};
 use base64::engine::general_purpose::STANDARD;
 use gb_text::{Bytes, Memory, Text};
 use serde_json::Value;
@@ -39,40 +40,96 @@ pub fn quote_nonce(alloc: Global, nonce: &Nonce) -> Result<Text, Memory>
     quote(alloc, text.as_str())
 }
 
-// Puts a member behind a text.
-fn add_member(alloc: Global, text: &mut Vec<u8>, member: &Written) -> Result<(), Memory>
-    ensures { OnOk result
-        (text.new.items ≡ text.old.items ++ member_text (named (member.now.name.now, member.now.value))) }
+// Puts a text in quotes behind another.
+fn add_quoted(alloc: Global, out: &mut String, text: &str) -> Result<(), Memory>
+    ensures { OnOk result (string_bytes out.new ≡ string_bytes out.old ++ quoted text.now) }
 {
-    let name = quote(alloc, member.name)?;
-    text.extend_from_slice(name.as_str().as_bytes())?;
-    text.push(b':')?;
-    text.extend_from_slice(member.value.as_str().as_bytes())?;
+    let text = quote(alloc, text)?;
+    out.push_str(text.as_str())?;
     Ok(())
+}
+
+// Puts further texts in quotes behind a text, a comma before each.
+fn add_texts(alloc: Global, out: &mut String, texts: &[Text]) -> Result<(), Memory>
+    ensures { OnOk result
+        (string_bytes out.new ≡ string_bytes out.old ++ behind_commas (map quoted texts.now)) }
+{
+    for text in texts {
+        out.push_str(",")?;
+        add_quoted(alloc, out, text.as_str())?;
+    }
+    Ok(())
+}
+
+/// The JSON array of these texts, in their order and without white space.
+pub fn quote_texts(alloc: Global, texts: &[Text]) -> Result<Text, Memory>
+    ensures { IfOk result (λ t. t ≡ texts_text texts.now) }
+{
+    let mut out = String::from_str(alloc, "[")?;
+    if let Some((first, rest)) = texts.split_first() {
+        add_quoted(alloc, &mut out, first.as_str())?;
+        add_texts(alloc, &mut out, rest)?;
+    }
+    out.push_str("]")?;
+    Ok(Text::from_string(out))
+}
+
+// Puts a member behind a text.
+fn add_member(alloc: Global, out: &mut String, member: &Written) -> Result<(), Memory>
+    ensures { OnOk result (string_bytes out.new
+        ≡ string_bytes out.old ++ member_text (named (member.now.name.now, member.now.value))) }
+{
+    add_quoted(alloc, out, member.name)?;
+    out.push_str(":")?;
+    out.push_str(member.value.as_str())?;
+    Ok(())
+}
+
+// Puts further members behind a text, a comma before each.
+fn add_rest(alloc: Global, out: &mut String, members: &[Written]) -> Result<(), Memory>
+    ensures { OnOk result (string_bytes out.new ≡ string_bytes out.old
+        ++ behind_commas (map member_text (map named (map (λ m. (m.name.now, m.value)) members.now)))) }
+{
+    for member in members {
+        out.push_str(",")?;
+        add_member(alloc, out, member)?;
+    }
+    Ok(())
+}
+
+// The text of an object with these members, in their order and without white space.
+fn join_members(alloc: Global, members: &[Written]) -> Result<String, Memory>
+    ensures { IfOk result
+        (λ s. string_bytes s ≡ fields_text (map (λ m. (m.name.now, m.value)) members.now)) }
+{
+    let mut out = String::from_str(alloc, "{")?;
+    if let Some((first, rest)) = members.split_first() {
+        add_member(alloc, &mut out, first)?;
+        add_rest(alloc, &mut out, rest)?;
+    }
+    out.push_str("}")?;
+    Ok(out)
 }
 
 /// The text of an object with these members, in their order and without white space.
 pub fn write_members(alloc: Global, members: &[Written]) -> Result<Bytes, Memory>
     ensures { IfOk result (λ b. b ≡ fields_text (map (λ m. (m.name.now, m.value)) members.now)) }
 {
-    let mut text = Vec::new(alloc);
-    text.push(b'{')?;
-    if let Some((first, rest)) = members.split_first() {
-        add_member(alloc, &mut text, first)?;
-        add_rest(alloc, &mut text, rest)?;
-    }
-    text.push(b'}')?;
-    Ok(Bytes::from_vec(text))
+    let text = join_members(alloc, members)?;
+    Ok(Bytes::from_vec(text.into_bytes()))
 }
 
-// Puts further members behind a text, a comma before each.
-fn add_rest(alloc: Global, text: &mut Vec<u8>, members: &[Written]) -> Result<(), Memory>
-    ensures { OnOk result (text.new.items ≡ text.old.items
-        ++ behind_commas (map member_text (map named (map (λ m. (m.name.now, m.value)) members.now)))) }
+/// The JSON object of these pairs, in their order and without white space: each key is a name, and its
+/// value a string.
+pub fn quote_pairs(alloc: Global, pairs: &[Pair]) -> Result<Text, Memory>
+    ensures { IfOk result (λ t. t ≡ pairs_text pairs.now) }
 {
-    for member in members {
-        text.push(b',')?;
-        add_member(alloc, text, member)?;
+    let mut members = Vec::new(alloc);
+    for pair in pairs {
+        members.push(Written {
+            name: pair.key.as_str(),
+            value: quote(alloc, pair.value.as_str())?,
+        })?;
     }
-    Ok(())
+    Ok(Text::from_string(join_members(alloc, &members)?))
 }
