@@ -35,7 +35,8 @@ fn rest_after<'a>(front: &[u8], entry: &'a Entry) -> Option<&'a [u8]>
 fn find_rest<'a>(front: &[u8], entries: &'a [Entry]) -> Option<Option<&'a [u8]>>
     ensures repeated { IfNone result (IsRepeated (rests_after front.now entries.now)) }
     ensures absent { IfSome result (λ o. IfNone o (rests_after front.now entries.now ≡ [])) }
-    ensures once { IfSome result (λ o. IfSome o (λ rest. rests_after front.now entries.now ≡ rest.now ∷ [])) }
+    ensures once { IfSome result (λ o. IfSome o
+        (λ rest. rests_after front.now entries.now ≡ rest.now ∷ [])) }
 {
     let mut found = None;
     for entry in entries {
@@ -184,7 +185,8 @@ pub fn tree_for(alloc: Global, edit: u64, create: Option<u64>, ops: &Name) -> Re
     requires edit { IsClock edit }
     requires create { ForSome create (λ clock. IsClock clock) }
     ensures tree { IfOk result (λ t. t ≡ tree_with edit create ops.now) }
-    ensures head { IfOk result (λ t. head_of t ≡ Some (record { version = 4; edit = edit; create = create; ops = ops.now })) }
+    ensures head { IfOk result (λ t. head_of t
+        ≡ Some (record { version = 4; edit = edit; create = create; ops = ops.now })) }
     ensures names { IfOk result (λ t. HasGoodNames t) }
 {
     make_tree(alloc, edit, create, ops)

@@ -36,7 +36,7 @@ fn hash_of(text: &[u8]) -> Id
 }
 
 // The operations that texts stand for, each at the place of its text.
-#[tactic(auto, using(crate::proofs::OpsLemmas::front_more, crate::proofs::OpsLemmas::no_front))]
+#[tactic(auto, using(crate::proofs::OpsLemmas::front_more, crate::proofs::OpsLemmas::no_front, crate::proofs::OpsLemmas::fault_at))]
 fn read_ops<K: OpKind>(
     alloc: Global,
     head: &TreeHead,
@@ -83,7 +83,8 @@ impl<K: OpKind> Pack<K> {
     pub fn read(alloc: Global, head: &TreeHead, text: &[u8]) -> Result<Pack<K>, PackFault>
         ensures answer { AnswersUnlessMemory (pack_at K.meaning head.now text.now)
             (TextFault K.meaning text.now) result }
-        ensures sound { IfOk result (λ _. (fault : FaultValue) → TextFault K.meaning text.now fault → ⊥) }
+        ensures sound { IfOk result
+            (λ _. (fault : FaultValue) → TextFault K.meaning text.now fault → ⊥) }
         ensures rules { IfOk result (λ pack. AllByRecursion K.meaning.KeepsRules pack.ops) }
     {
         Pack::parse(alloc, head, text)
@@ -114,7 +115,8 @@ impl<K: OpKind> Pack<K> {
     /// The pack's text: its author and its operations, without white space. The other fields do not
     /// matter.
     pub fn write(&self, alloc: Global) -> Result<Bytes, Memory>
-        ensures text { IfOk result (λ text. text ≡ pack_text K.meaning self.now.author self.now.ops) }
+        ensures text { IfOk result
+            (λ text. text ≡ pack_text K.meaning self.now.author self.now.ops) }
         ensures reads_back { (head : HeadValue) → length self.now.ops ≤ 4096
             → MayStand K.meaning head self.now.author self.now.ops
             → IfOk result (λ text. pack_at K.meaning head text
@@ -125,7 +127,8 @@ impl<K: OpKind> Pack<K> {
 
     #[tactic(auto, unfolding(crate::specs::Packs::pack_text))]
     fn print(&self, alloc: Global) -> Result<Bytes, Memory>
-        ensures text { IfOk result (λ text. text ≡ pack_text K.meaning self.now.author self.now.ops) }
+        ensures text { IfOk result
+            (λ text. text ≡ pack_text K.meaning self.now.author self.now.ops) }
         ensures author { IfOk result (λ _. IsId self.now.author) }
     {
         let mut text = Vec::new(alloc);
@@ -151,7 +154,8 @@ fn append_ops<K: OpKind>(alloc: Global, text: &mut Vec<u8>, ops: &[K]) -> Result
 
 // Puts further operations behind a text, a comma before each.
 fn append_rest<K: OpKind>(alloc: Global, text: &mut Vec<u8>, ops: &[K]) -> Result<(), Memory>
-    ensures { OnOk result (text.new.items ≡ text.old.items ++ behind_commas (map K.meaning.written ops.now)) }
+    ensures { OnOk result
+        (text.new.items ≡ text.old.items ++ behind_commas (map K.meaning.written ops.now)) }
 {
     for op in ops {
         text.push(b',')?;
