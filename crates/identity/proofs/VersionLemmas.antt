@@ -1,5 +1,5 @@
 -- What a text says as a version, both ways, and that what is written reads back.
-use Rattle.std.proofs.Common.{◌≡◌, ◌≤◌, ◌<◌, ◌^◌, ◌-◌, ◌∙◌, ◌||◌, ◌==◌, refl, sym, ap, List, [], ◌∷◌, ℕ, Bool, true, false, Some, None, Option, arith}
+use Rattle.std.proofs.Common.{◌≡◌, ◌≤◌, ◌^◌, ◌-◌, ◌∙◌, ◌||◌, ◌==◌, refl, sym, ap, List, [], ◌∷◌, ℕ, Bool, true, false, Some, None, Option, arith}
 use Rattle.std.specs.Prelude.{IsTrue, codes, option_and_then, if◌then◌else◌, not, Result, Ok, Err, IfOk}
 use Rattle.std.specs.Str.{IsUtf8, is_utf8}
 use Rattle.std.proofs.lemmas.Bool.{and_parts, eqb-true, or_left}
@@ -12,12 +12,13 @@ use Rattle.gb_text.specs.Rules.{is_control, is_line_text, is_title_text}
 use Rattle.json_span.specs.Joined.{IsMemberOf}
 use Rattle.json_span.proofs.JoinLaws.{object_value}
 use Rattle.json_span.proofs.ValueLaws.{deeper}
+use Rattle.op_kind.specs.Common.{nonce_of}
 use Rattle.op_kind.specs.Members.{Fields, text_at, fields_at, values_of, value_or}
 use Rattle.op_kind.specs.Nonces.{IsNonce}
 use Rattle.op_kind.specs.QuotedLaws.{quoted_reads}
 use Rattle.op_kind.specs.Written.{EachWritable}
 use Rattle.op_kind.specs.WritingLaws.{text_writable, decimal_writable, nonce_writable, decimal_reads, time_reads, nonce_reads, fields_read, text_of_operation}
-use Rattle.identity.specs.Version.{line_only, line_at, line_of, format_of, moment_of, nonce_of, keys_of, is_titled, IsVersionText, with_value, titled_only, said_by, version_in, version_of, person_name, version_fields, version_text_of, written_version}
+use Rattle.identity.specs.Version.{line_only, line_at, line_of, format_of, moment_of, keys_of, is_titled, IsVersionText, with_value, titled_only, said_by, version_in, version_of, person_name, version_fields, version_text_of, written_version}
 use Rattle.identity.specs.declared.version.Version.{Version}
 
 -- ---- one value after the other
@@ -113,9 +114,18 @@ is_version text v h =
     let object = some_before (fields_at text) version_in v utf8.1 in
     let s = said object.0 v object.2 in
     record {
-      utf8 = utf8.0; fields = object.0; object = object.1;
-      format = s.format; name = s.name; email = s.email; login = s.login; avatar_url = s.avatar_url;
-      time = s.time; nonce = s.nonce; keys = s.keys; titled = s.titled;
+      utf8 = utf8.0;
+      fields = object.0;
+      object = object.1;
+      format = s.format;
+      name = s.name;
+      email = s.email;
+      login = s.login;
+      avatar_url = s.avatar_url;
+      time = s.time;
+      nonce = s.nonce;
+      keys = s.keys;
+      titled = s.titled;
     }
 
 -- ---- what is written reads back
@@ -136,15 +146,25 @@ record AreWritten (name email nonce : List ℕ) (time : ℕ) : Type 0 where
   pub moment : time ≤ 2 ^ 63 - 1
 
 each_writable : (name email nonce : List ℕ) (time : ℕ) → AreWritten name email nonce time → EachWritable 98 (version_fields name email nonce time)
-each_writable name email nonce time are =
-    (text_writable 98 (codes "email") email (IsUtf8-are_ascii _ refl) are.email_utf8,
-    (text_writable 98 (codes "name") name (IsUtf8-are_ascii _ refl) are.name_utf8,
-    (nonce_writable 98 (codes "nonce") nonce (IsUtf8-are_ascii _ refl),
-    (record { name = IsUtf8-are_ascii _ refl; utf8 = IsUtf8-are_ascii _ refl; value = deeper 1 98 _ (omega arith) (object_value 0 [] (All-nil (IsMemberOf 0))) },
-    (decimal_writable 98 (codes "unix_time") time (IsUtf8-are_ascii _ refl) (omega (arith, are.moment)),
-    (decimal_writable 98 (codes "version") 2 (IsUtf8-are_ascii _ refl) (omega arith), tt))))))
+each_writable name email nonce time are = (
+  text_writable 98 (codes "email") email (IsUtf8-are_ascii _ refl) are.email_utf8,
+  (
+    text_writable 98 (codes "name") name (IsUtf8-are_ascii _ refl) are.name_utf8,
+    (
+      nonce_writable 98 (codes "nonce") nonce (IsUtf8-are_ascii _ refl),
+      (
+        record { name = IsUtf8-are_ascii _ refl; utf8 = IsUtf8-are_ascii _ refl; value = deeper 1 98 _ (omega arith) (object_value 0 [] (All-nil (IsMemberOf 0))) },
+        (
+          decimal_writable 98 (codes "unix_time") time (IsUtf8-are_ascii _ refl) (omega (arith, are.moment)),
+          (decimal_writable 98 (codes "version") 2 (IsUtf8-are_ascii _ refl) (omega arith), tt),
+        ),
+      ),
+    ),
+  ),
+)
 
 written_says : (name email nonce : List ℕ) (time : ℕ) → AreWritten name email nonce time → IsVersionText (version_text_of name email nonce time) (written_version name email nonce time)
+unfolding nonce_of
 written_says name email nonce time are =
     let each = each_writable name email nonce time are in
     record {

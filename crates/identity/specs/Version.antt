@@ -8,7 +8,7 @@ use Rattle.gb_text.specs.Decimal.{decimal_of}
 use Rattle.gb_text.specs.Rules.{is_line_text, is_title_text}
 use Rattle.gb_text.specs.declared.id.Id.{Id}
 use Rattle.json_span.specs.Parts.{elements_of}
-use Rattle.op_kind.specs.Common.{time_at, nonce_in}
+use Rattle.op_kind.specs.Common.{time_at, nonce_of}
 use Rattle.op_kind.specs.Members.{Fields, text_at, fields_at, values_of, only_value, value_or}
 use Rattle.op_kind.specs.Written.{fields_text, nonce_text}
 use Rattle.identity.specs.declared.version.Version.{Version}
@@ -45,10 +45,6 @@ line_of name fs = value_or [] line_at (values_of name fs)
 -- the time
 abbrev pub moment_of : Fields → Option ℕ
 moment_of fs = only_value time_at (values_of (codes "unix_time") fs)
-
--- the nonce
-abbrev pub nonce_of : Fields → Option (List ℕ)
-nonce_of fs = only_value nonce_in (values_of (codes "nonce") fs)
 
 -- whether there are keys
 abbrev pub keys_of : Fields → Option Bool

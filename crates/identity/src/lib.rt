@@ -7,3 +7,6 @@ mod version;
 
 pub use laws::{versions_by_members, versions_name_persons, written_versions_read_back};
 pub use version::{Version, id_of_version, version_text};
+
+#[cfg(test)]
+mod tests;

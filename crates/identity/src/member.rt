@@ -1,10 +1,8 @@
 //! The members of a version text, by their forms.
 ghost use Rattle.std.specs.Prelude.{◌≡◌, [], false, map, IfOk};
 ghost use Rattle.gb_text.specs.Decimal.{decimal_of};
-ghost use Rattle.op_kind.specs.Common.{time_at};
-ghost use Rattle.op_kind.specs.Members.{only_value, values_of};
-ghost use Rattle.identity.specs.Version.{line_at, keys_at, format_of, line_of, moment_of, nonce_of, keys_of};
-ghost use Rattle.op_kind.specs.Common.{nonce_in as nonce_at};
+ghost use Rattle.op_kind.specs.Common.{nonce_in as nonce_at, nonce_of};
+ghost use Rattle.identity.specs.Version.{line_at, keys_at, format_of, line_of, moment_of, keys_of};
 
 use gb_text::{LIMIT, Memory, Text, is_line, read_decimal};
 use json_span::{SpanFault, elements};
@@ -64,6 +62,7 @@ fn read_nonce(alloc: Global, json: &[u8]) -> Result<Option<Nonce>, Memory>
 }
 
 /// The nonce. None where `nonce` is absent, repeated, or no text that is base64 of 20 to 64 bytes.
+#[tactic(auto, unfolding(op_kind::specs::Common::nonce_of))]
 pub fn nonce_in(alloc: Global, fields: &[Field]) -> Result<Option<Nonce>, Memory>
     ensures { IfOk result (λ o. o ≡ nonce_of (map (λ f. (f.name, f.value.now)) fields.now)) }
 {

@@ -6,7 +6,9 @@ ghost use Rattle.identity.specs.Version.{version_in, version_of, version_id, ver
 
 use crate::member::{format_in, keys_in, line_in, nonce_in, time_in};
 use gb_text::{Bytes, Id, Memory, Text, is_title};
-use op_kind::{Field, Nonce, Written, print_decimal, quote, quote_nonce, read_fields, write_members};
+use op_kind::{
+    Field, Nonce, Written, print_decimal, quote, quote_nonce, read_fields, write_members,
+};
 use sha2::{Digest, Sha256};
 use std::alloc::Global;
 
@@ -127,32 +129,21 @@ pub fn version_text(
 {
     let nonce = Nonce::from_bytes(alloc, nonce)?;
     let members = [
-        Written {
-            name: "email",
-            value: quote(alloc, email)?,
-        },
-        Written {
-            name: "name",
-            value: quote(alloc, name)?,
-        },
-        Written {
-            name: "nonce",
-            value: quote_nonce(alloc, &nonce)?,
-        },
-        Written {
-            name: "times",
-            value: Text::from_str(alloc, "{}")?,
-        },
-        Written {
-            name: "unix_time",
-            value: print_decimal(alloc, now)?,
-        },
-        Written {
-            name: "version",
-            value: print_decimal(alloc, 2)?,
-        },
+        written("email", quote(alloc, email)?),
+        written("name", quote(alloc, name)?),
+        written("nonce", quote_nonce(alloc, &nonce)?),
+        written("times", Text::from_str(alloc, "{}")?),
+        written("unix_time", print_decimal(alloc, now)?),
+        written("version", print_decimal(alloc, 2)?),
     ];
     write_members(alloc, &members)
+}
+
+// A member to be written, by its name and the text of its value.
+fn written<'a>(name: &'a str, value: Text) -> Written<'a>
+    ensures { (result.name.now ≡ name.now) × (result.value ≡ value) }
+{
+    Written { name, value }
 }
 
 /// The id of the identity whose first version has this text, byte for byte: its SHA-256 (FIPS 180-4).
