@@ -128,10 +128,23 @@ pub fn version_text(
         (λ text. version_of text ≡ Some (written_version name.now email.now nonce.now now)) }
 {
     let nonce = Nonce::from_bytes(alloc, nonce)?;
+    write_version(alloc, name, email, &nonce, now)
+}
+
+// The text of what is written of a version.
+fn write_version(
+    alloc: Global,
+    name: &str,
+    email: &str,
+    nonce: &Nonce,
+    now: u64,
+) -> Result<Bytes, Memory>
+    ensures { IfOk result (λ text. text ≡ version_text_of name.now email.now nonce.now now) }
+{
     let members = [
         written("email", quote(alloc, email)?),
         written("name", quote(alloc, name)?),
-        written("nonce", quote_nonce(alloc, &nonce)?),
+        written("nonce", quote_nonce(alloc, nonce)?),
         written("times", Text::from_str(alloc, "{}")?),
         written("unix_time", print_decimal(alloc, now)?),
         written("version", print_decimal(alloc, 2)?),

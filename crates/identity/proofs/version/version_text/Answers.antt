@@ -9,5 +9,5 @@ pub returns-clause-reads_back : goal.returns-clause-reads_back
 returns-clause-reads_back c =
     let is_nonce : IsNonce c.args.nonce.now = record { least = omega (arith, c.told-nonce); most = omega (arith, c.told-nonce); bytes = c.fits-nonce } in
     let reads = written_reads _ _ _ _ c.utf8.name c.utf8.email c.requires.title c.requires.line is_nonce c.requires.moment in
-    let text : IfOk c.write_members.result (λ text. text ≡ version_text_of c.args.name.now c.args.email.now c.args.nonce.now c.args.now) = search rules in
-    text_reads c.write_members.result _ _ reads text
+    let text : IfOk c.write_version.result (λ text. text ≡ version_text_of c.args.name.now c.args.email.now c.args.nonce.now c.args.now) = search rules in
+    text_reads c.write_version.result _ _ reads text
