@@ -1,5 +1,6 @@
 //! Versions of an identity, and their texts.
 ghost use Rattle.std.specs.Prelude.{◌≡◌, ◌≤◌, ◌-◌, ◌^◌, map, IsTrue, IfOk, Some};
+ghost use Rattle.gb_text.specs.Digits.{IsId};
 ghost use Rattle.gb_text.specs.Rules.{is_line_text, is_title_text};
 ghost use Rattle.std.specs.Str.{is_utf8};
 ghost use Rattle.identity.specs.Version.{version_in, version_of, version_id, version_text_of, written_version};
@@ -161,7 +162,8 @@ fn written<'a>(name: &'a str, value: Text) -> Written<'a>
 
 /// The id of the identity whose first version has this text, byte for byte: its SHA-256 (FIPS 180-4).
 pub fn id_of_version(text: &[u8]) -> Id
-    ensures { result ≡ version_id text.now }
+    ensures id { result ≡ version_id text.now }
+    ensures sized { IsId result }
 {
     Id::from_bytes(Sha256::digest(text))
 }
