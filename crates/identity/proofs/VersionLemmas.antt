@@ -1,5 +1,5 @@
 -- What a text says as a version, both ways, and that what is written reads back.
-use Rattle.std.proofs.Common.{◌≡◌, ◌≤◌, ◌^◌, ◌-◌, ◌∙◌, ◌||◌, ◌==◌, refl, sym, ap, List, [], ◌∷◌, ℕ, Bool, true, false, Some, None, Option, arith}
+use Rattle.std.proofs.Common.{◌≡◌, ◌∙◌, ◌||◌, ◌==◌, refl, sym, ap, List, [], ◌∷◌, ℕ, Bool, true, false, Some, None, Option, arith}
 use Rattle.std.specs.Prelude.{IsTrue, codes, option_and_then, if◌then◌else◌, not, Result, Ok, Err, IfOk}
 use Rattle.std.specs.Str.{IsUtf8, is_utf8}
 use Rattle.std.proofs.lemmas.Bool.{and_parts, eqb-true, or_left}
@@ -14,11 +14,10 @@ use Rattle.json_span.proofs.JoinLaws.{object_value}
 use Rattle.json_span.proofs.ValueLaws.{deeper}
 use Rattle.op_kind.specs.Common.{nonce_of}
 use Rattle.op_kind.specs.Members.{Fields, text_at, fields_at, values_of, value_or}
-use Rattle.op_kind.specs.Nonces.{IsNonce}
 use Rattle.op_kind.specs.QuotedLaws.{quoted_reads}
 use Rattle.op_kind.specs.Written.{EachWritable}
 use Rattle.op_kind.specs.WritingLaws.{text_writable, decimal_writable, nonce_writable, decimal_reads, time_reads, nonce_reads, fields_read, text_of_operation}
-use Rattle.identity.specs.Version.{line_only, line_at, line_of, format_of, moment_of, keys_of, is_titled, IsVersionText, with_value, titled_only, said_by, version_in, version_of, person_name, version_fields, version_text_of, written_version}
+use Rattle.identity.specs.Version.{line_only, line_at, line_of, format_of, moment_of, keys_of, is_titled, IsVersionText, with_value, titled_only, said_by, version_in, version_of, person_name, version_fields, MayBeWritten, version_text_of, written_version}
 use Rattle.identity.specs.declared.version.Version.{Version}
 
 -- ---- one value after the other
@@ -136,26 +135,17 @@ title_is_line t h = let both = and_parts _ _ h in both.0
 line_reads : (t : List ℕ) → IsUtf8 t → is_line_text t ≡ true → line_at (quoted t) ≡ Some t
 line_reads t utf8 line = ap (option_and_then line_only) (quoted_reads t utf8) ∙ ap (λ b. if b then Some t else None) line
 
--- What a version is written of may be written.
-record AreWritten (name email nonce : List ℕ) (time : ℕ) : Type 0 where
-  pub name_utf8 : IsUtf8 name
-  pub email_utf8 : IsUtf8 email
-  pub title : IsTrue (is_title_text name)
-  pub line : IsTrue (is_line_text email)
-  pub is_nonce : IsNonce nonce
-  pub moment : time ≤ 2 ^ 63 - 1
-
-each_writable : (name email nonce : List ℕ) (time : ℕ) → AreWritten name email nonce time → EachWritable 98 (version_fields name email nonce time)
-each_writable name email nonce time are = (
-  text_writable 98 (codes "email") email (IsUtf8-are_ascii _ refl) are.email_utf8,
+each_writable : (name email nonce : List ℕ) (time : ℕ) → MayBeWritten name email nonce time → EachWritable 98 (version_fields name email nonce time)
+each_writable name email nonce time may = (
+  text_writable 98 (codes "email") email (IsUtf8-are_ascii _ refl) may.email_utf8,
   (
-    text_writable 98 (codes "name") name (IsUtf8-are_ascii _ refl) are.name_utf8,
+    text_writable 98 (codes "name") name (IsUtf8-are_ascii _ refl) may.name_utf8,
     (
       nonce_writable 98 (codes "nonce") nonce (IsUtf8-are_ascii _ refl),
       (
         record { name = IsUtf8-are_ascii _ refl; utf8 = IsUtf8-are_ascii _ refl; value = deeper 1 98 _ (omega arith) (object_value 0 [] (All-nil (IsMemberOf 0))) },
         (
-          decimal_writable 98 (codes "unix_time") time (IsUtf8-are_ascii _ refl) (omega (arith, are.moment)),
+          decimal_writable 98 (codes "unix_time") time (IsUtf8-are_ascii _ refl) (omega (arith, may.moment)),
           (decimal_writable 98 (codes "version") 2 (IsUtf8-are_ascii _ refl) (omega arith), tt),
         ),
       ),
@@ -163,29 +153,28 @@ each_writable name email nonce time are = (
   ),
 )
 
-written_says : (name email nonce : List ℕ) (time : ℕ) → AreWritten name email nonce time → IsVersionText (version_text_of name email nonce time) (written_version name email nonce time)
+written_says : (name email nonce : List ℕ) (time : ℕ) → MayBeWritten name email nonce time → IsVersionText (version_text_of name email nonce time) (written_version name email nonce time)
 unfolding nonce_of
-written_says name email nonce time are =
-    let each = each_writable name email nonce time are in
+written_says name email nonce time may =
+    let each = each_writable name email nonce time may in
     record {
       utf8 = is_utf8-from_IsUtf8 _ (text_of_operation (version_fields name email nonce time) each).utf8;
       fields = version_fields name email nonce time;
       object = fields_read 98 (version_fields name email nonce time) (omega arith) each;
       format = decimal_reads 2 (omega arith);
-      name = line_reads name are.name_utf8 (title_is_line name are.title);
-      email = line_reads email are.email_utf8 are.line;
+      name = line_reads name may.name_utf8 (title_is_line name may.title);
+      email = line_reads email may.email_utf8 may.line;
       login = refl;
       avatar_url = refl;
-      time = time_reads time are.moment;
-      nonce = nonce_reads nonce are.is_nonce;
+      time = time_reads time may.moment;
+      nonce = nonce_reads nonce may.is_nonce;
       keys = refl;
-      titled = or_left _ _ are.title;
+      titled = or_left _ _ may.title;
     }
 
 -- What is written of a version reads as it.
-pub written_reads : (name email nonce : List ℕ) (time : ℕ) → IsUtf8 name → IsUtf8 email → IsTrue (is_title_text name) → IsTrue (is_line_text email) → IsNonce nonce → time ≤ 2 ^ 63 - 1 → version_of (version_text_of name email nonce time) ≡ Some (written_version name email nonce time)
-written_reads name email nonce time name_utf8 email_utf8 title line is_nonce moment =
-    version_is _ _ (written_says name email nonce time (record { name_utf8 = name_utf8; email_utf8 = email_utf8; title = title; line = line; is_nonce = is_nonce; moment = moment }))
+pub written_reads : (name email nonce : List ℕ) (time : ℕ) → MayBeWritten name email nonce time → version_of (version_text_of name email nonce time) ≡ Some (written_version name email nonce time)
+written_reads name email nonce time may = version_is _ _ (written_says name email nonce time may)
 
 -- A title is the person's name.
 pub titled_person : (name email nonce : List ℕ) (time : ℕ) → IsTrue (is_title_text name) → person_name (written_version name email nonce time) ≡ name

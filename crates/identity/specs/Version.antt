@@ -1,7 +1,7 @@
 -- Version texts: what a version of an identity says, and how it is written.
-use Rattle.std.specs.Prelude.{◌≡◌, ℕ, ◌==◌, ◌||◌, List, [], ◌∷◌, Bool, true, false, IsTrue, codes, decimal, Option, Some, None, option_and_then, if◌then◌else◌}
+use Rattle.std.specs.Prelude.{◌≡◌, ℕ, ◌≤◌, ◌-◌, ◌^◌, ◌==◌, ◌||◌, List, [], ◌∷◌, Bool, true, false, IsTrue, codes, decimal, Option, Some, None, option_and_then, if◌then◌else◌}
 use Rattle.std.specs.Option.{option_map}
-use Rattle.std.specs.Str.{bytes_eq, is_utf8}
+use Rattle.std.specs.Str.{IsUtf8, bytes_eq, is_utf8}
 use Rattle.sha2.specs.Sha256.{sha256}
 use Rattle.json.specs.Print.{quoted}
 use Rattle.gb_text.specs.Decimal.{decimal_of}
@@ -10,6 +10,7 @@ use Rattle.gb_text.specs.declared.id.Id.{Id}
 use Rattle.json_span.specs.Parts.{elements_of}
 use Rattle.op_kind.specs.Common.{time_at, nonce_of}
 use Rattle.op_kind.specs.Members.{Fields, text_at, fields_at, values_of, only_value, value_or}
+use Rattle.op_kind.specs.Nonces.{IsNonce}
 use Rattle.op_kind.specs.Written.{fields_text, nonce_text}
 use Rattle.identity.specs.declared.version.Version.{Version}
 
@@ -124,6 +125,15 @@ version_fields name email nonce time =
 -- The text of a version: an object without white space.
 abbrev pub version_text_of : List ℕ → List ℕ → List ℕ → ℕ → List ℕ
 version_text_of name email nonce time = fields_text (version_fields name email nonce time)
+
+-- A version may be written of these: a title, a line, a nonce, and a time up to 2^63 - 1.
+pub record MayBeWritten (name email nonce : List ℕ) (time : ℕ) : Type 0 where
+  pub name_utf8 : IsUtf8 name
+  pub email_utf8 : IsUtf8 email
+  pub title : IsTrue (is_title_text name)
+  pub line : IsTrue (is_line_text email)
+  pub is_nonce : IsNonce nonce
+  pub moment : time ≤ 2 ^ 63 - 1
 
 -- the version that is written: no login, no picture, no keys
 abbrev pub written_version : List ℕ → List ℕ → List ℕ → ℕ → Version

@@ -1,9 +1,7 @@
 //! Laws of version texts. No call of them does anything.
-ghost use Rattle.std.specs.Prelude.{◌≡◌, ◌≤◌, ◌-◌, ◌^◌, ◌↔◌, ℕ, List, Some, IsTrue};
-ghost use Rattle.std.specs.Str.{IsUtf8};
+ghost use Rattle.std.specs.Prelude.{◌≡◌, ◌↔◌, ℕ, List, Some, IsTrue};
 ghost use Rattle.gb_text.specs.Rules.{is_line_text, is_title_text};
-ghost use Rattle.op_kind.specs.Nonces.{IsNonce};
-ghost use Rattle.identity.specs.Version.{IsVersionText, version_of, version_text_of, written_version, person_name};
+ghost use Rattle.identity.specs.Version.{IsVersionText, MayBeWritten, version_of, version_text_of, written_version, person_name};
 ghost use Rattle.identity.specs.declared.version.Version.{Version as VersionValue};
 
 /// A text is a version exactly where it is UTF-8 and an object whose members say what the version says.
@@ -15,8 +13,7 @@ pub fn versions_by_members()
 /// What is written of a name that is a title, an email that is a line, a nonce and a time reads as a
 /// version of these, with no login and no keys. Its person goes by the name.
 pub fn written_versions_read_back()
-    ensures version { (name email nonce : List ℕ) (time : ℕ) → IsUtf8 name → IsUtf8 email
-        → IsTrue (is_title_text name) → IsTrue (is_line_text email) → IsNonce nonce → time ≤ 2 ^ 63 - 1
+    ensures version { (name email nonce : List ℕ) (time : ℕ) → MayBeWritten name email nonce time
         → version_of (version_text_of name email nonce time) ≡ Some (written_version name email nonce time) }
     ensures person { (name email nonce : List ℕ) (time : ℕ) → IsTrue (is_title_text name)
         → person_name (written_version name email nonce time) ≡ name }
