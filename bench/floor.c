@@ -106,6 +106,14 @@ static void read_object(const char name[DIGITS]) {
 // Where the content of the object begins.
 static char *content(void) { return (char *)memchr(text, 0, size + 1) + 1; }
 
+// The first entry of a tree whose name begins so.
+static char *entry(const char *front) {
+    char *at = strchr(content(), ' ') + 1;
+    while (strncmp(at, front, strlen(front)) != 0)
+        at = strchr(at + strlen(at) + 21, ' ') + 1;
+    return at;
+}
+
 int main(int argc, char **argv) {
     if (argc != 3 || strlen(argv[1]) > 4000 || strlen(argv[2]) > 4000)
         fail("FOLDER ID");
@@ -138,10 +146,11 @@ int main(int argc, char **argv) {
         fail("no memory");
     while (count-- > 0) {
         read_object(commits[count].tree);
-        char *entry = strchr(content(), ' ') + 1;
-        while (strncmp(entry, "edit-clock-", strlen("edit-clock-")) != 0)
-            entry = strchr(entry + strlen(entry) + 21, ' ') + 1;
-        end = stpcpy(end, entry + strlen("edit-clock-"));
+        end = stpcpy(end, entry("edit-clock-") + strlen("edit-clock-"));
+        unsigned char *pack = (unsigned char *)entry("ops") + strlen("ops") + 1;
+        for (int i = 0; i < DIGITS; i++)
+            name[i] = "0123456789abcdef"[pack[i / 2] >> (4 - 4 * (i % 2)) & 15];
+        read_object(name);
         *end++ = ' ';
         end = (char *)memcpy(end, commits[count].name, DIGITS) + DIGITS;
         *end++ = '\n';
