@@ -9,8 +9,8 @@ ghost use Rattle.bug_run.specs.Log.{LogAnswers, WalkTold, bug_ref, log_line, log
 
 use crate::fault::{WalkFault, WalkStop};
 use crate::name::push_name;
-use crate::status::{Refusal, Stop};
 use crate::pack::clock_of;
+use crate::status::{Refusal, Stop};
 use commit_chain::{Met, walk};
 use gb_store::Store;
 use gb_text::{Folder, Id, Memory, Name, Text};
