@@ -5,7 +5,7 @@ use Rattle.gb_text.specs.declared.id.Name.{Name}
 use Rattle.git_object.specs.declared.commit.Commit.{Commit}
 use Rattle.git_object.specs.declared.tree.Tree.{Tree}
 use Rattle.object_store.specs.Held.{Objects, object_at}
-use Rattle.commit_chain.specs.Objects.{as_commit, as_tree, commit_at, tree_at}
+use Rattle.commit_chain.specs.Objects.{as_blob, as_commit, as_tree, blob_at, commit_at, tree_at}
 use Rattle.commit_chain.specs.Chain.{IsCommit, Meets, MeetsCommit, MeetsMerge}
 use Rattle.commit_chain.specs.declared.chain.Met.{Met}
 use Rattle.commit_chain.proofs.PassLemmas.{Linked-walked, linked_at, no_merge-walked, not_too_long, one_walk, parent_at, root_has, walk_passes}
@@ -17,7 +17,7 @@ use Rattle.op_pack.specs.declared.fault.PackFault.{PackFault}
 use Rattle.op_pack.specs.declared.head.TreeHead.{TreeHead}
 use Rattle.op_pack.proofs.HeadLaws.{fault_means_none as head_fault_means_none}
 use Rattle.op_pack.proofs.PackLaws.{fault_means_none as text_fault_means_none}
-use Rattle.bug_run.specs.Packs.{PackFails, OpsIsNoBlob, OpsTextFails, as_blob, blob_at, pack_in, pack_of_head, pack_under}
+use Rattle.bug_run.specs.Packs.{PackFails, OpsIsNoBlob, OpsTextFails, pack_in, pack_of_head, pack_under}
 use Rattle.bug_run.specs.Walk.{Needs, FaultHolds, clock_at}
 use Rattle.bug_run.specs.Log.{Clocked, HasPack, IsLog}
 use Rattle.bug_run.specs.declared.log.Step.{Step}

@@ -3,13 +3,13 @@ use Rattle.std.proofs.Common.{◌≡◌, inl, inr, ℕ, List, Option, Some, None
 use Rattle.gb_text.specs.declared.id.Name.{Name}
 use Rattle.git_object.specs.declared.tree.Tree.{Tree}
 use Rattle.object_store.specs.Held.{Objects}
-use Rattle.commit_chain.specs.Objects.{tree_at}
+use Rattle.commit_chain.specs.Objects.{blob_at, tree_at}
 use Rattle.commit_chain.specs.declared.chain.Met.{Met}
 use Rattle.op_kind.specs.AnyKind.{any_kind}
 use Rattle.op_pack.specs.Heads.{all_four, create_clock_of, edit_clock_of, head_of, ops_of, version_of}
 use Rattle.op_pack.specs.Packs.{pack_at}
 use Rattle.op_pack.specs.declared.head.TreeHead.{TreeHead}
-use Rattle.bug_run.specs.Packs.{blob_at, pack_in, pack_of_head, pack_under}
+use Rattle.bug_run.specs.Packs.{pack_in, pack_of_head, pack_under}
 use Rattle.bug_run.specs.Answers.{ClockAnswers, HeadAnswers, PackAnswers, TextAnswers, TreeAnswers}
 use Rattle.bug_run.specs.declared.fault.WalkFault.TheVariants as fault
 use Rattle.bug_run.specs.declared.fault.WalkStop.{WalkStop}

@@ -5,7 +5,7 @@ use Rattle.gb_text.specs.declared.id.Name.{Name}
 use Rattle.git_object.specs.declared.tree.Tree.{Tree}
 use Rattle.git_object.specs.declared.object.Object.{Object}
 use Rattle.object_store.specs.Held.{Objects, object_at, IsDamaged, IsLarge}
-use Rattle.commit_chain.specs.Objects.{as_tree, tree_at}
+use Rattle.commit_chain.specs.Objects.{as_blob, as_tree, blob_at, tree_at}
 use Rattle.commit_chain.specs.Chain.{MeetsMerge}
 use Rattle.commit_chain.specs.declared.chain.Met.{Met}
 use Rattle.op_kind.specs.AnyKind.{any_kind}
@@ -13,7 +13,7 @@ use Rattle.op_pack.specs.Heads.{HeadFault, edit_clock_of, head_of, ops_of}
 use Rattle.op_pack.specs.Packs.{TextFault, pack_at}
 use Rattle.op_pack.specs.declared.fault.PackFault.TheVariants as pack_fault
 use Rattle.op_pack.specs.declared.head.TreeHead.{TreeHead}
-use Rattle.bug_run.specs.Packs.{PackFails, as_blob, blob_at}
+use Rattle.bug_run.specs.Packs.{PackFails}
 use Rattle.bug_run.specs.Log.{Clocked, HasPack, Rises, IsLog}
 use Rattle.bug_run.specs.Walk.{FaultHolds}
 use Rattle.bug_run.specs.declared.log.Step.{Step}

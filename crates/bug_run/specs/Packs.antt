@@ -3,9 +3,8 @@ use Rattle.std.specs.Prelude.{◌≡◌, ◌⊎◌, ℕ, List, Option, Some, Non
 use Rattle.gb_text.specs.declared.id.Name.{Name}
 use Rattle.git_object.specs.declared.tree.Tree.{Tree}
 use Rattle.git_object.specs.declared.object.Object.{Object}
-use Rattle.git_object.specs.declared.object.Object.TheVariants as objects
 use Rattle.object_store.specs.Held.{Objects, object_at}
-use Rattle.commit_chain.specs.Objects.{tree_at}
+use Rattle.commit_chain.specs.Objects.{as_blob, blob_at, tree_at}
 use Rattle.op_kind.specs.AnyKind.{any_kind}
 use Rattle.op_kind.specs.declared.any_op.AnyOp.{AnyOp}
 use Rattle.op_pack.specs.Heads.{HeadFault, head_of, ops_of}
@@ -14,15 +13,6 @@ use Rattle.op_pack.specs.declared.fault.PackFault.{PackFault}
 use Rattle.op_pack.specs.declared.fault.PackFault.TheVariants as pack_fault
 use Rattle.op_pack.specs.declared.head.TreeHead.{TreeHead}
 use Rattle.op_pack.specs.declared.pack.Pack.{Pack}
-
--- an object's bytes, if it is a blob
-abbrev pub as_blob : Object → Option (List ℕ)
-as_blob (objects.Blob bytes) = Some bytes
-as_blob _ = None
-
--- the bytes of the blob that a name holds, if it holds one
-abbrev pub blob_at : Objects → Name → Option (List ℕ)
-blob_at objects name = option_and_then as_blob (object_at objects name)
 
 -- the pack whose text is the blob that a tree's head names
 abbrev pub pack_of_head : Objects → TreeHead → Option (Pack AnyOp)

@@ -3,7 +3,7 @@ use Rattle.gb_text.specs.declared.id.Name.{Name}
 use Rattle.gb_store.specs.Files.{History, files_of}
 use Rattle.object_store.specs.Held.{objects_in}
 use Rattle.bug_run.specs.Answers.{ClockAnswers, PackAnswers, TextAnswers}
-use Rattle.bug_run.specs.Packs.{blob_at}
+use Rattle.commit_chain.specs.Objects.{blob_at}
 use Rattle.bug_run.specs.declared.fault.WalkStop.{WalkStop}
 use Rattle.bug_run.proofs.PackLemmas.{ClockAnswers-tree, ClockAnswers-head, ClockAnswers-text, ClockAnswers-pack, ClockAnswers-done}
 use Rattle.bug_run.proofs.pack.clock_of.Goals as goal
