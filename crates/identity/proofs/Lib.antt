@@ -1,2 +1,4 @@
+mod ChainLemmas
+mod CommitLemmas
 mod TextLemmas
 pub mod VersionLemmas
