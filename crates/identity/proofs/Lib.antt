@@ -1,4 +1,5 @@
 mod ChainLemmas
 mod CommitLemmas
+mod PersonLemmas
 mod TextLemmas
 pub mod VersionLemmas
