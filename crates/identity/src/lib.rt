@@ -10,7 +10,10 @@ mod version;
 
 pub use chain::{Person, read_chain, read_last, versions};
 pub use fault::IdentityFault;
-pub use laws::{versions_by_members, versions_name_persons, written_versions_read_back};
+pub use laws::{
+    chains_are_determined, valid_chains_have_no_fault, valid_chains_show_a_person,
+    versions_by_members, versions_name_persons, written_versions_read_back,
+};
 pub use version::{Version, id_of_version, version_text};
 
 #[cfg(test)]
