@@ -75,7 +75,7 @@ pub data IsBad (objects : Objects) (tree : Name) : Type 0 where
   no_tree : (object : Object) → object_at objects tree ≡ Some object → as_tree object ≡ None → IsBad objects tree
   no_entry : (t : Tree) → tree_at objects tree ≡ Some t → version_object t ≡ None → IsBad objects tree
   no_blob : (t : Tree) (name : Name) (object : Object) → tree_at objects tree ≡ Some t → version_object t ≡ Some name
-    → object_at objects name ≡ Some object → as_blob object ≡ None → IsBad objects tree
+      → object_at objects name ≡ Some object → as_blob object ≡ None → IsBad objects tree
   no_version : (text : List ℕ) → text_in objects tree ≡ Some text → version_of text ≡ None → IsBad objects tree
 
 -- What keeps a name from holding a commit with a version without keys, one case a fault and with no order among them.

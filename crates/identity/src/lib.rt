@@ -17,4 +17,6 @@ pub use laws::{
 pub use version::{Version, id_of_version, version_text};
 
 #[cfg(test)]
+mod chain_tests;
+#[cfg(test)]
 mod tests;

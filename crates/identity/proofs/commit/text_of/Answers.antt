@@ -11,11 +11,13 @@ pub returns : goal.returns
 returns g c = record {
   answers = λ tells.
       let held : object_at (objects_in (files_of (g.S.Store.history c.args.disk.now)) c.args.folder.now) c.in-Some.name ≡ Some c.in_ok-text.field-0 =
-      subst (λ (h : History). object_at (objects_in (files_of h) c.args.folder.now) c.in-Some.name ≡ Some c.in_ok-text.field-0) (c.in_ok-tree.ensures.unwritten tells) (c.in_ok-text.ensures.answers tells) in
-      (refl, no_blob c.in_ok-tree.tree c.in-Some.name c.in_ok-text.field-0 (c.in_ok-tree.ensures.answers tells) (sym c.version_object.ensures ∙ c.in-Some.is) held (elim c.in-Tree.is [
-        | inl tree ↦ ap as_blob tree.1
-        | inr commit ↦ ap as_blob commit.1
-      ]));
+      subst (λ (h : History). object_at (objects_in (files_of h) c.args.folder.now) c.in-Some.name ≡ Some c.in_ok-text.field-0) (c.in_ok-tree.ensures.unwritten tells) (c.in_ok-text.ensures.answers tells) in (
+        refl,
+        no_blob c.in_ok-tree.tree c.in-Some.name c.in_ok-text.field-0 (c.in_ok-tree.ensures.answers tells) (sym c.version_object.ensures ∙ c.in-Some.is) held (elim c.in-Tree.is [
+          | inl tree ↦ ap as_blob tree.1
+          | inr commit ↦ ap as_blob commit.1
+        ]),
+      );
   unwritten = λ tells. c.in_ok-text.ensures.unwritten tells ∙ c.in_ok-tree.ensures.unwritten tells;
   reads = search rules;
   caused = search rules;
