@@ -1,5 +1,5 @@
 -- Versions of one commit after the other, and what they say of the whole chain.
-use Rattle.std.proofs.Common.{◌≡◌, ◌<◌, ◌+◌, ℕ, List, [], ◌∷◌, ◌++◌, length, take, get_or, Result, Ok, Err, refl, sym, subst}
+use Rattle.std.proofs.Common.{◌<◌, ◌+◌, ℕ, List, [], ◌∷◌, ◌++◌, length, take, get_or, refl, sym, subst}
 use Rattle.std.proofs.lemmas.List.{get_or_default, take_more}
 use Rattle.object_store.specs.Held.{Objects}
 use Rattle.commit_chain.specs.declared.chain.Met.{Met}

@@ -4,11 +4,10 @@ use Rattle.gb_text.specs.declared.id.Id.{Id}
 use Rattle.gb_text.specs.declared.id.Name.{Name}
 use Rattle.git_object.specs.declared.commit.Commit.{Commit}
 use Rattle.object_store.specs.Held.{Objects}
-use Rattle.commit_chain.specs.Objects.{commit_at}
 use Rattle.commit_chain.specs.Chain.{IsCommit}
 use Rattle.commit_chain.specs.declared.chain.Met.{Met}
 use Rattle.identity.specs.Version.{version_of}
-use Rattle.identity.specs.Commits.{TreeNeeds, Needs, IsBad, no_version, HasVersion, HasNoVersion, text_in, version_at, version_text_at}
+use Rattle.identity.specs.Commits.{TreeNeeds, Needs, IsBad, no_version, HasVersion, HasNoVersion, text_in, version_text_at}
 use Rattle.identity.specs.Faults.{Refused}
 use Rattle.identity.specs.Answers.{VersionIn, NoVersion, ReadingAnswers, VersionAnswers, RootRefused}
 use Rattle.identity.specs.declared.version.Version.{Version}

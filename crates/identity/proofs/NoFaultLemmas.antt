@@ -1,5 +1,5 @@
 -- A chain has no fault, and a head one chain and one person.
-use Rattle.std.proofs.Common.{◌≡◌, ◌<◌, inl, inr, ℕ, zero, suc, List, [], ◌∷◌, length, get_or, true, false, Some, None, Option, option_and_then, refl, sym, ◌∙◌, ap, subst, arith}
+use Rattle.std.proofs.Common.{◌≡◌, ◌<◌, inl, inr, ℕ, zero, suc, List, [], ◌∷◌, length, get_or, Some, None, Option, option_and_then, refl, sym, ◌∙◌, ap, arith}
 use Rattle.gb_text.specs.declared.id.Id.{Id}
 use Rattle.gb_text.specs.declared.id.Name.{Name}
 use Rattle.git_object.specs.declared.commit.Commit.{Commit}
@@ -7,8 +7,8 @@ use Rattle.git_object.specs.declared.tree.Tree.{Tree}
 use Rattle.git_object.specs.declared.object.Object.{Object}
 use Rattle.git_object.specs.Reading.{object_of}
 use Rattle.object_store.specs.Held.{Objects, object_at, named}
-use Rattle.commit_chain.specs.Objects.{as_commit, as_tree, commit_at, tree_at}
-use Rattle.commit_chain.specs.Chain.{IsCommit, Walked, MeetsCommit}
+use Rattle.commit_chain.specs.Objects.{as_commit, as_tree, commit_at}
+use Rattle.commit_chain.specs.Chain.{Walked, MeetsCommit}
 use Rattle.commit_chain.specs.declared.chain.Met.{Met}
 use Rattle.commit_chain.proofs.StepLemmas.{object_at-large}
 use Rattle.commit_chain.proofs.PassLemmas.{Linked-walked, no_merge-walked, not_too_long, one_walk, parent_at, walk_passes}

@@ -1,5 +1,5 @@
 -- What the versions of a whole walk say of the chain.
-use Rattle.std.proofs.Common.{◌≡◌, ◌<◌, ◌≤◌, ◌-◌, inl, inr, ℕ, zero, suc, List, [], ◌∷◌, length, take, drop, get_or, Contains, refl, sym, ◌∙◌, ap, subst, arith}
+use Rattle.std.proofs.Common.{◌<◌, ◌≤◌, ◌-◌, inl, inr, ℕ, zero, suc, List, [], ◌∷◌, length, take, drop, get_or, Contains, refl, sym, ◌∙◌, subst, arith}
 use Rattle.std.proofs.lemmas.List.{take_all}
 use Rattle.gb_text.specs.declared.id.Id.{Id}
 use Rattle.gb_text.specs.declared.id.Name.{Name}
@@ -7,7 +7,6 @@ use Rattle.object_store.specs.Held.{Objects}
 use Rattle.commit_chain.specs.Chain.{IsCommit, Chain, Walked, Meets}
 use Rattle.commit_chain.specs.declared.chain.Met.{Met}
 use Rattle.commit_chain.proofs.PassLemmas.{Linked-walked, meets_first, met_at, walk_passes}
-use Rattle.identity.specs.Version.{version_of}
 use Rattle.identity.specs.Commits.{HasVersion}
 use Rattle.identity.specs.Persons.{BeginsWith, IsChain, SomeHasNoVersion, FaultHolds}
 use Rattle.identity.specs.Faults.{Refused}

@@ -1,7 +1,7 @@
 //! Chains of versions in a store in memory.
 use crate::{IdentityFault, id_of_version, read_chain, read_last, versions};
 use gb_store::{MemStore, Store};
-use gb_text::{Folder, Id, List, Name};
+use gb_text::{Folder, List, Name};
 use git_object::{Kind, frame_text, name_of};
 use object_store::path_of;
 use std::alloc::Global;
@@ -123,87 +123,109 @@ fn a_chain_is_the_person_of_its_last_version(rt: HostRuntime) -> Result<(), Fail
     Ok(())
 }
 
-#[test]
-fn faults_of_one_commit_are_named_of_it(rt: HostRuntime) -> Result<(), Fail> {
-    let alloc = rt.alloc();
+// Whether both readings of a head name this fault.
+fn both_name(
+    alloc: Global,
+    store: &mut MemStore,
+    head: &Name,
+    fault: IdentityFault,
+) -> Result<bool, Fail> {
+    let whole = fault_of(alloc, store, head)?;
+    let last = last_fault_of(alloc, store, head)?;
+    Ok(whole == Some(fault) && last == Some(fault))
+}
+
+// A store with a damaged file and one that is too large.
+fn spoiled(alloc: Global) -> Result<MemStore, Fail> {
     let mut store = MemStore::new(alloc, List::new(alloc));
     put_text(alloc, &mut store, &DAMAGED, b"blob 1\0a")?;
     let mut large = Vec::new(alloc);
     large.resize(4_194_305, 0)?;
     put_text(alloc, &mut store, &LARGE, &large)?;
+    Ok(store)
+}
+
+#[test]
+fn what_the_tree_names_is_judged(rt: HostRuntime) -> Result<(), Fail> {
+    let alloc = rt.alloc();
+    let mut store = spoiled(alloc)?;
     let blob = put(alloc, &mut store, Kind::Blob, ANA)?;
-    let no_blob = put_tree(alloc, &mut store, b"100755 version", &ABSENT)?;
-    let large_blob = put_tree(alloc, &mut store, b"100644 version", &LARGE)?;
-    let linked = put_tree(alloc, &mut store, b"120000 version", &blob)?;
-    let named = put_tree(alloc, &mut store, b"100644 versions", &blob)?;
-    let of_tree = put_tree(alloc, &mut store, b"100644 version", &named)?;
-    let unread = put_version(alloc, &mut store, b"{}", &[])?;
-    let keyed = put_version(alloc, &mut store, WITH_KEYS, &[])?;
-    let bad_trees = [
-        put_commit(alloc, &mut store, &blob, &[])?,
-        put_commit(alloc, &mut store, &linked, &[])?,
-        put_commit(alloc, &mut store, &named, &[])?,
-        put_commit(alloc, &mut store, &of_tree, &[])?,
-        unread,
+    let rows: [(&[u8], Name, Option<IdentityFault>); 5] = [
+        (
+            b"100755 version",
+            ABSENT,
+            Some(IdentityFault::Missing(ABSENT)),
+        ),
+        (
+            b"100644 version",
+            DAMAGED,
+            Some(IdentityFault::Damaged(DAMAGED)),
+        ),
+        (
+            b"100644 version",
+            LARGE,
+            Some(IdentityFault::TooLarge(4_194_305)),
+        ),
+        (b"120000 version", blob, None),
+        (b"100644 versions", blob, None),
     ];
-    for head in bad_trees {
-        let fault = IdentityFault::BadVersion(head);
-        assert_eq!(rt; fault_of(alloc, &mut store, &head)?, Some(fault));
-        assert_eq!(rt; last_fault_of(alloc, &mut store, &head)?, Some(fault));
-    }
-    let rows = [
-        (ABSENT, IdentityFault::Missing(ABSENT)),
-        (
-            put_commit(alloc, &mut store, &ABSENT, &[])?,
-            IdentityFault::Missing(ABSENT),
-        ),
-        (
-            put_commit(alloc, &mut store, &no_blob, &[])?,
-            IdentityFault::Missing(ABSENT),
-        ),
-        (
-            put_commit(alloc, &mut store, &DAMAGED, &[])?,
-            IdentityFault::Damaged(DAMAGED),
-        ),
-        (
-            put_commit(alloc, &mut store, &large_blob, &[])?,
-            IdentityFault::TooLarge(4_194_305),
-        ),
-        (blob, IdentityFault::NotCommit(blob)),
-        (keyed, IdentityFault::KeysPresent(keyed)),
-    ];
-    for (head, fault) in rows {
-        assert_eq!(rt; fault_of(alloc, &mut store, &head)?, Some(fault));
-        assert_eq!(rt; last_fault_of(alloc, &mut store, &head)?, Some(fault));
+    for (entry, object, fault) in rows {
+        let tree = put_tree(alloc, &mut store, entry, &object)?;
+        let head = put_commit(alloc, &mut store, &tree, &[])?;
+        let fault = fault.unwrap_or(IdentityFault::BadVersion(head));
+        assert!(rt; both_name(alloc, &mut store, &head, fault)?);
     }
     Ok(())
 }
 
 #[test]
-fn faults_of_the_chain_are_not_those_of_the_head(rt: HostRuntime) -> Result<(), Fail> {
+fn heads_and_trees_of_another_kind_are_named(rt: HostRuntime) -> Result<(), Fail> {
     let alloc = rt.alloc();
     let mut store = MemStore::new(alloc, List::new(alloc));
-    let ana = put_version(alloc, &mut store, ANA, &[])?;
-    let bob = put_version(alloc, &mut store, BOB, &[])?;
-    let keyed = put_version(alloc, &mut store, WITH_KEYS, &[ana])?;
-    let merge = put_version(alloc, &mut store, ANA, &[ana, bob])?;
+    let blob = put(alloc, &mut store, Kind::Blob, ANA)?;
+    let head = put_commit(alloc, &mut store, &blob, &[])?;
     let rows = [
-        (merge, IdentityFault::NotLinear(merge)),
-        (bob, IdentityFault::WrongId(id_of_version(BOB))),
-        (
-            put_version(alloc, &mut store, ANA, &[bob])?,
-            IdentityFault::WrongId(id_of_version(BOB)),
-        ),
-        (
-            put_version(alloc, &mut store, ANA, &[keyed])?,
-            IdentityFault::KeysPresent(keyed),
-        ),
-        (
-            put_version(alloc, &mut store, ANA, &[ABSENT])?,
-            IdentityFault::Missing(ABSENT),
-        ),
+        (ABSENT, IdentityFault::Missing(ABSENT)),
+        (blob, IdentityFault::NotCommit(blob)),
+        (head, IdentityFault::BadVersion(head)),
     ];
     for (head, fault) in rows {
+        assert!(rt; both_name(alloc, &mut store, &head, fault)?);
+    }
+    Ok(())
+}
+
+#[test]
+fn texts_that_are_no_version_are_named(rt: HostRuntime) -> Result<(), Fail> {
+    let alloc = rt.alloc();
+    let mut store = MemStore::new(alloc, List::new(alloc));
+    let head = put_version(alloc, &mut store, b"{}", &[])?;
+    assert!(rt; both_name(alloc, &mut store, &head, IdentityFault::BadVersion(head))?);
+    let head = put_version(alloc, &mut store, WITH_KEYS, &[])?;
+    assert!(rt; both_name(alloc, &mut store, &head, IdentityFault::KeysPresent(head))?);
+    Ok(())
+}
+
+// Three heads, each with the fault of its chain.
+fn bad_chains(alloc: Global, store: &mut MemStore) -> Result<[(Name, IdentityFault); 3], Fail> {
+    let ana = put_version(alloc, store, ANA, &[])?;
+    let bob = put_version(alloc, store, BOB, &[])?;
+    let keyed = put_version(alloc, store, WITH_KEYS, &[ana])?;
+    let merge = put_version(alloc, store, ANA, &[ana, bob])?;
+    let other = put_version(alloc, store, ANA, &[bob])?;
+    let above = put_version(alloc, store, ANA, &[keyed])?;
+    Ok([
+        (merge, IdentityFault::NotLinear(merge)),
+        (other, IdentityFault::WrongId(id_of_version(BOB))),
+        (above, IdentityFault::KeysPresent(keyed)),
+    ])
+}
+
+#[test]
+fn faults_below_the_head_are_those_of_the_chain(rt: HostRuntime) -> Result<(), Fail> {
+    let alloc = rt.alloc();
+    let mut store = MemStore::new(alloc, List::new(alloc));
+    for (head, fault) in bad_chains(alloc, &mut store)? {
         assert_eq!(rt; fault_of(alloc, &mut store, &head)?, Some(fault));
         assert_eq!(rt; last_fault_of(alloc, &mut store, &head)?, None);
     }
