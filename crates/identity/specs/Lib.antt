@@ -1,1 +1,5 @@
+pub mod Answers
+pub mod Commits
+pub mod Faults
+pub mod Persons
 pub mod Version

@@ -1,8 +1,15 @@
-//! Laws of version texts. No call of them does anything.
-ghost use Rattle.std.specs.Prelude.{◌≡◌, ◌↔◌, ℕ, List, Some, IsTrue};
+//! Laws of version texts and of chains of versions. No call of them does anything.
+ghost use Rattle.std.specs.Prelude.{◌≡◌, ◌↔◌, ℕ, List, length, Some, IsTrue};
+ghost use Rattle.gb_text.specs.declared.id.Id.{Id};
+ghost use Rattle.gb_text.specs.declared.id.Name.{Name};
 ghost use Rattle.gb_text.specs.Rules.{is_line_text, is_title_text};
 ghost use Rattle.identity.specs.Version.{IsVersionText, MayBeWritten, version_of, version_text_of, written_version, person_name};
+ghost use Rattle.object_store.specs.Held.{Objects};
+ghost use Rattle.identity.specs.Commits.{HasNoVersion, HasVersion};
+ghost use Rattle.identity.specs.Persons.{FaultHolds, IsChain, Shows};
 ghost use Rattle.identity.specs.declared.version.Version.{Version as VersionValue};
+ghost use Rattle.identity.specs.declared.chain.Person.{Person};
+ghost use Rattle.identity.specs.declared.fault.IdentityFault.{IdentityFault};
 
 /// A text is a version exactly where it is UTF-8 and an object whose members say what the version says.
 pub fn versions_by_members()
@@ -25,4 +32,26 @@ pub fn versions_name_persons()
         → IsTrue (is_title_text (person_name version)) }
     ensures line { (text : List ℕ) (version : VersionValue) → version_of text ≡ Some version
         → IsTrue (is_line_text version.email) }
+{}
+
+/// Where a chain is valid no fault of it holds, and where a head has a version without keys no fault
+/// of the head alone does. So a refusal comes exactly where a fault holds.
+pub fn valid_chains_have_no_fault()
+    ensures chain { (objects : Objects) (id : Id) (head : Name) (fault : IdentityFault) → IsChain objects id head
+        → FaultHolds objects id head fault → ⊥ }
+    ensures last { (objects : Objects) (head : Name) (version : VersionValue) (fault : IdentityFault) → HasVersion objects head version
+        → HasNoVersion objects head fault → ⊥ }
+{}
+
+/// The head of a valid chain shows a person, and so the head alone is enough to know whom.
+pub fn valid_chains_show_a_person()
+    ensures { (objects : Objects) (id : Id) (head : Name) → IsChain objects id head → (person : Person) × Shows objects id head person }
+{}
+
+/// A head shows at most one person. It is that of a valid chain for at most one id, with one number of
+/// versions.
+pub fn chains_are_determined()
+    ensures persons { (objects : Objects) (id : Id) (head : Name) (one two : Person) → Shows objects id head one → Shows objects id head two → one ≡ two }
+    ensures ids { (objects : Objects) (one two : Id) (head : Name) → IsChain objects one head → IsChain objects two head → one ≡ two }
+    ensures counts { (objects : Objects) (id : Id) (head : Name) → (one two : IsChain objects id head) → length one.walk ≡ length two.walk }
 {}

@@ -1,12 +1,22 @@
-//! Identities: what the text of a version says, and how it is written.
+//! Identities: what the text of a version says, how it is written, and the person of a chain of versions.
 #![tactic(auto)]
 
+mod chain;
+mod commit;
+mod fault;
 mod laws;
 mod member;
 mod version;
 
-pub use laws::{versions_by_members, versions_name_persons, written_versions_read_back};
+pub use chain::{Person, read_chain, read_last, versions};
+pub use fault::IdentityFault;
+pub use laws::{
+    chains_are_determined, valid_chains_have_no_fault, valid_chains_show_a_person,
+    versions_by_members, versions_name_persons, written_versions_read_back,
+};
 pub use version::{Version, id_of_version, version_text};
 
+#[cfg(test)]
+mod chain_tests;
 #[cfg(test)]
 mod tests;

@@ -1,0 +1,106 @@
+-- What keeps a commit from having a version, said of its name.
+use Rattle.std.proofs.Common.{◌≡◌, inr, List, ℕ, Some, Result, Ok, Err, option_and_then, sym, ◌∙◌, ap, subst}
+use Rattle.gb_text.specs.declared.id.Id.{Id}
+use Rattle.gb_text.specs.declared.id.Name.{Name}
+use Rattle.git_object.specs.declared.commit.Commit.{Commit}
+use Rattle.object_store.specs.Held.{Objects}
+use Rattle.commit_chain.specs.Chain.{IsCommit}
+use Rattle.commit_chain.specs.declared.chain.Met.{Met}
+use Rattle.identity.specs.Version.{version_of}
+use Rattle.identity.specs.Commits.{TreeNeeds, Needs, IsBad, no_version, HasVersion, HasNoVersion, text_in, version_text_at}
+use Rattle.identity.specs.Faults.{Refused}
+use Rattle.identity.specs.Answers.{VersionIn, NoVersion, ReadingAnswers, VersionAnswers, RootRefused}
+use Rattle.identity.specs.declared.version.Version.{Version}
+use Rattle.identity.specs.declared.fault.IdentityFault.{IdentityFault}
+use Rattle.identity.specs.declared.fault.IdentityFault.TheVariants as fault
+
+-- a refusal is one by whatever each of its faults means
+pub Refused-map : (Holds Means : IdentityFault → Type 0) → ((f : IdentityFault) → Holds f → Means f) → (f : IdentityFault) → Refused Holds f → Refused Means f
+Refused-map Holds Means means fault.Memory h = tt
+Refused-map Holds Means means fault.Disk h = tt
+Refused-map Holds Means means (fault.Missing n) h = means (fault.Missing n) h
+Refused-map Holds Means means (fault.Damaged n) h = means (fault.Damaged n) h
+Refused-map Holds Means means (fault.NotCommit n) h = means (fault.NotCommit n) h
+Refused-map Holds Means means (fault.BadVersion n) h = means (fault.BadVersion n) h
+Refused-map Holds Means means (fault.KeysPresent n) h = means (fault.KeysPresent n) h
+Refused-map Holds Means means (fault.NotLinear n) h = means (fault.NotLinear n) h
+Refused-map Holds Means means (fault.WrongId found) h = means (fault.WrongId found) h
+Refused-map Holds Means means (fault.TooLarge count) h = means (fault.TooLarge count) h
+
+-- what a text is not, its commit has not
+pub NoVersion-reading : (objects : Objects) (met : Met) (text : List ℕ) (f : IdentityFault) → text_in objects met.tree ≡ Some text
+    → ReadingAnswers met.name text (Err f) → Refused (NoVersion objects met) f
+NoVersion-reading objects met text fault.Memory is h = tt
+NoVersion-reading objects met text fault.Disk is h = tt
+NoVersion-reading objects met text (fault.Missing n) is h = absurd h
+NoVersion-reading objects met text (fault.Damaged n) is h = absurd h
+NoVersion-reading objects met text (fault.NotCommit n) is h = absurd h
+NoVersion-reading objects met text (fault.BadVersion n) is h = (h.0, no_version text is h.1)
+NoVersion-reading objects met text (fault.KeysPresent n) is h = (h.0, h.1, ap (option_and_then version_of) is ∙ h.2, h.3)
+NoVersion-reading objects met text (fault.NotLinear n) is h = absurd h
+NoVersion-reading objects met text (fault.WrongId found) is h = absurd h
+NoVersion-reading objects met text (fault.TooLarge count) is h = absurd h
+
+-- a commit has the version that its text is
+pub VersionAnswers_reading : (objects : Objects) (met : Met) (text : List ℕ) (r : Result Version IdentityFault) → text_in objects met.tree ≡ Some text
+    → ReadingAnswers met.name text r → VersionAnswers objects met r
+VersionAnswers_reading objects met text (Ok version) is h = (text, record { holds = is; reads = h.0; no_keys = h.1 })
+VersionAnswers_reading objects met text (Err f) is h = NoVersion-reading objects met text f is h
+
+-- a first commit without a version is refused
+RootRefused-no_version : (objects : Objects) (id : Id) (root : Met) (f : IdentityFault) → NoVersion objects root f → RootRefused objects id root f
+RootRefused-no_version objects id root fault.Memory h = h
+RootRefused-no_version objects id root fault.Disk h = h
+RootRefused-no_version objects id root (fault.Missing n) h = h
+RootRefused-no_version objects id root (fault.Damaged n) h = h
+RootRefused-no_version objects id root (fault.NotCommit n) h = h
+RootRefused-no_version objects id root (fault.BadVersion n) h = h
+RootRefused-no_version objects id root (fault.KeysPresent n) h = h
+RootRefused-no_version objects id root (fault.NotLinear n) h = h
+RootRefused-no_version objects id root (fault.WrongId found) h = absurd h
+RootRefused-no_version objects id root (fault.TooLarge count) h = h
+
+pub RootRefused-reading : (objects : Objects) (id : Id) (root : Met) (text : List ℕ) (f : IdentityFault) → text_in objects root.tree ≡ Some text
+    → ReadingAnswers root.name text (Err f) → Refused (RootRefused objects id root) f
+RootRefused-reading objects id root text f is h =
+    Refused-map (NoVersion objects root) (RootRefused objects id root) (RootRefused-no_version objects id root) f (NoVersion-reading objects root text f is h)
+
+-- the text of a commit that is held
+pub version_text_at-held : (objects : Objects) (met : Met) (parents : List Name) → IsCommit objects met parents → version_text_at objects met.name ≡ text_in objects met.tree
+version_text_at-held objects met parents is =
+    ap (option_and_then (λ (commit : Commit). text_in objects commit.tree)) is.held ∙ ap (text_in objects) (sym is.tree)
+
+-- a commit that is held has the version that stands in its tree
+pub HasVersion-held : (objects : Objects) (met : Met) (parents : List Name) (text : List ℕ) (version : Version) → IsCommit objects met parents
+    → VersionIn objects met text version → HasVersion objects met.name version
+HasVersion-held objects met parents text version is has = record {
+  is = ap (option_and_then version_of) (version_text_at-held objects met parents is ∙ has.holds) ∙ has.reads;
+  no_keys = has.no_keys;
+}
+
+-- and lacks it where that is kept from standing there
+pub HasNoVersion-held : (objects : Objects) (met : Met) (parents : List Name) (f : IdentityFault) → IsCommit objects met parents → NoVersion objects met f
+    → HasNoVersion objects met.name f
+HasNoVersion-held objects met parents f is h = each f h
+  where
+    needs : (n : Name) → TreeNeeds objects met.tree n → Needs objects met.name n
+    needs n h = inr (is.commit, is.held, subst (λ (tree : Name). TreeNeeds objects tree n) is.tree h)
+
+    each : (f : IdentityFault) → NoVersion objects met f → HasNoVersion objects met.name f
+    each fault.Memory h = absurd h
+    each fault.Disk h = absurd h
+    each (fault.Missing n) h = (needs n h.0, h.1)
+    each (fault.Damaged n) h = (needs n h.0, h.1)
+    each (fault.NotCommit n) h = absurd h
+    each (fault.BadVersion n) h = (h.0, is.commit, is.held, subst (IsBad objects) is.tree h.1)
+    each (fault.KeysPresent n) h = (h.0, h.1, ap (option_and_then version_of) (version_text_at-held objects met parents is) ∙ h.2, h.3)
+    each (fault.NotLinear n) h = absurd h
+    each (fault.WrongId found) h = absurd h
+    each (fault.TooLarge count) h = (h.0, h.1, needs h.1 h.2, h.3)
+
+-- the head alone is refused for what keeps its commit from having a version
+pub HeadRefused : (objects : Objects) (head : Name) (met : Met) (parents : List Name) (f : IdentityFault) → met.name ≡ head → IsCommit objects met parents
+    → Refused (NoVersion objects met) f → Refused (HasNoVersion objects head) f
+HeadRefused objects head met parents f named is h =
+    Refused-map (NoVersion objects met) (HasNoVersion objects head)
+    (λ f h. subst (λ (n : Name). HasNoVersion objects n f) named (HasNoVersion-held objects met parents f is h)) f h

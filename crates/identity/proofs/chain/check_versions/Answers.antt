@@ -1,0 +1,31 @@
+use Rattle.std.proofs.Common.{◌≡◌, ◌-◌, [], length, take, drop, get_or, Option, Result, Err, sym, subst, rules}
+use Rattle.gb_store.specs.Files.{History, files_of}
+use Rattle.object_store.specs.Held.{objects_in}
+use Rattle.commit_chain.specs.declared.chain.Met.{Met}
+use Rattle.identity.specs.Answers.{CheckAnswers, RootRefused, OneRefused}
+use Rattle.identity.specs.Faults.{Refused}
+use Rattle.identity.specs.declared.version.Version.{Version}
+use Rattle.identity.specs.declared.fault.IdentityFault.{IdentityFault}
+use Rattle.identity.proofs.PersonLemmas.{CheckRefused-first, CheckRefused-later}
+use Rattle.identity.proofs.chain.check_versions.Goals as goal
+
+none : Met
+none = record { name = record { bytes = [] }; tree = record { bytes = [] } }
+
+pub returns-in_err-first-clause-answers : goal.returns-in_err-first-clause-answers
+unfolding none
+returns-in_err-first-clause-answers g c = λ tells.
+    let objects = objects_in (files_of (g.S.Store.history c.args.disk.now)) c.args.folder.now in
+    let is : c.from_residual.result ≡ Err c.in_err-first.field-0.0 = search rules in
+    let root : Refused (RootRefused objects c.args.id.now (get_or c.args.walk.now 0 none)) c.in_err-first.field-0.0 = c.in_err-first.ensures.answers tells in
+    subst (λ (r : Result (Option Version) IdentityFault). CheckAnswers objects c.args.id.now c.args.walk.now r) (sym is)
+    (CheckRefused-first objects c.args.id.now c.args.walk.now none c.in_err-first.field-0.0 c.in-len1-up.len_at_least root)
+
+pub returns-in_err-last-clause-answers : goal.returns-in_err-last-clause-answers
+returns-in_err-last-clause-answers g c = λ tells.
+    let objects = objects_in (files_of (g.S.Store.history c.args.disk.now)) c.args.folder.now in
+    let is : c.from_residual-in_err-last.result ≡ Err c.in_err-last.field-0.0 = search rules in
+    let later : Refused (OneRefused objects (take (length c.args.walk.now - 1) (drop 1 c.args.walk.now))) c.in_err-last.field-0.0 =
+    subst (λ (h : History). Refused (OneRefused (objects_in (files_of h) c.args.folder.now) (take (length c.args.walk.now - 1) (drop 1 c.args.walk.now))) c.in_err-last.field-0.0) (c.in_ok-first.ensures.unwritten tells) (c.in_err-last.ensures.answers tells) in
+    subst (λ (r : Result (Option Version) IdentityFault). CheckAnswers objects c.args.id.now c.args.walk.now r) (sym is)
+    (CheckRefused-later objects c.args.id.now c.args.walk.now c.in_err-last.field-0.0 c.in-len1-up.len_at_least later)

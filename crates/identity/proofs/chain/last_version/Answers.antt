@@ -1,0 +1,38 @@
+use Rattle.std.proofs.Common.{◌≡◌, [], Result, Ok, Err, get_or, sym, ◌∙◌, subst, rules}
+use Rattle.gb_store.specs.Files.{History, files_of}
+use Rattle.gb_store.proofs.FaultLemmas.{KeepsFaults_then}
+use Rattle.object_store.specs.Held.{objects_in}
+use Rattle.commit_chain.specs.declared.chain.Met.{Met}
+use Rattle.identity.specs.Answers.{LaterAnswers, VersionAnswers}
+use Rattle.identity.specs.declared.version.Version.{Version}
+use Rattle.identity.specs.declared.fault.IdentityFault.{IdentityFault}
+use Rattle.identity.proofs.ChainLemmas.{Leads-more, OneRefused-at}
+use Rattle.identity.proofs.chain.last_version.Goals as goal
+
+none : Met
+none = record { name = record { bytes = [] }; tree = record { bytes = [] } }
+
+pub returns-in_err-last-clause-answers : goal.returns-in_err-last-clause-answers
+unfolding none
+returns-in_err-last-clause-answers g c = λ tells.
+    let objects = objects_in (files_of (g.S.Store.history c.args.disk.now)) c.args.folder.now in
+    let is : c.from_residual.result ≡ Err c.in_err-last.field-0.0 = search rules in
+    let met = get_or c.args.later.now c.loop-met.met-index none in
+    let answer : VersionAnswers objects met (Err c.in_err-last.field-0.0) =
+    subst (λ (h : History). VersionAnswers (objects_in (files_of h) c.args.folder.now) met (Err c.in_err-last.field-0.0)) (c.loop-met.invariant.unwritten tells) (c.in_err-last.ensures.answers tells) in
+    subst (λ (r : Result Version IdentityFault). LaterAnswers objects c.args.first c.args.later.now r) (sym is)
+    (OneRefused-at objects c.args.later.now c.loop-met.met-index none c.in_err-last.field-0.0 c.loop-met-test.true answer)
+
+pub loop-met-preserved : goal.loop-met-preserved
+unfolding none
+loop-met-preserved g c =
+    let objects = objects_in (files_of (g.S.Store.history c.args.disk.now)) c.args.folder.now in
+    let met = get_or c.args.later.now c.loop-met.met-index none in
+    record {
+      leads = λ tells.
+          let answer : VersionAnswers objects met (Ok c.in_ok-last.last) =
+          subst (λ (h : History). VersionAnswers (objects_in (files_of h) c.args.folder.now) met (Ok c.in_ok-last.last)) (c.loop-met.invariant.unwritten tells) (c.in_ok-last.ensures.answers tells) in
+          Leads-more objects c.args.first c.loop-met.last c.in_ok-last.last c.args.later.now c.loop-met.met-index none answer.0 c.loop-met-test.true (c.loop-met.invariant.leads tells) answer.1;
+      unwritten = λ tells. c.in_ok-last.ensures.unwritten tells ∙ c.loop-met.invariant.unwritten tells;
+      caused = KeepsFaults_then g.S.Store.never_fails g.S.Store.faults _ ⊥ c.args.disk.now c.loop-met.disk c.version_of.new.disk (λ none. absurd none) c.loop-met.invariant.caused c.in_ok-last.ensures.caused;
+    }

@@ -1,0 +1,13 @@
+use Rattle.std.proofs.Common.{◌≡◌, IsTrue, take}
+use Rattle.gb_store.specs.Faults.{KeepsFaults}
+use Rattle.gb_store.specs.Files.{files_of}
+use Rattle.object_store.specs.Held.{objects_in}
+use Rattle.identity.specs.Answers.{Leads}
+use Rattle.identity.proofs.chain.last_version.Given as goal
+
+abbrev pub invariant-loop-met : goal.invariant-loop-met
+invariant-loop-met g l = record {
+  leads : IsTrue g.S.Store.tells → Leads (objects_in (files_of (g.S.Store.history l.fn.disk)) l.folder) l.fn.first (take l.met-index l.later) l.last;
+  unwritten : IsTrue g.S.Store.tells → g.S.Store.history l.disk ≡ g.S.Store.history l.fn.disk;
+  caused : KeepsFaults g.S.Store.never_fails g.S.Store.faults ⊥ l.fn.disk l.disk;
+}

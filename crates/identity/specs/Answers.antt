@@ -1,0 +1,135 @@
+-- The answers to the reads of commits and chains, each with what is so of the objects.
+use Rattle.std.specs.Prelude.{◌≡◌, ◌≢◌, ◌⊎◌, ⊤, ℕ, false, IsTrue, List, [], ◌∷◌, length, Contains, Option, Some, None, Result, Ok, Err, option_and_then}
+use Rattle.gb_text.specs.declared.id.Id.{Id}
+use Rattle.gb_text.specs.declared.id.Name.{Name}
+use Rattle.git_object.specs.declared.tree.Tree.{Tree}
+use Rattle.object_store.specs.Held.{Objects, IsDamaged, IsLarge}
+use Rattle.commit_chain.specs.Objects.{tree_at}
+use Rattle.commit_chain.specs.Chain.{IsCommit}
+use Rattle.commit_chain.specs.declared.chain.Met.{Met}
+use Rattle.identity.specs.Version.{version_of, version_id}
+use Rattle.identity.specs.Commits.{TreeNeeds, IsBad, HasVersion, HasNoVersion, text_in}
+use Rattle.identity.specs.Faults.{Refused}
+use Rattle.identity.specs.Persons.{FaultHolds, IsChain, Shows}
+use Rattle.identity.specs.declared.version.Version.{Version}
+use Rattle.identity.specs.declared.chain.Person.{Person}
+use Rattle.identity.specs.declared.fault.IdentityFault.{IdentityFault}
+use Rattle.identity.specs.declared.fault.IdentityFault.TheVariants as fault
+
+-- ---- one commit
+
+-- a commit with this tree has this version, and the version has no keys
+pub record VersionIn (objects : Objects) (met : Met) (text : List ℕ) (version : Version) : Type 0 where
+  pub holds : text_in objects met.tree ≡ Some text
+  pub reads : version_of text ≡ Some version
+  pub no_keys : version.has_keys ≡ false
+
+-- what keeps a commit with this tree from having one
+abbrev pub NoVersion : Objects → Met → IdentityFault → Type 0
+NoVersion objects met (fault.Missing n) = TreeNeeds objects met.tree n × (objects n ≡ None)
+NoVersion objects met (fault.Damaged n) = TreeNeeds objects met.tree n × IsDamaged objects n
+NoVersion objects met (fault.TooLarge count) = (count ≡ 4194305) × (n : Name) × TreeNeeds objects met.tree n × IsLarge (objects n)
+NoVersion objects met (fault.BadVersion n) = (n ≡ met.name) × IsBad objects met.tree
+NoVersion objects met (fault.KeysPresent n) = (n ≡ met.name) × (version : Version) × (option_and_then version_of (text_in objects met.tree) ≡ Some version) × IsTrue version.has_keys
+NoVersion objects met _ = ⊥
+
+abbrev pub TreeAnswers : Objects → Met → Result Tree IdentityFault → Type 0
+TreeAnswers objects met (Ok tree) = tree_at objects met.tree ≡ Some tree
+TreeAnswers objects met (Err f) = Refused (NoVersion objects met) f
+
+abbrev pub TextAnswers : Objects → Met → Result (List ℕ) IdentityFault → Type 0
+TextAnswers objects met (Ok text) = text_in objects met.tree ≡ Some text
+TextAnswers objects met (Err f) = Refused (NoVersion objects met) f
+
+-- what a text is worth as the version of a commit
+abbrev pub ReadingAnswers : Name → List ℕ → Result Version IdentityFault → Type 0
+ReadingAnswers name text (Ok version) = (version_of text ≡ Some version) × (version.has_keys ≡ false)
+ReadingAnswers name text (Err fault.Memory) = ⊤
+ReadingAnswers name text (Err (fault.BadVersion n)) = (n ≡ name) × (version_of text ≡ None)
+ReadingAnswers name text (Err (fault.KeysPresent n)) = (n ≡ name) × (version : Version) × (version_of text ≡ Some version) × IsTrue version.has_keys
+ReadingAnswers name text (Err _) = ⊥
+
+abbrev pub VersionAnswers : Objects → Met → Result Version IdentityFault → Type 0
+VersionAnswers objects met (Ok version) = (text : List ℕ) × VersionIn objects met text version
+VersionAnswers objects met (Err f) = Refused (NoVersion objects met) f
+
+abbrev pub HeadAnswers : Objects → Name → Result Met IdentityFault → Type 0
+HeadAnswers objects head (Ok met) = (met.name ≡ head) × (parents : List Name) × IsCommit objects met parents
+HeadAnswers objects head (Err f) = Refused (HasNoVersion objects head) f
+
+-- the answer to a reading of the head alone
+abbrev pub LastAnswers : Objects → Id → Name → Result Person IdentityFault → Type 0
+LastAnswers objects id head (Ok person) = Shows objects id head person
+LastAnswers objects id head (Err f) = Refused (HasNoVersion objects head) f
+
+-- ---- whole chains
+
+-- the first version, where its text has the id
+pub record RootHas (objects : Objects) (id : Id) (root : Met) (first : Version) : Type 0 where
+  pub text : List ℕ
+  pub is : VersionIn objects root text first
+  pub is_id : version_id text ≡ id
+
+-- its text has another id
+pub record RootDiffers (objects : Objects) (id : Id) (root : Met) (found : Id) : Type 0 where
+  pub text : List ℕ
+  pub version : Version
+  pub is : VersionIn objects root text version
+  pub found_is : found ≡ version_id text
+  pub other : found ≢ id
+
+abbrev pub RootRefused : Objects → Id → Met → IdentityFault → Type 0
+RootRefused objects id root (fault.WrongId found) = RootDiffers objects id root found
+RootRefused objects id root f = NoVersion objects root f
+
+abbrev pub RootAnswers : Objects → Id → Met → Result Version IdentityFault → Type 0
+RootAnswers objects id root (Ok first) = RootHas objects id root first
+RootAnswers objects id root (Err f) = Refused (RootRefused objects id root) f
+
+-- from one version through those of these commits to the last
+abbrev pub Leads : Objects → Version → List Met → Version → Type 0
+Leads objects first [] last = last ≡ first
+Leads objects first (met ∷ mets) last = (next : Version) × ((text : List ℕ) × VersionIn objects met text next) × Leads objects next mets last
+
+-- a commit among these has no version
+abbrev pub OneRefused : Objects → List Met → IdentityFault → Type 0
+OneRefused objects mets f = (met : Met) × Contains mets met × NoVersion objects met f
+
+abbrev pub LaterAnswers : Objects → Version → List Met → Result Version IdentityFault → Type 0
+LaterAnswers objects first later (Ok last) = Leads objects first later last
+LaterAnswers objects first later (Err f) = Refused (OneRefused objects later) f
+
+-- these commits have versions without keys, the first of this id, the last of them this one
+abbrev pub Checked : Objects → Id → List Met → Version → Type 0
+Checked objects id [] last = ⊥
+Checked objects id (root ∷ later) last = (first : Version) × RootHas objects id root first × Leads objects first later last
+
+-- what is wrong with them
+abbrev pub CheckRefused : Objects → Id → List Met → IdentityFault → Type 0
+CheckRefused objects id [] f = ⊥
+CheckRefused objects id (root ∷ later) f = RootRefused objects id root f ⊎ OneRefused objects later f
+
+abbrev pub CheckAnswers : Objects → Id → List Met → Result (Option Version) IdentityFault → Type 0
+CheckAnswers objects id walk (Ok None) = walk ≡ []
+CheckAnswers objects id walk (Ok (Some last)) = Checked objects id walk last
+CheckAnswers objects id walk (Err f) = Refused (CheckRefused objects id walk) f
+
+-- a whole chain of so many commits, whose head has this version
+pub record HasChain (objects : Objects) (id : Id) (head : Name) (count : ℕ) (last : Version) : Type 0 where
+  pub chain : IsChain objects id head
+  pub counts : count ≡ length chain.walk
+  pub last_is : HasVersion objects head last
+
+abbrev pub WholeAnswers : Objects → Id → Name → Result (ℕ × Version) IdentityFault → Type 0
+WholeAnswers objects id head (Ok whole) = HasChain objects id head whole.0 whole.1
+WholeAnswers objects id head (Err f) = Refused (FaultHolds objects id head) f
+
+-- the answer to a reading of the whole chain
+abbrev pub ChainAnswers : Objects → Id → Name → Result Person IdentityFault → Type 0
+ChainAnswers objects id head (Ok person) = IsChain objects id head × Shows objects id head person
+ChainAnswers objects id head (Err f) = Refused (FaultHolds objects id head) f
+
+-- the answer to a count of its commits
+abbrev pub CountAnswers : Objects → Id → Name → Result ℕ IdentityFault → Type 0
+CountAnswers objects id head (Ok count) = (chain : IsChain objects id head) × (count ≡ length chain.walk)
+CountAnswers objects id head (Err f) = Refused (FaultHolds objects id head) f

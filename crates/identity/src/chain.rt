@@ -1,0 +1,148 @@
+//! Persons, by the chains of their versions.
+ghost use Rattle.std.specs.Prelude.{◌≡◌, ◌≤◌, ◌+◌, IsTrue, IfOk, IsErrOf};
+ghost use Rattle.gb_store.specs.Faults.{KeepsFaults};
+ghost use Rattle.gb_store.specs.Files.{files_of};
+ghost use Rattle.object_store.specs.Held.{objects_in};
+ghost use Rattle.identity.specs.Version.{person_name};
+ghost use Rattle.identity.specs.Answers.{ChainAnswers, CheckAnswers, CountAnswers, LastAnswers, LaterAnswers, WholeAnswers};
+
+use crate::commit::{first_version, head_commit, version_of};
+use crate::fault::IdentityFault;
+use crate::version::Version;
+use commit_chain::{Met, walk};
+use gb_store::Store;
+use gb_text::{Folder, Id, Memory, Name, Text};
+use std::alloc::Global;
+
+/// Who an identity is by its last version: under which id, at which head, with which name and email.
+#[derive(Drop)]
+pub struct Person {
+    pub id: Id,
+    pub head: Name,
+    pub name: Text,
+    pub email: Text,
+}
+
+/// The person of the identity with this id and head. The whole chain is read: each commit, tree and
+/// version once.
+pub fn read_chain<S: Store>(
+    alloc: Global,
+    disk: &mut S,
+    folder: &Folder,
+    id: &Id,
+    head: &Name,
+) -> Result<Person, IdentityFault>
+    ensures answers { IsTrue S.tells → ChainAnswers (objects_in (files_of (S.history disk.old)) folder.now) id.now head.now result }
+    ensures unwritten { IsTrue S.tells → S.history disk.new ≡ S.history disk.old }
+    ensures caused { KeepsFaults S.never_fails S.faults (IsErrOf result IdentityFault.Disk) disk.old disk.new }
+{
+    let (_, last) = read_whole(alloc, disk, folder, id, head)?;
+    Ok(person_of(alloc, id, head, last)?)
+}
+
+/// How many versions the identity with this id and head has, with the refusals of `read_chain`.
+pub fn versions<S: Store>(
+    alloc: Global,
+    disk: &mut S,
+    folder: &Folder,
+    id: &Id,
+    head: &Name,
+) -> Result<u64, IdentityFault>
+    ensures answers { IsTrue S.tells → CountAnswers (objects_in (files_of (S.history disk.old)) folder.now) id.now head.now result }
+    ensures unwritten { IsTrue S.tells → S.history disk.new ≡ S.history disk.old }
+    ensures caused { KeepsFaults S.never_fails S.faults (IsErrOf result IdentityFault.Disk) disk.old disk.new }
+{
+    let (count, _) = read_whole(alloc, disk, folder, id, head)?;
+    Ok(count)
+}
+
+/// The person that the head alone shows, whatever stands below it. That is the person of a chain
+/// that is valid; no other chain is found out.
+pub fn read_last<S: Store>(
+    alloc: Global,
+    disk: &mut S,
+    folder: &Folder,
+    id: &Id,
+    head: &Name,
+) -> Result<Person, IdentityFault>
+    ensures answers { IsTrue S.tells → LastAnswers (objects_in (files_of (S.history disk.old)) folder.now) id.now head.now result }
+    ensures unwritten { IsTrue S.tells → S.history disk.new ≡ S.history disk.old }
+    ensures reads { S.object_reads disk.new ≤ S.object_reads disk.old + 3 }
+    ensures caused { KeepsFaults S.never_fails S.faults (IsErrOf result IdentityFault.Disk) disk.old disk.new }
+{
+    let met = head_commit(alloc, disk, folder, head)?;
+    let last = version_of(alloc, disk, folder, &met)?;
+    Ok(person_of(alloc, id, head, last)?)
+}
+
+// The person that a version shows.
+fn person_of(alloc: Global, id: &Id, head: &Name, last: Version) -> Result<Person, Memory>
+    ensures { IfOk result (λ person. person ≡ record { id = id.now; head = head.now; name = person_name last; email = last.email }) }
+{
+    let name = Text::from_str(alloc, last.person_name())?;
+    Ok(Person {
+        id: *id,
+        head: *head,
+        name,
+        email: last.email,
+    })
+}
+
+// How many commits the chain has, and the version of its head.
+fn read_whole<S: Store>(
+    alloc: Global,
+    disk: &mut S,
+    folder: &Folder,
+    id: &Id,
+    head: &Name,
+) -> Result<(u64, Version), IdentityFault>
+    ensures answers { IsTrue S.tells → WholeAnswers (objects_in (files_of (S.history disk.old)) folder.now) id.now head.now result }
+    ensures unwritten { IsTrue S.tells → S.history disk.new ≡ S.history disk.old }
+    ensures caused { KeepsFaults S.never_fails S.faults (IsErrOf result IdentityFault.Disk) disk.old disk.new }
+{
+    let walk = walk(alloc, disk, folder, head)?;
+    match check_versions(alloc, disk, folder, id, &walk)? {
+        Some(last) => Ok((walk.len() as u64, last)),
+        // A walk has the commit of the head.
+        None => Err(IdentityFault::NotCommit(*head)),
+    }
+}
+
+// The last version of these commits, the first of which is to have the id. None where there are none.
+fn check_versions<S: Store>(
+    alloc: Global,
+    disk: &mut S,
+    folder: &Folder,
+    id: &Id,
+    walk: &[Met],
+) -> Result<Option<Version>, IdentityFault>
+    ensures answers { IsTrue S.tells → CheckAnswers (objects_in (files_of (S.history disk.old)) folder.now) id.now walk.now result }
+    ensures unwritten { IsTrue S.tells → S.history disk.new ≡ S.history disk.old }
+    ensures caused { KeepsFaults S.never_fails S.faults (IsErrOf result IdentityFault.Disk) disk.old disk.new }
+{
+    let [root, later @ ..] = walk else {
+        return Ok(None);
+    };
+    let first = first_version(alloc, disk, folder, id, root)?;
+    let last = last_version(alloc, disk, folder, first, later)?;
+    Ok(Some(last))
+}
+
+// The last version of these commits, or the one before them where there are none.
+fn last_version<S: Store>(
+    alloc: Global,
+    disk: &mut S,
+    folder: &Folder,
+    first: Version,
+    later: &[Met],
+) -> Result<Version, IdentityFault>
+    ensures answers { IsTrue S.tells → LaterAnswers (objects_in (files_of (S.history disk.old)) folder.now) first later.now result }
+    ensures unwritten { IsTrue S.tells → S.history disk.new ≡ S.history disk.old }
+    ensures caused { KeepsFaults S.never_fails S.faults (IsErrOf result IdentityFault.Disk) disk.old disk.new }
+{
+    let mut last = first;
+    for met in later {
+        last = version_of(alloc, disk, folder, met)?;
+    }
+    Ok(last)
+}

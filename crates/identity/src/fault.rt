@@ -1,0 +1,76 @@
+//! What may be wrong with the chain of an identity.
+use commit_chain::{ChainFault, ChainStop, MOST_COMMITS};
+use gb_text::{Id, Memory, Name};
+use object_store::{MOST_BYTES, ObjFault};
+
+/// Why there is no person. Each fault but the first two is one of the objects.
+#[derive(Clone, Copy, Debug, PartialEq, Eq)]
+pub enum IdentityFault {
+    Memory,
+    /// The store failed.
+    Disk,
+    /// No file stands under this name of a commit, of its tree or of its version.
+    Missing(Name),
+    /// The file under this name is no object text with that SHA-1.
+    Damaged(Name),
+    /// The head or a parent names this object, which is no commit.
+    NotCommit(Name),
+    /// This commit has no version: no tree, no entry `version`, no blob, or no version text.
+    BadVersion(Name),
+    /// The version of this commit has keys.
+    KeysPresent(Name),
+    /// This commit has two parents or more.
+    NotLinear(Name),
+    /// The text of the first version has this id.
+    WrongId(Id),
+    /// 65,537: there are more than 65,536 commits. 4,194,305: a file has more than 4,194,304 bytes.
+    TooLarge(u64),
+}
+
+impl From<Memory> for IdentityFault {
+    ghost use Rattle.std.specs.Prelude.{◌≡◌};
+    ghost use Rattle.identity.specs.declared.fault.IdentityFault.TheVariants as fault;
+
+    ghost from_gives = { λ _ e. e ≡ fault.Memory };
+
+    fn from(_: Memory) -> Self {
+        IdentityFault::Memory
+    }
+}
+
+impl From<ObjFault> for IdentityFault {
+    ghost use Rattle.std.specs.Prelude.{◌≡◌};
+    ghost use Rattle.identity.specs.Faults.{fault_of};
+
+    ghost from_gives = { λ fault e. e ≡ fault_of fault };
+
+    fn from(fault: ObjFault) -> Self {
+        match fault {
+            ObjFault::Memory => IdentityFault::Memory,
+            ObjFault::Disk => IdentityFault::Disk,
+            ObjFault::Missing(name) => IdentityFault::Missing(name),
+            ObjFault::Damaged(name) => IdentityFault::Damaged(name),
+            ObjFault::Large(_) => IdentityFault::TooLarge(MOST_BYTES + 1),
+        }
+    }
+}
+
+impl From<ChainStop> for IdentityFault {
+    ghost use Rattle.std.specs.Prelude.{◌≡◌};
+    ghost use Rattle.identity.specs.Faults.{fault_of_stop};
+
+    ghost from_gives = { λ stop e. e ≡ fault_of_stop stop };
+
+    fn from(stop: ChainStop) -> Self {
+        match stop {
+            ChainStop::Memory => IdentityFault::Memory,
+            ChainStop::Disk => IdentityFault::Disk,
+            ChainStop::Merge(name) => IdentityFault::NotLinear(name),
+            ChainStop::Fault(ChainFault::Missing(name)) => IdentityFault::Missing(name),
+            ChainStop::Fault(ChainFault::Damaged(name)) => IdentityFault::Damaged(name),
+            ChainStop::Fault(ChainFault::Large(_)) => IdentityFault::TooLarge(MOST_BYTES + 1),
+            ChainStop::Fault(ChainFault::NotCommit(name)) => IdentityFault::NotCommit(name),
+            ChainStop::Fault(ChainFault::TooLong) => IdentityFault::TooLarge(MOST_COMMITS + 1),
+        }
+    }
+}
