@@ -1,0 +1,3 @@
+pub mod ClashLemmas
+pub mod NameLemmas
+pub mod PutLemmas
