@@ -1,2 +1,3 @@
+pub mod MakingLemmas
 mod TextLemmas
 pub mod VersionLemmas
