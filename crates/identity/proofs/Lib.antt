@@ -1,6 +1,7 @@
-mod ChainLemmas
-mod CommitLemmas
-mod NoFaultLemmas
-mod PersonLemmas
-mod TextLemmas
+pub mod ChainLemmas
+pub mod CommitLemmas
+pub mod NoFaultLemmas
+pub mod PersonLemmas
+pub mod MakingLemmas
+pub mod TextLemmas
 pub mod VersionLemmas

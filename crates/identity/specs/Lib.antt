@@ -2,4 +2,5 @@ pub mod Answers
 pub mod Commits
 pub mod Faults
 pub mod Persons
+pub mod Making
 pub mod Version

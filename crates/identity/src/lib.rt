@@ -5,6 +5,7 @@ mod chain;
 mod commit;
 mod fault;
 mod laws;
+mod making;
 mod member;
 mod version;
 
@@ -14,6 +15,7 @@ pub use laws::{
     chains_are_determined, valid_chains_have_no_fault, valid_chains_show_a_person,
     versions_by_members, versions_name_persons, written_versions_read_back,
 };
+pub use making::{Made, new_version};
 pub use version::{Version, id_of_version, version_text};
 
 #[cfg(test)]

@@ -1,0 +1,4 @@
+pub mod ClashLemmas
+pub mod CommitLemmas
+pub mod NameLemmas
+pub mod PutLemmas
