@@ -1,7 +1,9 @@
 pub mod ChainLemmas
 pub mod CommitLemmas
+pub mod ExtendLemmas
 pub mod NoFaultLemmas
 pub mod PersonLemmas
+pub mod GrowLemmas
 pub mod MakingLemmas
 pub mod TextLemmas
 pub mod VersionLemmas

@@ -81,7 +81,7 @@ same_commit : (c d : Commit) → Some c ≡ Some d → c ≡ d
 same_commit c d e = grind (arith, e)
 
 -- a commit without parents is the first of the walk
-root_is : (objects : Objects) (head name : Name) (commit : Commit) (root : Met) (above : List Met) → Walked objects head (root ∷ above) → MeetsCommit objects head name commit
+pub root_is : (objects : Objects) (head name : Name) (commit : Commit) (root : Met) (above : List Met) → Walked objects head (root ∷ above) → MeetsCommit objects head name commit
     → commit.parents ≡ [] → root.name ≡ name
 root_is objects head name commit root above walked met none =
     let passes = walk_passes objects head name (root ∷ above) walked met.meets in

@@ -1,5 +1,6 @@
 pub mod Answers
 pub mod Commits
+pub mod Extending
 pub mod Faults
 pub mod Persons
 pub mod Making

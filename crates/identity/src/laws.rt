@@ -6,6 +6,7 @@ ghost use Rattle.gb_text.specs.Rules.{is_line_text, is_title_text};
 ghost use Rattle.identity.specs.Version.{IsVersionText, MayBeWritten, version_of, version_text_of, written_version, person_name};
 ghost use Rattle.object_store.specs.Held.{Objects};
 ghost use Rattle.identity.specs.Commits.{HasNoVersion, HasVersion};
+ghost use Rattle.identity.specs.Extending.{OnlyGrew};
 ghost use Rattle.identity.specs.Persons.{FaultHolds, IsChain, Shows};
 ghost use Rattle.identity.specs.declared.version.Version.{Version as VersionValue};
 ghost use Rattle.identity.specs.declared.chain.Person.{Person};
@@ -54,4 +55,13 @@ pub fn chains_are_determined()
     ensures persons { (objects : Objects) (id : Id) (head : Name) (one two : Person) → Shows objects id head one → Shows objects id head two → one ≡ two }
     ensures ids { (objects : Objects) (one two : Id) (head : Name) → IsChain objects one head → IsChain objects two head → one ≡ two }
     ensures counts { (objects : Objects) (id : Id) (head : Name) → (one two : IsChain objects id head) → length one.walk ≡ length two.walk }
+{}
+
+/// While objects are only added, a valid chain stays valid with the same commits, and a head shows the
+/// same person.
+pub fn valid_chains_stay_valid()
+    ensures chain { (old new : Objects) → OnlyGrew old new → (id : Id) (head : Name) → (chain : IsChain old id head)
+        → (later : IsChain new id head) × (later.walk ≡ chain.walk) }
+    ensures person { (old new : Objects) → OnlyGrew old new → (id : Id) (head : Name) (person : Person) → Shows old id head person
+        → Shows new id head person }
 {}

@@ -13,7 +13,8 @@ pub use chain::{Person, read_chain, read_last, versions};
 pub use fault::IdentityFault;
 pub use laws::{
     chains_are_determined, valid_chains_have_no_fault, valid_chains_show_a_person,
-    versions_by_members, versions_name_persons, written_versions_read_back,
+    valid_chains_stay_valid, versions_by_members, versions_name_persons,
+    written_versions_read_back,
 };
 pub use making::{Made, new_version};
 pub use version::{Version, id_of_version, version_text};

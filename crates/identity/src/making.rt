@@ -7,7 +7,8 @@ ghost use Rattle.gb_store.specs.Moments.{WroteIf};
 ghost use Rattle.git_object.specs.Grammar.{IsCommitText, IsTreeText};
 ghost use Rattle.object_store.specs.Held.{objects_in};
 ghost use Rattle.object_store.specs.Puts.{PutsObject};
-ghost use Rattle.identity.specs.Version.{version_text_of};
+ghost use Rattle.identity.specs.Version.{version_text_of, written_version};
+ghost use Rattle.identity.specs.Extending.{Extends};
 ghost use Rattle.identity.specs.Making.{AreContents, HoldsVersion, MakingAnswers, commit_content, made_of, tree_content, version_commit, version_objects, version_tree};
 
 use crate::version::{id_of_version, version_text};
@@ -29,7 +30,8 @@ pub struct Made {
 /// Makes a version with this name, email, nonce and time, in seconds since 1970: its text as a blob, a
 /// tree whose entry `version` names the blob, and a commit of that tree behind the parent, if there is
 /// one. Puts these three in this order, each where it doesn't stand yet, and no ref. Refuses as
-/// `put_all`, before the first write.
+/// `put_all`, before the first write. Without a parent it begins the chain of a new identity; behind
+/// the head of an identity's chain of fewer than 65,536 versions it goes on with that chain.
 pub fn new_version<S: Store>(
     alloc: Global,
     disk: &mut S,
@@ -46,6 +48,8 @@ pub fn new_version<S: Store>(
     ensures made { IfOk result (λ made. made ≡ made_of (version_text_of name.now email.now nonce.now now) parent now) }
     ensures answers { IsTrue S.tells → MakingAnswers folder.now (version_objects (version_text_of name.now email.now nonce.now now) parent now) (S.history disk.old) (S.history disk.new) result }
     ensures held { IsTrue S.tells → IfOk result (HoldsVersion (objects_in (files_of (S.history disk.new)) folder.now) (version_text_of name.now email.now nonce.now now) parent now) }
+    ensures extends { IsTrue S.tells → IfOk result (Extends (objects_in (files_of (S.history disk.old)) folder.now) (objects_in (files_of (S.history disk.new)) folder.now) parent
+        (written_version name.now email.now nonce.now now)) }
     ensures wrote { WroteIf S.tells (PutsObject folder.now) (S.history disk.old) (S.history disk.new) }
     ensures reads { S.object_reads disk.new ≤ S.object_reads disk.old + 6 }
     ensures caused { KeepsFaults S.never_fails S.faults (IsErrOf result PutFault.Disk) disk.old disk.new }
@@ -89,7 +93,11 @@ fn objects_of(
     ensures contents { IfOk result (λ _. AreContents version.now parent now) }
 {
     let blob = ObjectText::new(alloc, Kind::Blob, version)?;
-    let tree = ObjectText::new(alloc, Kind::Tree, tree_content(alloc, blob.name())?.as_slice())?;
+    let tree = ObjectText::new(
+        alloc,
+        Kind::Tree,
+        tree_content(alloc, blob.name())?.as_slice(),
+    )?;
     let content = commit_content(alloc, tree.name(), parent, now)?;
     let commit = ObjectText::new(alloc, Kind::Commit, content.as_slice())?;
     Ok([blob, tree, commit])

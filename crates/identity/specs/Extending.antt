@@ -1,0 +1,31 @@
+-- What a new version does to the chain of its identity.
+use Rattle.std.specs.Prelude.{◌≡◌, ◌<◌, ℕ, List, [], ◌∷◌, ◌++◌, length, Option, Some, None}
+use Rattle.gb_text.specs.declared.id.Id.{Id}
+use Rattle.gb_text.specs.declared.id.Name.{Name}
+use Rattle.object_store.specs.Held.{Objects}
+use Rattle.commit_chain.specs.declared.chain.Met.{Met}
+use Rattle.identity.specs.Version.{person_name}
+use Rattle.identity.specs.Persons.{IsChain, Shows}
+use Rattle.identity.specs.declared.chain.Person.{Person}
+use Rattle.identity.specs.declared.making.Made.{Made}
+use Rattle.identity.specs.declared.version.Version.{Version}
+
+-- what stood under a name still stands
+pub record OnlyGrew (old new : Objects) : Type 0 where
+  pub stays : (name : Name) (text : List ℕ) → old name ≡ Some text → new name ≡ Some text
+
+-- the person that a version at a head shows
+abbrev pub person_by : Id → Name → Version → Person
+person_by id head version = record { id = id; head = head; name = person_name version; email = version.email }
+
+-- the chain from a head is that from the head below it and one commit more, and shows the person of a version
+pub record IsLonger (objects : Objects) (id : Id) (walk : List Met) (head : Name) (version : Version) : Type 0 where
+  pub chain : IsChain objects id head
+  pub tree : Name
+  pub longer : chain.walk ≡ walk ++ record { name = head; tree = tree } ∷ []
+  pub shows : Shows objects id head (person_by id head version)
+
+-- A new version begins the chain of its identity, or goes on with the chain from its parent: there is room for one more.
+abbrev pub Extends : Objects → Objects → Option Name → Version → Made → Type 0
+Extends old new None version made = IsLonger new made.id [] made.head version
+Extends old new (Some head) version made = (id : Id) (chain : IsChain old id head) → length chain.walk < 65536 → IsLonger new id chain.walk made.head version
