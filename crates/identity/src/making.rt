@@ -89,7 +89,11 @@ fn objects_of(
     ensures contents { IfOk result (λ _. AreContents version.now parent now) }
 {
     let blob = ObjectText::new(alloc, Kind::Blob, version)?;
-    let tree = ObjectText::new(alloc, Kind::Tree, tree_content(alloc, blob.name())?.as_slice())?;
+    let tree = ObjectText::new(
+        alloc,
+        Kind::Tree,
+        tree_content(alloc, blob.name())?.as_slice(),
+    )?;
     let content = commit_content(alloc, tree.name(), parent, now)?;
     let commit = ObjectText::new(alloc, Kind::Commit, content.as_slice())?;
     Ok([blob, tree, commit])
