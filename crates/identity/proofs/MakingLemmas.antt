@@ -1,5 +1,5 @@
 -- The objects that are written of a version.
-use Rattle.std.proofs.Common.{◌≡◌, ℕ, ◌<◌, ◌≤◌, zero, suc, List, [], ◌∷◌, length, All, Option, Some, option_and_then, Result, Ok, Err, IfOk, codes, refl, sym, ◌∙◌, ap, subst, arith}
+use Rattle.std.proofs.Common.{◌≡◌, ℕ, zero, suc, List, [], ◌∷◌, All, Option, Some, option_and_then, Result, Ok, Err, IfOk, codes, refl, ◌∙◌, ap, subst, arith}
 use Rattle.std.specs.List.Sorted.{IsPermutation}
 use Rattle.std.proofs.lemmas.List.Sorted.{length_permutation}
 use Rattle.std.proofs.lemmas.List.Sorted.{All-permutation}
@@ -11,16 +11,12 @@ use Rattle.git_object.specs.declared.tree.Tree.{Tree}
 use Rattle.git_object.specs.Grammar.{IsCommitText, IsSortedForm, IsTreeText, commit_text}
 use Rattle.git_object.specs.declared.object.Object.{Object}
 use Rattle.git_object.specs.declared.object.Object.TheVariants as object
-use Rattle.git_object.specs.declared.frame.Kind.TheVariants as kinds
 use Rattle.git_object.specs.Grammar.{IsContent, framed, kind_of, object_name}
 use Rattle.git_object.specs.Reading.{object_of}
 use Rattle.git_object.proofs.ObjectLaws.{framed_reads, with_again}
-use Rattle.gb_store.specs.Files.{History}
 use Rattle.object_store.specs.Held.{Objects, object_at, text_at}
-use Rattle.object_store.specs.declared.fault.PutFault.{PutFault}
-use Rattle.object_batch.specs.Batches.{BatchAnswers}
 use Rattle.identity.specs.declared.making.Made.{Made}
-use Rattle.identity.specs.Making.{AreContents, HoldsVersion, MakingAnswers, blob_object, commit_content, commit_object, made_of, tree_content, tree_object, version_commit, version_objects, version_tree}
+use Rattle.identity.specs.Making.{AreContents, HoldsVersion, blob_object, commit_content, commit_object, tree_content, tree_object, version_commit, version_objects, version_tree}
 
 -- what is written of a commit is the commit's text
 pub commit_is : {E : Type 0} (commit : Commit) (r : Result (List ℕ) E) → IfOk r (λ t. IsCommitText t commit) → IfOk r (λ t. t ≡ commit_text commit)

@@ -1,4 +1,6 @@
 //! What no clause says: worked texts, and that calls succeed.
+mod making;
+
 use crate::{Version, id_of_version, version_text};
 use gb_text::{Id, Memory, is_line, is_title};
 use std::alloc::Global;

@@ -1,5 +1,5 @@
 -- The commits that are written can be.
-use Rattle.std.proofs.Common.{◌≡◌, ◌<◌, ◌^◌, ◌+◌, ◌++◌, ℕ, zero, suc, refl, sym, subst, List, [], ◌∷◌, codes, map, flat_map, arith}
+use Rattle.std.proofs.Common.{◌≡◌, ◌<◌, ◌^◌, ◌+◌, ◌++◌, ℕ, zero, suc, refl, sym, subst, List, [], ◌∷◌, codes, map, arith}
 use Rattle.std.specs.Prelude.{decimal}
 use Rattle.std.specs.Int.Digits.{digits_of}
 use Rattle.std.proofs.lemmas.Fmt.{decimal_digit, decimal-digits_of}

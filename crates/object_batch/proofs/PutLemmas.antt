@@ -1,7 +1,7 @@
 -- What stands while texts are put.
 use Rattle.std.proofs.Common.{◌≡◌, ◌≢◌, ℕ, zero, suc, ◌≤◌, ◌<◌, ◌+◌, Bool, true, false, IsTrue, List, [], ◌∷◌, ◌++◌, length, take, drop, slice_index_or, All, Contains, Option, Some, None, Result, Ok, Err, OnOk, option_and_then, ◌⊎◌, inl, inr, refl, sym, ◌∙◌, ap, subst, arith}
 use Rattle.std.proofs.Math.Seq.{take-suc}
-use Rattle.std.proofs.lemmas.List.{take-append-drop, length-take-le}
+use Rattle.std.proofs.lemmas.List.{take-append-drop}
 use Rattle.std.specs.Str.{bytes_eq}
 use Rattle.std.proofs.lemmas.Grind.{common_steps}
 use Rattle.std.proofs.lemmas.List.Elements.{All-contains_itself}
@@ -16,13 +16,12 @@ use Rattle.git_object.specs.Grammar.{object_name}
 use Rattle.object_store.specs.Held.{named, objects_in, text_at}
 use Rattle.gb_store.specs.Files.{Put}
 use Rattle.gb_store.specs.Moments.{MaybeWrote, WroteIf}
-use Rattle.gb_store.specs.declared.store.Change.{Change}
-use Rattle.git_object.specs.Grammar.{framed, kind_of}
+use Rattle.git_object.specs.Grammar.{kind_of}
 use Rattle.object_store.specs.Puts.{IsPut, IsTaken, PutsObject, TextAnswers, object_write}
 use Rattle.object_store.specs.declared.fault.PutFault.{PutFault}
 use Rattle.object_store.specs.declared.fault.PutFault.TheVariants as fault
 use Rattle.object_store.proofs.PutLemmas.{objects_in-written, wrote_object}
-use Rattle.object_batch.specs.Batches.{ArePut, BatchAnswers, CannotHave, HasClash, HasObjectText, HasTaken, IsFree, IsShort, MayBePut, MissingAnswers, SomePut, StandsAnswers}
+use Rattle.object_batch.specs.Batches.{ArePut, BatchAnswers, CannotHave, HasObjectText, IsFree, IsShort, MayBePut, MissingAnswers, SomePut, StandsAnswers}
 use Rattle.object_batch.proofs.ClashLemmas.{Contains-cons_cases, Contains-first, Contains-later}
 use Rattle.object_batch.proofs.NameLemmas.{IsName-object_name, path_name}
 

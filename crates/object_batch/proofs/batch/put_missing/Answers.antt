@@ -1,4 +1,4 @@
-use Rattle.std.proofs.Common.{◌≡◌, ◌+◌, ◌<◌, ℕ, List, length, slice_index_or, Err, IsErrOf, IsTrue, sym, ◌∙◌, ap, subst, arith}
+use Rattle.std.proofs.Common.{◌≡◌, Err, IsErrOf, sym, subst, arith}
 use Rattle.std.proofs.lemmas.Grind.{common_steps}
 use Rattle.gb_store.proofs.MomentLemmas.{WroteIf_then}
 use Rattle.gb_store.proofs.FaultLemmas.{KeepsFaults_then}

@@ -1,4 +1,4 @@
-use Rattle.std.proofs.Common.{◌≡◌, ◌≤◌, ◌+◌, take, IsTrue}
+use Rattle.std.proofs.Common.{◌≤◌, ◌+◌, take, IsTrue}
 use Rattle.gb_store.specs.Faults.{KeepsFaults}
 use Rattle.gb_store.specs.Moments.{WroteIf}
 use Rattle.object_store.specs.Puts.{PutsObject}
