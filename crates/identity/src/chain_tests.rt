@@ -231,3 +231,24 @@ fn faults_below_the_head_are_those_of_the_chain(rt: HostRuntime) -> Result<(), F
     }
     Ok(())
 }
+
+// Puts a chain of so many commits of one tree, and answers the last.
+fn put_long(alloc: Global, store: &mut MemStore, count: u64) -> Result<Name, Fail> {
+    let blob = put(alloc, store, Kind::Blob, ANA)?;
+    let tree = put_tree(alloc, store, b"100644 version", &blob)?;
+    let mut head = put_commit(alloc, store, &tree, &[])?;
+    for _ in 1..count {
+        head = put_commit(alloc, store, &tree, &[head])?;
+    }
+    Ok(head)
+}
+
+#[test]
+fn no_more_than_65536_versions_are_read(rt: HostRuntime) -> Result<(), Fail> {
+    let alloc = rt.alloc();
+    let mut store = MemStore::new(alloc, List::new(alloc));
+    let head = put_long(alloc, &mut store, 65_537)?;
+    let fault = Some(IdentityFault::TooLarge(65_537));
+    assert_eq!(rt; fault_of(alloc, &mut store, &head)?, fault);
+    Ok(())
+}

@@ -1,5 +1,5 @@
 //! What no clause says of making versions: worked names, and that calls succeed.
-use crate::{Made, new_version};
+use crate::{Made, new_version, read_chain, read_last, versions};
 use gb_store::{Fail as Listed, MemStore, Store};
 use gb_text::{Folder, Id, List, Name, is_line, is_title};
 use object_store::{PutFault, path_of};
@@ -94,5 +94,21 @@ fn a_write_that_fails_keeps_those_before_it(rt: HostRuntime) -> Result<(), Fail>
         make(alloc, &mut store, &folder, None, "Ana")?;
         assert_eq!(rt; store.writes(), 3);
     }
+    Ok(())
+}
+
+#[test]
+fn a_version_that_is_made_is_a_person(rt: HostRuntime) -> Result<(), Fail> {
+    let alloc = rt.alloc();
+    let mut store = MemStore::new(alloc, List::new(alloc));
+    let folder = Folder::read(alloc, "f")?;
+    let made = make(alloc, &mut store, &folder, None, "Ana")?;
+    let person = read_chain(alloc, &mut store, &folder, &made.id, &made.head)?;
+    assert_eq!(rt; (person.id, person.head), (made.id, made.head));
+    assert_eq!(rt; person.name.as_str(), "Ana");
+    let last = read_last(alloc, &mut store, &folder, &made.id, &made.head)?;
+    assert_eq!(rt; last.email.as_str(), "ana@x");
+    let count = versions(alloc, &mut store, &folder, &made.id, &made.head)?;
+    assert_eq!(rt; count, 1);
     Ok(())
 }
