@@ -4,5 +4,6 @@ mod AnswerLemmas
 pub mod SortedLemmas
 pub mod PairLemmas
 pub mod PairTexts
+pub mod PlainLemmas
 pub mod ReadLaws
 pub mod KindLemmas

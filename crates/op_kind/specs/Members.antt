@@ -1,10 +1,14 @@
 -- The members of an object by the texts of their names.
-use Rattle.std.specs.Prelude.{◌≡◌, ◌≤◌, ◌⊎◌, ℕ, List, [], ◌∷◌, length, Option, Some, None, option_and_then, if◌then◌else◌}
+use Rattle.std.specs.Prelude.{◌&&◌, ◌==◌, not, nat_lt, Bool, ◌≡◌, ◌≤◌, ◌⊎◌, ℕ, List, [], ◌∷◌, length, Option, Some, None, option_and_then, if◌then◌else◌}
 use Rattle.std.specs.Option.{option_map}
 use Rattle.std.specs.Str.{bytes_eq, is_utf8}
 use Rattle.serde_json.specs.Find.{as_str}
 use Rattle.serde_json.specs.Read.{read}
 use Rattle.json_span.specs.Parts.{members_of}
+
+-- a byte that stands for itself in a JSON string: neither a control character nor a quote nor a backslash
+abbrev pub is_plain : ℕ → Bool
+is_plain c = not (nat_lt c 32) && (not (c == 34) && not (c == 92))
 
 -- a text in UTF-8, as each string is
 abbrev pub utf8_only : List ℕ → Option (List ℕ)

@@ -1,9 +1,10 @@
 //! The members of an object text, by the texts of their names.
-ghost use Rattle.std.specs.Prelude.{◌≡◌, ◌≤◌, ◌∷◌, [], length, map, string_bytes, IfOk, IfSome, IfNone, option_and_then};
+ghost use Rattle.std.specs.Prelude.{◌≡◌, ◌≤◌, ◌∷◌, ◌++◌, [], true, Some, length, map, string_bytes, IfOk, IfSome, IfNone, option_and_then};
 ghost use Rattle.std.specs.Option.{option_map};
 ghost use Rattle.serde_json.specs.Find.{as_str};
 ghost use Rattle.serde_json.specs.Read.{read};
-ghost use Rattle.op_kind.specs.Members.{text_at, fields_at, values_of};
+ghost use Rattle.std.specs.List.{list_all};
+ghost use Rattle.op_kind.specs.Members.{is_plain, text_at, fields_at, values_of};
 
 use gb_text::{Memory, Text};
 use json_span::{SpanFault, members};
@@ -30,8 +31,18 @@ fn unquote(alloc: Global, json: &str) -> Result<Option<String>, Memory>
 
 /// The text that a JSON string (RFC 8259, section 7) stands for. None where the bytes are no JSON
 /// string, or where an escape in it stands for no character, as a lone surrogate.
-#[tactic(auto, using(crate::proofs::TextLemmas::utf8_true, crate::proofs::TextLemmas::utf8_false, crate::proofs::TextLemmas::string_utf8), unfolding(crate::specs::Members::text_at))]
 pub fn read_text(alloc: Global, json: &[u8]) -> Result<Option<Text>, Memory>
+    ensures { IfOk result (λ o. o ≡ text_at json.now) }
+{
+    match plain_text(json) {
+        Some(text) => Ok(Some(Text::from_str(alloc, text)?)),
+        None => read_any_text(alloc, json),
+    }
+}
+
+// The same, by the reader of JSON, which costs more than a string without escapes needs.
+#[tactic(auto, using(crate::proofs::TextLemmas::utf8_true, crate::proofs::TextLemmas::utf8_false, crate::proofs::TextLemmas::string_utf8), unfolding(crate::specs::Members::text_at))]
+fn read_any_text(alloc: Global, json: &[u8]) -> Result<Option<Text>, Memory>
     ensures { IfOk result (λ o. o ≡ text_at json.now) }
 {
     match std::str::from_utf8(json) {
@@ -41,6 +52,44 @@ pub fn read_text(alloc: Global, json: &[u8]) -> Result<Option<Text>, Memory>
         },
         Err(_) => Ok(None),
     }
+}
+
+// The text that stands as it is between the quotes of a JSON string. None where something is escaped,
+// or the bytes are none.
+#[tactic(auto, using(crate::proofs::PlainLemmas::plain_reads))]
+fn plain_text(json: &[u8]) -> Option<&str>
+    ensures { IfSome result (λ text. text_at json.now ≡ Some text.now) }
+{
+    let inner = plain_inner(json)?;
+    match std::str::from_utf8(inner) {
+        Ok(text) => Some(text),
+        Err(_) => None,
+    }
+}
+
+// What stands between two quotes, where each byte of it stands for itself.
+fn plain_inner(json: &[u8]) -> Option<&[u8]>
+    ensures quotes { IfSome result (λ inner. json.now ≡ 34 ∷ inner.now ++ 34 ∷ []) }
+    ensures plain { IfSome result (λ inner. list_all is_plain inner.now ≡ true) }
+{
+    match json {
+        [b'"', inner @ .., b'"'] if are_plain(inner) => Some(inner),
+        _ => None,
+    }
+}
+
+// Whether each byte stands for itself in a JSON string.
+fn are_plain(bytes: &[u8]) -> bool
+    ensures { result ≡ list_all is_plain bytes.now }
+{
+    bytes.iter().all(|byte| is_plain(*byte))
+}
+
+// Whether a byte stands for itself in a JSON string.
+fn is_plain(byte: u8) -> bool
+    ensures { result ≡ is_plain byte }
+{
+    byte >= 32 && byte != b'"' && byte != b'\\'
 }
 
 /// The members of an object text whose names read as texts, in their order. None where the text is no
