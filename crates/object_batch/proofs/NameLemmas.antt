@@ -22,12 +22,12 @@ digest_bytes-sized h (suc n) =
     let both = length-append (digest_bytes h n) (to_be_bytes w32 (slice_index h n)) in
     omega (arith, before, last, both)
 
-IsBytes-append : (xs ys : List ℕ) → IsBytes xs → IsBytes ys → IsBytes (xs ++ ys)
+pub IsBytes-append : (xs ys : List ℕ) → IsBytes xs → IsBytes ys → IsBytes (xs ++ ys)
 IsBytes-append [] ys first then i = then i
 IsBytes-append (x ∷ xs) ys first then zero = first zero
 IsBytes-append (x ∷ xs) ys first then (suc i) = IsBytes-append xs ys (λ k. first (suc k)) then i
 
-word_bytes : (n : ℕ) → IsBytes (to_be_bytes w32 n)
+pub word_bytes : (n : ℕ) → IsBytes (to_be_bytes w32 n)
 word_bytes n zero = omega arith
 word_bytes n (suc zero) = omega arith
 word_bytes n (suc (suc zero)) = omega arith

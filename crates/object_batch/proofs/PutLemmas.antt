@@ -32,7 +32,7 @@ ArePut-push folder (t ∷ ts) text old mid new put last = (put.0, put.1, ArePut-
 
 -- ---- what stands stays
 
-stays_one : (folder text : List ℕ) (old new : History) (path found : List ℕ) → IsPut folder text old new → file_at old path ≡ Some found → file_at new path ≡ Some found
+pub stays_one : (folder text : List ℕ) (old new : History) (path found : List ℕ) → IsPut folder text old new → file_at old path ≡ Some found → file_at new path ≡ Some found
 stays_one folder text old new path found (inl same) stands = ap (λ (h : History). file_at h path) same.1 ∙ stands
 stays_one folder text old new path found (inr wrote) stands =
     ap (λ (h : History). file_at h path) wrote.1 ∙ file_at-other (object_write folder text) old path differs ∙ stands
@@ -45,7 +45,7 @@ stays folder [] old new path found put stands = ap (λ (h : History). file_at h 
 stays folder (text ∷ texts) old new path found put stands =
     stays folder texts put.0 new path found put.2 (stays_one folder text old put.0 path found put.1 stands)
 
-put_stands : (folder text : List ℕ) (old new : History) → IsPut folder text old new → objects_in (files_of new) folder (object_name text) ≡ Some text
+pub put_stands : (folder text : List ℕ) (old new : History) → IsPut folder text old new → objects_in (files_of new) folder (object_name text) ≡ Some text
 put_stands folder text old new (inl same) = ap (λ (h : History). objects_in (files_of h) folder (object_name text)) same.1 ∙ same.0
 put_stands folder text old new (inr wrote) = ap (λ (h : History). objects_in (files_of h) folder (object_name text)) wrote.1 ∙ objects_in-written folder text old
 

@@ -1,14 +1,15 @@
 -- Several object texts put in order: all of them, or none where one is refused.
-use Rattle.std.specs.Prelude.{◌≡◌, ◌≢◌, ◌<◌, ◌≤◌, ◌⊎◌, ◌&&◌, not, Bool, ℕ, List, [], ◌∷◌, ◌++◌, length, All, Contains, Option, Some, None, Result, Ok, Err, find, true, false, ⊤}
+use Rattle.std.specs.Prelude.{◌≡◌, ◌≢◌, ◌<◌, ◌≤◌, ◌⊎◌, ◌&&◌, not, Bool, ℕ, List, [], ◌∷◌, ◌++◌, length, All, Contains, Option, Some, None, Result, Ok, Err, find, true, false, is_some, if◌then◌else◌, ⊤}
 use Rattle.std.specs.List.{list_any}
 use Rattle.std.specs.Option.{option_map}
 use Rattle.std.specs.Str.{bytes_eq}
 use Rattle.gb_text.specs.declared.id.Name.{Name}
-use Rattle.gb_store.specs.Files.{History, files_of}
+use Rattle.gb_store.specs.Files.{Files, History, files_of, written}
+use Rattle.gb_store.specs.declared.store.Change.{Change}
 use Rattle.git_object.specs.declared.object.Object.{Object}
 use Rattle.git_object.specs.Grammar.{IsObjectText, object_name}
 use Rattle.object_store.specs.Held.{objects_in}
-use Rattle.object_store.specs.Puts.{IsPut, IsTaken}
+use Rattle.object_store.specs.Puts.{IsPut, IsTaken, object_write}
 use Rattle.object_store.specs.declared.fault.PutFault.{PutFault}
 use Rattle.object_store.specs.declared.fault.PutFault.TheVariants as fault
 
@@ -60,6 +61,12 @@ pub record MayBePut (folder : List ℕ) (texts : List (List ℕ)) (old : History
   pub short : All IsShort texts
   pub free : (name : Name) → CannotHave folder texts old name → ⊥
 
+-- the answer to whether none of the texts is too long
+abbrev pub SizesAnswer : List (List ℕ) → Result Unit PutFault → Type 0
+SizesAnswer texts (Ok _) = All IsShort texts
+SizesAnswer texts (Err (fault.Large count)) = (count ≡ 4194305) × HasLong texts
+SizesAnswer texts (Err _) = ⊥
+
 -- ---- what is written
 
 -- the texts were put in this order, each where nothing stood; where the text stood, nothing was written
@@ -77,6 +84,13 @@ pub record SomePut (folder : List ℕ) (texts : List (List ℕ)) (old new : Hist
 -- nothing was written, or none of the texts is refused and the first of them were put
 abbrev pub StoppedPut : List ℕ → List (List ℕ) → History → History → Type 0
 StoppedPut folder texts old new = (new ≡ old) ⊎ (MayBePut folder texts old × SomePut folder texts old new)
+
+-- the writes of these texts in order, each where nothing stands under its name
+abbrev pub missing_writes : List ℕ → List (List ℕ) → Files → List Change
+missing_writes folder [] files = []
+missing_writes folder (text ∷ texts) files =
+    if is_some (objects_in files folder (object_name text)) then missing_writes folder texts files
+    else object_write folder text ∷ missing_writes folder texts (written files (object_write folder text))
 
 -- the answer to a put of texts, and what was written
 abbrev pub BatchAnswers : List ℕ → List (List ℕ) → History → History → Result Unit PutFault → Type 0

@@ -3,11 +3,12 @@ ghost use Rattle.std.specs.Prelude.{◌≡◌, ◌≤◌, ◌+◌, ◌*◌, nat_
 ghost use Rattle.std.specs.List.{list_any};
 ghost use Rattle.gb_store.specs.Faults.{KeepsFaults};
 ghost use Rattle.gb_store.specs.Files.{files_of};
-ghost use Rattle.gb_store.specs.Moments.{WroteIf};
+ghost use Rattle.gb_store.specs.Moments.{Wrote, WroteIf};
 ghost use Rattle.git_object.specs.Grammar.{object_name};
 ghost use Rattle.object_store.specs.Held.{objects_in, text_at};
 ghost use Rattle.object_store.specs.Puts.{PutsObject, TextAnswers};
-ghost use Rattle.object_batch.specs.Batches.{BatchAnswers, FreeAnswers, HasLong, IsShort, MayBePut, MissingAnswers, StandsAnswers, clash_in, do_clash};
+ghost use Rattle.object_batch.specs.Batches.{BatchAnswers, FreeAnswers, HasLong, IsShort, MayBePut, MissingAnswers, SizesAnswer, StandsAnswers, clash_in, do_clash};
+ghost use Rattle.object_batch.specs.Needs.{InNeedOrder, PutsAfterNeeds};
 
 use crate::object_text::ObjectText;
 use gb_store::{Content, Store};
@@ -28,17 +29,29 @@ pub fn put_all<S: Store>(
     ensures answers { IsTrue S.tells → BatchAnswers folder.now texts.now (S.history disk.old) (S.history disk.new) result }
     ensures held { IsTrue S.tells → OnOk result (All (λ text. text_at (objects_in (files_of (S.history disk.new)) folder.now) (object_name text) ≡ Some text) texts.now) }
     ensures wrote { WroteIf S.tells (PutsObject folder.now) (S.history disk.old) (S.history disk.new) }
+    ensures needed { IsTrue S.tells → InNeedOrder (objects_in (files_of (S.history disk.old)) folder.now) texts.now
+        → Wrote (PutsAfterNeeds folder.now texts.now) (S.history disk.old) (S.history disk.new) }
     ensures reads { S.object_reads disk.new ≤ S.object_reads disk.old + 2 * length texts.now }
     ensures caused { KeepsFaults S.never_fails S.faults (IsErrOf result PutFault.Disk) disk.old disk.new }
 {
-    if !are_short(texts) {
-        return Err(PutFault::Large(MOST_BYTES + 1));
-    }
+    check_sizes(texts)?;
     if let Some(name) = clash_in(texts) {
         return Err(PutFault::Taken(name));
     }
     see_free(alloc, disk, folder, texts)?;
     put_missing(alloc, disk, folder, texts)
+}
+
+/// Refuses the texts as `put_all` does by their sizes: `Large` exactly where one of them has more than
+/// 4,194,304 bytes. Reads and writes nothing.
+pub fn check_sizes(texts: &[ObjectText]) -> Result<(), PutFault>
+    ensures { SizesAnswer texts.now result }
+{
+    if are_short(texts) {
+        Ok(())
+    } else {
+        Err(PutFault::Large(MOST_BYTES + 1))
+    }
 }
 
 // Whether a text has at most 4,194,304 bytes.

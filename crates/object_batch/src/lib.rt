@@ -7,9 +7,9 @@ mod commit;
 mod laws;
 mod object_text;
 
-pub use batch::put_all;
+pub use batch::{check_sizes, put_all};
 pub use commit::commit_for;
-pub use laws::batches_are_put_or_refused;
+pub use laws::{batches_are_put_or_refused, batches_write_what_is_missing};
 pub use object_text::ObjectText;
 
 #[cfg(test)]

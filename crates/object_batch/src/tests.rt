@@ -1,5 +1,5 @@
 //! What no clause says: worked names, and that calls succeed.
-use crate::{ObjectText, put_all};
+use crate::{ObjectText, check_sizes, put_all};
 use gb_store::{Fail as Listed, MemStore, Store};
 use gb_text::{Folder, List, Memory, Name};
 use git_object::Kind;
@@ -67,6 +67,21 @@ fn a_long_text_stops_all(rt: HostRuntime) -> Result<(), Fail> {
         Err(PutFault::Large(4_194_305))
     );
     assert_eq!(rt; store.writes(), 2);
+    Ok(())
+}
+
+#[test]
+fn sizes_alone_are_checked(rt: HostRuntime) -> Result<(), Fail> {
+    let alloc = rt.alloc();
+    let mut content = Vec::new(alloc);
+    for _ in 0..4_194_291 {
+        content.push(b'x')?;
+    }
+    let whole = [blob(alloc, b"a\n")?, blob(alloc, &content)?];
+    assert_eq!(rt; check_sizes(&whole), Ok(()));
+    content.push(b'x')?;
+    let longer = [blob(alloc, b"a\n")?, blob(alloc, &content)?];
+    assert_eq!(rt; check_sizes(&longer), Err(PutFault::Large(4_194_305)));
     Ok(())
 }
 
