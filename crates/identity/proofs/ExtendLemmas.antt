@@ -1,5 +1,5 @@
 -- A new version goes on with the chain of its identity, in objects that only grew.
-use Rattle.std.proofs.Common.{◌≡◌, ◌<◌, ◌≤◌, ◌+◌, inl, inr, ℕ, zero, suc, Bool, IsTrue, false, List, [], ◌∷◌, ◌++◌, length, Contains, Option, Some, None, option_and_then, option_to_list, Result, Ok, Err, IfOk, refl, sym, ◌∙◌, ap, subst, arith, length-append}
+use Rattle.std.proofs.Common.{◌≡◌, ◌<◌, ◌≤◌, inl, inr, ℕ, zero, suc, false, List, [], ◌∷◌, ◌++◌, length, Contains, Option, Some, None, option_and_then, option_to_list, Result, Ok, Err, IfOk, refl, sym, ◌∙◌, ap, subst, arith, length-append}
 use Rattle.std.proofs.lemmas.List.Elements.{Contains-push_cases}
 use Rattle.gb_text.specs.declared.id.Id.{Id}
 use Rattle.gb_text.specs.declared.id.Name.{Name}
@@ -15,9 +15,9 @@ use Rattle.commit_chain.specs.Chain.{IsCommit, Chain, Walked, Meets}
 use Rattle.commit_chain.specs.declared.chain.Met.{Met}
 use Rattle.commit_chain.proofs.PassLemmas.{Linked-walked, meets_first, met_at, walk_passes}
 use Rattle.identity.specs.Version.{version_of, version_id}
-use Rattle.identity.specs.Commits.{HasVersion, text_in, version_at, version_object, version_text_at}
-use Rattle.identity.specs.Extending.{Extends, IsLonger, OnlyGrew, person_by}
-use Rattle.identity.specs.Making.{HoldsVersion, blob_object, tree_object, made_of, version_commit, version_tree}
+use Rattle.identity.specs.Commits.{HasVersion, text_in, version_object, version_text_at}
+use Rattle.identity.specs.Extending.{Extends, IsLonger, OnlyGrew}
+use Rattle.identity.specs.Making.{HoldsVersion, tree_object, made_of, version_commit}
 use Rattle.identity.specs.Persons.{BeginsWith, IsChain, Shows}
 use Rattle.identity.specs.declared.chain.Person.{Person}
 use Rattle.identity.specs.declared.making.Made.{Made}
@@ -27,7 +27,7 @@ use Rattle.identity.proofs.NoFaultLemmas.{root_is}
 -- ---- what was held is held
 
 module _ (old new : Objects) (grew : OnlyGrew old new) where
-  object_stays : (name : Name) (o : Object) → object_at old name ≡ Some o → object_at new name ≡ Some o
+  pub object_stays : (name : Name) (o : Object) → object_at old name ≡ Some o → object_at new name ≡ Some o
   object_stays name o held = each (old name) refl
     where
       each : (t : Option (List ℕ)) → old name ≡ t → object_at new name ≡ Some o
@@ -35,7 +35,7 @@ module _ (old new : Objects) (grew : OnlyGrew old new) where
       each (Some text) e = ap (λ (x : Option (List ℕ)). option_and_then object_of (option_and_then (named name) x)) (grew.stays name text e ∙ sym e) ∙ held
 
   -- what is read of an object that is held
-  stays : {A : Type 0} (read : Object → Option A) (name : Name) (a : A) → option_and_then read (object_at old name) ≡ Some a → option_and_then read (object_at new name) ≡ Some a
+  pub stays : {A : Type 0} (read : Object → Option A) (name : Name) (a : A) → option_and_then read (object_at old name) ≡ Some a → option_and_then read (object_at new name) ≡ Some a
   stays {A = A} read name a held = each (object_at old name) refl
     where
       each : (o : Option Object) → object_at old name ≡ o → option_and_then read (object_at new name) ≡ Some a

@@ -1,16 +1,14 @@
 -- Objects that are put where nothing stands leave what stood.
-use Rattle.std.proofs.Common.{◌≡◌, ℕ, Bool, true, false, cond, List, [], ◌∷◌, ◌++◌, Option, Some, None, refl, sym, ◌∙◌, ap, subst}
+use Rattle.std.proofs.Common.{◌≡◌, ℕ, Bool, true, false, cond, List, [], ◌∷◌, ◌++◌, Some, None, refl, sym, ◌∙◌, ap, subst}
 use Rattle.std.specs.Str.{bytes_eq}
 use Rattle.std.proofs.lemmas.Slice.Eq.{bytes_eq-Decides}
-use Rattle.gb_text.specs.declared.id.Name.{Name}
 use Rattle.gb_text.specs.Folder.{joined}
 use Rattle.gb_store.specs.Files.{Files, History, files_of}
 use Rattle.gb_store.specs.Moments.{EachWrite, Wrote}
 use Rattle.gb_store.specs.ObjectPath.{object_place}
 use Rattle.gb_store.specs.declared.store.Change.{Change}
-use Rattle.git_object.specs.Grammar.{framed}
 use Rattle.object_store.specs.Held.{objects_in}
-use Rattle.object_store.specs.Puts.{PutsObject, object_write, text_name}
+use Rattle.object_store.specs.Puts.{PutsObject, text_name}
 use Rattle.identity.specs.Extending.{OnlyGrew}
 
 -- what stands at a path stands there after such a write

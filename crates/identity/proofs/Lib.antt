@@ -5,5 +5,6 @@ pub mod NoFaultLemmas
 pub mod PersonLemmas
 pub mod GrowLemmas
 pub mod MakingLemmas
+pub mod NeedLemmas
 pub mod TextLemmas
 pub mod VersionLemmas

@@ -15,8 +15,11 @@ use Rattle.git_object.specs.Grammar.{IsContent, framed, kind_of, object_name}
 use Rattle.git_object.specs.Reading.{object_of}
 use Rattle.git_object.proofs.ObjectLaws.{framed_reads, with_again}
 use Rattle.object_store.specs.Held.{Objects, object_at, text_at}
+use Rattle.object_store.specs.declared.fault.PutFault.{PutFault}
+use Rattle.object_store.specs.declared.fault.PutFault.TheVariants as fault
+use Rattle.object_batch.specs.Batches.{HasLong, IsShort, SizesAnswer}
 use Rattle.identity.specs.declared.making.Made.{Made}
-use Rattle.identity.specs.Making.{AreContents, HoldsVersion, blob_object, commit_content, commit_object, tree_content, tree_object, version_commit, version_objects, version_tree}
+use Rattle.identity.specs.Making.{AreContents, HoldsVersion, PlanAnswers, blob_object, commit_content, commit_object, made_of, tree_content, tree_object, version_commit, version_objects, version_tree}
 
 -- what is written of a commit is the commit's text
 pub commit_is : {E : Type 0} (commit : Commit) (r : Result (List ℕ) E) → IfOk r (λ t. IsCommitText t commit) → IfOk r (λ t. t ≡ commit_text commit)
@@ -69,3 +72,22 @@ holds_version objects version parent now texts made same are is held =
       tree = holds_object objects (object.Tree (version_tree blob)) (tree_content blob) are.tree (stand 1 [] (omega arith));
       blob = holds_object objects (object.Blob version) version refl (stand 0 [] (omega arith));
     }
+
+-- ---- what is to be made
+
+-- objects that are short enough
+pub plan_made : (bytes version : List ℕ) (parent : Option Name) (now : ℕ) (texts : List (List ℕ)) (made : Made) → bytes ≡ version → texts ≡ version_objects bytes parent now
+    → made ≡ made_of bytes parent now → All IsShort texts → PlanAnswers version parent now (Ok made)
+plan_made bytes version parent now texts made is same made_so short = (
+  made_so ∙ ap (λ (v : List ℕ). made_of v parent now) is,
+  subst (λ (ts : List (List ℕ)). All IsShort ts) (same ∙ ap (λ (v : List ℕ). version_objects v parent now) is) short,
+)
+
+-- objects one of which is too long
+pub plan_refused : (bytes version : List ℕ) (parent : Option Name) (now : ℕ) (texts : List (List ℕ)) (e : PutFault) → bytes ≡ version → texts ≡ version_objects bytes parent now
+    → SizesAnswer texts (Err e) → PlanAnswers version parent now (Err e)
+plan_refused bytes version parent now texts (fault.Large count) is same long =
+    (long.0, subst HasLong (same ∙ ap (λ (v : List ℕ). version_objects v parent now) is) long.1)
+plan_refused bytes version parent now texts (fault.Taken name) is same never = absurd never
+plan_refused bytes version parent now texts fault.Memory is same never = absurd never
+plan_refused bytes version parent now texts fault.Disk is same never = absurd never

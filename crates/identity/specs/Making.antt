@@ -1,5 +1,5 @@
 -- New versions of an identity: the three objects that are written of one.
-use Rattle.std.specs.Prelude.{◌≡◌, ℕ, List, [], ◌∷◌, codes, Option, Some, Result, Ok, Err}
+use Rattle.std.specs.Prelude.{◌≡◌, ⊤, ℕ, List, [], ◌∷◌, All, codes, Option, Some, None, Result, Ok, Err}
 use Rattle.std.specs.List.{flat_map}
 use Rattle.std.specs.Option.{option_to_list}
 use Rattle.gb_text.specs.declared.id.Name.{Name}
@@ -12,7 +12,9 @@ use Rattle.git_object.specs.declared.tree.Tree.{Tree}
 use Rattle.git_object.specs.Grammar.{IsCommitText, IsTreeText, commit_text, entry_text, framed, object_name}
 use Rattle.object_store.specs.Held.{Objects, object_at}
 use Rattle.object_store.specs.declared.fault.PutFault.{PutFault}
-use Rattle.object_batch.specs.Batches.{BatchAnswers}
+use Rattle.object_store.specs.declared.fault.PutFault.TheVariants as fault
+use Rattle.object_batch.specs.Batches.{BatchAnswers, HasLong, IsShort}
+use Rattle.object_batch.specs.Needs.{IsHeldAs}
 use Rattle.object_batch.specs.Commits.{written_commit}
 use Rattle.identity.specs.declared.making.Made.{Made}
 use Rattle.identity.specs.Version.{version_id}
@@ -63,6 +65,18 @@ pub record HoldsVersion (objects : Objects) (version : List ℕ) (parent : Optio
   pub commit : object_at objects made.head ≡ Some (object.Commit (version_commit (object_name (tree_object version)) parent now))
   pub tree : object_at objects (object_name (tree_object version)) ≡ Some (object.Tree (version_tree (object_name (blob_object version))))
   pub blob : object_at objects (object_name (blob_object version)) ≡ Some (object.Blob version)
+
+-- the parent, if there is one, is a commit that is held
+abbrev pub HasParent : Objects → Option Name → Type 0
+HasParent objects None = ⊤
+HasParent objects (Some parent) = IsHeldAs objects parent kinds.Commit
+
+-- what is to be made of a version's text, whose objects are short enough
+abbrev pub PlanAnswers : List ℕ → Option Name → ℕ → Result Made PutFault → Type 0
+PlanAnswers version parent now (Ok made) = (made ≡ made_of version parent now) × All IsShort (version_objects version parent now)
+PlanAnswers version parent now (Err (fault.Large count)) = (count ≡ 4194305) × HasLong (version_objects version parent now)
+PlanAnswers version parent now (Err fault.Memory) = ⊤
+PlanAnswers version parent now (Err _) = ⊥
 
 -- the answer is that of a put of the objects
 abbrev pub MakingAnswers : List ℕ → List (List ℕ) → History → History → Result Made PutFault → Type 0

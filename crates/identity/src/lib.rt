@@ -16,7 +16,7 @@ pub use laws::{
     valid_chains_stay_valid, versions_by_members, versions_name_persons,
     written_versions_read_back,
 };
-pub use making::{Made, new_version};
+pub use making::{Made, new_version, plan_version};
 pub use version::{Version, id_of_version, version_text};
 
 #[cfg(test)]

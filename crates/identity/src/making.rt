@@ -3,19 +3,20 @@ ghost use Rattle.std.specs.Prelude.{◌≡◌, ◌≤◌, ◌+◌, ◌-◌, ◌^
 ghost use Rattle.gb_text.specs.Rules.{is_line_text, is_title_text};
 ghost use Rattle.gb_store.specs.Faults.{KeepsFaults};
 ghost use Rattle.gb_store.specs.Files.{files_of};
-ghost use Rattle.gb_store.specs.Moments.{WroteIf};
+ghost use Rattle.gb_store.specs.Moments.{Wrote, WroteIf};
 ghost use Rattle.git_object.specs.Grammar.{IsCommitText, IsTreeText};
 ghost use Rattle.object_store.specs.Held.{objects_in};
 ghost use Rattle.object_store.specs.Puts.{PutsObject};
 ghost use Rattle.identity.specs.Version.{version_text_of, written_version};
 ghost use Rattle.identity.specs.Extending.{Extends};
-ghost use Rattle.identity.specs.Making.{AreContents, HoldsVersion, MakingAnswers, commit_content, made_of, tree_content, version_commit, version_objects, version_tree};
+ghost use Rattle.object_batch.specs.Needs.{PutsAfterNeeds};
+ghost use Rattle.identity.specs.Making.{AreContents, HasParent, HoldsVersion, MakingAnswers, PlanAnswers, commit_content, made_of, tree_content, version_commit, version_objects, version_tree};
 
 use crate::version::{id_of_version, version_text};
 use gb_store::Store;
 use gb_text::{Bytes, Folder, Id, List, Memory, Name};
 use git_object::{Entry, Kind, Mode, Tree};
-use object_batch::{ObjectText, commit_for, put_all};
+use object_batch::{ObjectText, check_sizes, commit_for, put_all};
 use object_store::PutFault;
 use std::alloc::Global;
 
@@ -51,11 +52,36 @@ pub fn new_version<S: Store>(
     ensures extends { IsTrue S.tells → IfOk result (Extends (objects_in (files_of (S.history disk.old)) folder.now) (objects_in (files_of (S.history disk.new)) folder.now) parent
         (written_version name.now email.now nonce.now now)) }
     ensures wrote { WroteIf S.tells (PutsObject folder.now) (S.history disk.old) (S.history disk.new) }
+    ensures needed { IsTrue S.tells → HasParent (objects_in (files_of (S.history disk.old)) folder.now) parent
+        → Wrote (PutsAfterNeeds folder.now (version_objects (version_text_of name.now email.now nonce.now now) parent now)) (S.history disk.old) (S.history disk.new) }
     ensures reads { S.object_reads disk.new ≤ S.object_reads disk.old + 6 }
     ensures caused { KeepsFaults S.never_fails S.faults (IsErrOf result PutFault.Disk) disk.old disk.new }
 {
     let version = version_text(alloc, name, email, nonce, now)?;
     put_version(alloc, disk, folder, version.as_slice(), parent, now)
+}
+
+/// What `new_version` makes of these, or its refusal by their sizes. Reads and writes nothing.
+pub fn plan_version(
+    alloc: Global,
+    parent: Option<Name>,
+    name: &str,
+    email: &str,
+    nonce: &[u8; 32],
+    now: u64,
+) -> Result<Made, PutFault>
+    requires title { IsTrue (is_title_text name.now) }
+    requires line { IsTrue (is_line_text email.now) }
+    requires moment { now ≤ 2 ^ 63 - 1 }
+    ensures { PlanAnswers (version_text_of name.now email.now nonce.now now) parent now result }
+{
+    let version = version_text(alloc, name, email, nonce, now)?;
+    let objects = objects_of(alloc, version.as_slice(), parent, now)?;
+    check_sizes(&objects)?;
+    Ok(Made {
+        id: id_of_version(version.as_slice()),
+        head: objects[2].name(),
+    })
 }
 
 // Puts the objects of a version with this text.
@@ -71,6 +97,8 @@ fn put_version<S: Store>(
     ensures answers { IsTrue S.tells → MakingAnswers folder.now (version_objects version.now parent now) (S.history disk.old) (S.history disk.new) result }
     ensures held { IsTrue S.tells → IfOk result (HoldsVersion (objects_in (files_of (S.history disk.new)) folder.now) version.now parent now) }
     ensures wrote { WroteIf S.tells (PutsObject folder.now) (S.history disk.old) (S.history disk.new) }
+    ensures needed { IsTrue S.tells → HasParent (objects_in (files_of (S.history disk.old)) folder.now) parent
+        → Wrote (PutsAfterNeeds folder.now (version_objects version.now parent now)) (S.history disk.old) (S.history disk.new) }
     ensures reads { S.object_reads disk.new ≤ S.object_reads disk.old + 6 }
     ensures caused { KeepsFaults S.never_fails S.faults (IsErrOf result PutFault.Disk) disk.old disk.new }
 {

@@ -15,10 +15,10 @@ use Rattle.ref_store.specs.Refs.{Head, ref_at, ref_of}
 use Rattle.ref_store.specs.Setting.{ref_write}
 use Rattle.ref_store.proofs.RefLemmas.{reads_as_head}
 
-written-same : (files : Files) (change : Change) → written files change change.path ≡ change.bytes
+pub written-same : (files : Files) (change : Change) → written files change change.path ≡ change.bytes
 written-same files change = rw ((bytes_eq-Decides change.path change.path).1 refl) refl
 
-written-other : (files : Files) (change : Change) (path : List ℕ) → change.path ≢ path → written files change path ≡ files path
+pub written-other : (files : Files) (change : Change) (path : List ℕ) → change.path ≢ path → written files change path ≡ files path
 written-other files change path other = each (bytes_eq change.path path) refl
   where
     each : (b : Bool) → bytes_eq change.path path ≡ b → cond (bytes_eq change.path path) change.bytes (files path) ≡ files path
@@ -30,7 +30,7 @@ append_same [] one two e = e
 append_same (c ∷ cs) one two e = append_same cs one two (cc e)
 
 -- what stands at one place below a folder stands at no other
-joined-same : (folder one two : List ℕ) → joined folder one ≡ joined folder two → one ≡ two
+pub joined-same : (folder one two : List ℕ) → joined folder one ≡ joined folder two → one ≡ two
 joined-same folder one two e = append_same (folder ++ joint folder) one two e
 
 pub set_ref_reads : (files : Files) (folder path : List ℕ) (head : Name) → IsName head → ref_at (written files (ref_write folder path head)) folder path ≡ Head head

@@ -25,7 +25,7 @@ long_is_bad text long = each (name_of (line_of text)) refl
         absurd (omega (arith, long, forty, length-line_of text))
 
 -- a line feed at the end is dropped
-line_of-more : (text : List ℕ) → line_of (text ++ 10 ∷ []) ≡ text
+pub line_of-more : (text : List ℕ) → line_of (text ++ 10 ∷ []) ≡ text
 line_of-more text =
     let count : length (text ++ 10 ∷ []) - 1 ≡ length text = omega (arith, length-append text (10 ∷ [])) in
     let last : drop (length (text ++ 10 ∷ []) - 1) (text ++ 10 ∷ []) ≡ 10 ∷ [] = ap (λ (k : ℕ). drop k (text ++ 10 ∷ [])) count ∙ drop-append_seam text (10 ∷ []) in

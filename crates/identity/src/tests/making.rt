@@ -1,5 +1,5 @@
 //! What no clause says of making versions: worked names, and that calls succeed.
-use crate::{Made, new_version, read_chain, read_last, versions};
+use crate::{Made, new_version, plan_version, read_chain, read_last, versions};
 use gb_store::{Fail as Listed, MemStore, Store};
 use gb_text::{Folder, Id, List, Name, is_line, is_title};
 use object_store::{PutFault, path_of};
@@ -21,6 +21,15 @@ fn make(
     new_version(alloc, store, folder, parent, name, email, &[7; 32], 100)
 }
 
+// What would be made of the same.
+fn plan(alloc: Global, parent: Option<Name>, name: &str) -> Result<Made, PutFault> {
+    let email = "ana@x";
+    if !is_title(name) || !is_line(email) {
+        return Err(PutFault::Memory);
+    }
+    plan_version(alloc, parent, name, email, &[7; 32], 100)
+}
+
 #[test]
 fn a_version_is_made_once(rt: HostRuntime) -> Result<(), Fail> {
     let alloc = rt.alloc();
@@ -40,6 +49,22 @@ fn a_version_is_made_once(rt: HostRuntime) -> Result<(), Fail> {
     let later = make(alloc, &mut store, &folder, Some(head), "Ana")?;
     assert_eq!(rt; later, Made { id, head: next });
     assert_eq!(rt; store.writes(), 4);
+    Ok(())
+}
+
+#[test]
+fn a_plan_is_what_is_made(rt: HostRuntime) -> Result<(), Fail> {
+    let alloc = rt.alloc();
+    let mut store = MemStore::new(alloc, List::new(alloc));
+    let folder = Folder::read(alloc, "f")?;
+    let first = plan(alloc, None, "Ana")?;
+    let second = plan(alloc, Some(first.head), "Eva")?;
+    assert_eq!(rt; store.writes(), 0);
+    assert_eq!(rt; make(alloc, &mut store, &folder, None, "Ana"), Ok(first));
+    assert_eq!(rt;
+        make(alloc, &mut store, &folder, Some(first.head), "Eva"),
+        Ok(second)
+    );
     Ok(())
 }
 
@@ -70,6 +95,10 @@ fn a_long_name_stops_the_version(rt: HostRuntime) -> Result<(), Fail> {
     }
     assert_eq!(rt;
         make(alloc, &mut store, &folder, None, name.as_str()),
+        Err(PutFault::Large(4_194_305))
+    );
+    assert_eq!(rt;
+        plan(alloc, None, name.as_str()),
         Err(PutFault::Large(4_194_305))
     );
     assert_eq!(rt; store.writes(), 0);

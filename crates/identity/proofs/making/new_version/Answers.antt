@@ -1,6 +1,8 @@
 use Rattle.std.proofs.Common.{◌≡◌, ◌∙◌, ℕ, List, IfOk, ap, refl, subst}
 use Rattle.gb_store.specs.Files.{files_of}
+use Rattle.gb_store.specs.Moments.{Wrote}
 use Rattle.object_store.specs.Held.{objects_in}
+use Rattle.object_batch.specs.Needs.{PutsAfterNeeds}
 use Rattle.identity.specs.Version.{version_of, written_version}
 use Rattle.identity.proofs.ExtendLemmas.{extends_answer}
 use Rattle.identity.proofs.GrowLemmas.{objects_grew}
@@ -26,3 +28,8 @@ returns-clause-extends g c = λ tells.
     extends_answer (objects_in (files_of old) folder) (objects_in (files_of new) folder) c.args.parent c.as_slice.result.now c.args.now version
     (objects_grew folder old new (c.put_version.ensures.wrote.wrote tells)) (ap version_of c.as_slice.ensures ∙ c.in_ok-version.ensures.reads_back) refl
     c.put_version.result c.put_version.ensures.made (c.put_version.ensures.held tells)
+
+pub returns-clause-needed : goal.returns-clause-needed
+returns-clause-needed g c = λ tells has.
+    subst (λ (v : List ℕ). Wrote (PutsAfterNeeds c.args.folder.now (version_objects v c.args.parent c.args.now)) (g.S.Store.history c.args.disk.now) (g.S.Store.history c.put_version.new.disk))
+    (c.as_slice.ensures ∙ c.in_ok-version.ensures.text) (c.put_version.ensures.needed tells has)
