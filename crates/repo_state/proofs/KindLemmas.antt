@@ -1,0 +1,134 @@
+-- What each kind of write leaves of a folder's objects, refs and user.
+use Rattle.std.proofs.Common.{◌≡◌, ◌≢◌, ◌⊎◌, inl, inr, ℕ, Bool, true, false, IsTrue, cond, List, [], ◌∷◌, ◌++◌, Option, Some, None, refl, sym, ◌∙◌, ap, subst}
+use Rattle.std.specs.Prelude.{is_some}
+use Rattle.std.specs.Str.{bytes_eq}
+use Rattle.hex.specs.Hex.{encode_lower}
+use Rattle.gb_text.specs.Digits.{IsId, IsName, id_of}
+use Rattle.gb_text.specs.Folder.{joined}
+use Rattle.gb_text.specs.LineEnd.{line_of}
+use Rattle.gb_text.specs.declared.id.Id.{Id}
+use Rattle.gb_text.specs.declared.id.Name.{Name}
+use Rattle.gb_text.proofs.DigitLemmas.{id_of-encode_lower}
+use Rattle.gb_store.specs.Files.{Files, Put, written}
+use Rattle.gb_store.specs.ObjectPath.{object_place}
+use Rattle.gb_store.specs.declared.store.Change.{Change}
+use Rattle.git_object.specs.Grammar.{object_name}
+use Rattle.object_store.specs.Held.{objects_in}
+use Rattle.object_store.specs.Puts.{object_write}
+use Rattle.ref_store.specs.Refs.{Head, ref_of}
+use Rattle.ref_store.specs.Setting.{ref_write}
+use Rattle.ref_store.proofs.MapLemmas.{joined-same, set_ref_reads, written-other, written-same}
+use Rattle.ref_store.proofs.RefLemmas.{line_of-more}
+use Rattle.repo_state.specs.Sides.{has_ref, head_at, ref_place}
+use Rattle.repo_state.specs.Sound.{IsNamedSide}
+use Rattle.repo_state.specs.Users.{BadUser, User, id_line, local_user, user_at, user_of, user_place, user_write}
+use Rattle.repo_state.specs.declared.side.Side.{Side}
+use Rattle.repo_state.specs.declared.side.Side.TheVariants as side
+use Rattle.repo_state.proofs.PlaceLemmas.{ref-not_object, ref-not_user, ref_place-same, ref_place-side, same_or_other, user-not_object}
+
+-- ---- objects
+
+-- what stood stands where a write is of a path at which nothing stood
+pub written-free : (files : Files) (change : Change) (path text : List ℕ) → files change.path ≡ None → files path ≡ Some text → written files change path ≡ Some text
+written-free files change path text free stands = written-other files change path (λ e. cc (sym free ∙ ap files e ∙ stands)) ∙ stands
+
+-- objects are the same function after the head of a ref was set
+pub objects-ref_write : (files : Files) (folder : List ℕ) (of : Side) (id : Id) (head : Name) → objects_in (written files (ref_write folder (ref_place of id) head)) folder ≡ objects_in files folder
+objects-ref_write files folder of id head =
+    λ i name. written-other files (ref_write folder (ref_place of id) head) (joined folder (object_place name)) (ref-not_object folder of id name) i
+
+-- and after the user was
+pub objects-user_write : (files : Files) (folder : List ℕ) (user : Id) → objects_in (written files (user_write folder user)) folder ≡ objects_in files folder
+objects-user_write files folder user = λ i name. written-other files (user_write folder user) (joined folder (object_place name)) (user-not_object folder name) i
+
+-- ---- refs
+
+-- a ref reads as before where a write is not of its path
+head_at-other : (files : Files) (change : Change) (folder : List ℕ) (of : Side) (id : Id) → change.path ≢ joined folder (ref_place of id)
+    → head_at (written files change) folder of id ≡ head_at files folder of id
+head_at-other files change folder of id other = ap ref_of (written-other files change (joined folder (ref_place of id)) other)
+
+pub head_at-object_write : (files : Files) (folder text : List ℕ) (of : Side) (id : Id) → head_at (written files (object_write folder text)) folder of id ≡ head_at files folder of id
+head_at-object_write files folder text of id =
+    head_at-other files (object_write folder text) folder of id (λ e. ref-not_object folder of id (object_name text) (sym e))
+
+pub head_at-user_write : (files : Files) (folder : List ℕ) (of : Side) (id user : Id) → head_at (written files (user_write folder user)) folder of id ≡ head_at files folder of id
+head_at-user_write files folder of id user = head_at-other files (user_write folder user) folder of id (λ e. ref-not_user folder of id (sym e))
+
+-- after a head was set, the ref of an id reads as before, or it is that one and reads as the head
+pub head_at-ref_write : (files : Files) (folder : List ℕ) (of : Side) (id other : Id) (head : Name) → IsId id → IsId other → IsName head
+    → (head_at (written files (ref_write folder (ref_place of id) head)) folder of other ≡ head_at files folder of other)
+    ⊎ ((id ≡ other) × (head_at (written files (ref_write folder (ref_place of id) head)) folder of other ≡ Head head))
+head_at-ref_write files folder of id other head is_id is_other is_head =
+    elim (same_or_other (joined folder (ref_place of id)) (joined folder (ref_place of other))) [
+      | inl path ↦
+          let same = ref_place-same of id other is_id is_other (joined-same folder (ref_place of id) (ref_place of other) path) in
+          inr (same, subst (λ (i : Id). head_at (written files (ref_write folder (ref_place of id) head)) folder of i ≡ Head head) same (set_ref_reads files folder (ref_place of id) head is_head))
+      | inr differ ↦ inl (head_at-other files (ref_write folder (ref_place of id) head) folder of other differ)
+    ]
+
+-- a ref of another id reads as before
+pub head_at-other_id : (files : Files) (folder : List ℕ) (of : Side) (id other : Id) (head : Name) → IsId id → IsId other → id ≢ other
+    → head_at (written files (ref_write folder (ref_place of id) head)) folder of other ≡ head_at files folder of other
+head_at-other_id files folder of id other head is_id is_other differ =
+    head_at-other files (ref_write folder (ref_place of id) head) folder of other
+    (λ e. differ (ref_place-same of id other is_id is_other (joined-same folder (ref_place of id) (ref_place of other) e)))
+
+-- and so does a ref of another side
+pub head_at-other_side : (files : Files) (folder : List ℕ) (of on : Side) (id other : Id) (head : Name) → IsNamedSide of → IsNamedSide on → of ≢ on
+    → head_at (written files (ref_write folder (ref_place of id) head)) folder on other ≡ head_at files folder on other
+head_at-other_side files folder of on id other head is_of is_on differ =
+    head_at-other files (ref_write folder (ref_place of id) head) folder on other
+    (λ e. differ (ref_place-side of on id other is_of is_on (joined-same folder (ref_place of id) (ref_place on other) e)))
+
+-- ---- the user
+
+-- what stands still stands after a put
+stands-put : (files : Files) (path bytes at : List ℕ) → IsTrue (is_some (files at)) → IsTrue (is_some (written files (Put path bytes) at))
+stands-put files path bytes at stands = decide (bytes_eq path at) refl
+  where
+    decide : (b : Bool) → bytes_eq path at ≡ b → IsTrue (is_some (written files (Put path bytes) at))
+    decide true h = rw h refl
+    decide false h = rw h stands
+
+-- the user is who it was where its file is the same and the refs that stood still stand, but for a file that names nobody
+pub user_at-kept : (old new : Files) (folder : List ℕ) → new (joined folder user_place) ≡ old (joined folder user_place)
+    → ((id : Id) → IsTrue (has_ref old folder side.Identities id) → IsTrue (has_ref new folder side.Identities id))
+    → (user_at old folder ≡ BadUser → ⊥) → user_at new folder ≡ user_at old folder
+user_at-kept old new folder same stand sound = ap (user_of new folder) same ∙ at_file (old (joined folder user_place)) sound
+  where
+    at_id : (o : Option Id) → (local_user old folder o ≡ BadUser → ⊥) → local_user new folder o ≡ local_user old folder o
+    at_id None sound = refl
+    at_id (Some id) sound = decide (has_ref old folder side.Identities id) refl
+      where
+        decide : (b : Bool) → has_ref old folder side.Identities id ≡ b → local_user new folder (Some id) ≡ local_user old folder (Some id)
+        decide true h = rw (stand id h, h) refl
+        decide false h = absurd (sound (rw h refl))
+
+    at_file : (o : Option (List ℕ)) → (user_of old folder o ≡ BadUser → ⊥) → user_of new folder o ≡ user_of old folder o
+    at_file None sound = refl
+    at_file (Some text) sound = at_id (id_of (line_of text)) sound
+
+-- a put of another path leaves the user who it was
+pub user_at-put : (files : Files) (folder path bytes : List ℕ) → path ≢ joined folder user_place → (user_at files folder ≡ BadUser → ⊥)
+    → user_at (written files (Put path bytes)) folder ≡ user_at files folder
+user_at-put files folder path bytes other sound =
+    user_at-kept files (written files (Put path bytes)) folder (written-other files (Put path bytes) (joined folder user_place) other)
+    (λ id stands. stands-put files path bytes (joined folder (ref_place side.Identities id)) stands) sound
+
+-- so does a head that is set
+pub user_at-ref_write : (files : Files) (folder : List ℕ) (of : Side) (id user : Id) (head : Name) → user_at files folder ≡ User user
+    → user_at (written files (ref_write folder (ref_place of id) head)) folder ≡ User user
+user_at-ref_write files folder of id user head is =
+    user_at-put files folder (joined folder (ref_place of id)) (encode_lower head.bytes ++ 10 ∷ []) (ref-not_user folder of id) (λ bad. cc (sym bad ∙ is)) ∙ is
+
+-- the user that was set is the user, where its ref stands
+pub user_at-set : (files : Files) (folder : List ℕ) (id : Id) → IsId id → IsTrue (has_ref files folder side.Identities id) → user_at (written files (user_write folder id)) folder ≡ User id
+user_at-set files folder id is stands =
+    ap (user_of (written files (user_write folder id)) folder) (written-same files (user_write folder id))
+    ∙ ap (λ (text : List ℕ). local_user (written files (user_write folder id)) folder (id_of text)) (line_of-more (encode_lower id.bytes))
+    ∙ ap (local_user (written files (user_write folder id)) folder) (id_of-encode_lower id is)
+    ∙ ap (λ (b : Bool). cond b (User id) BadUser) still
+  where
+    still : IsTrue (has_ref (written files (user_write folder id)) folder side.Identities id)
+    still = stands-put files (joined folder user_place) (id_line id) (joined folder (ref_place side.Identities id)) stands

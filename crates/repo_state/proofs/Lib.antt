@@ -1,0 +1,10 @@
+pub mod DamageLemmas
+pub mod IdLemmas
+pub mod KindLemmas
+pub mod ListingLemmas
+pub mod PeopleLemmas
+pub mod PlaceLemmas
+pub mod RefusalLemmas
+pub mod SoundLemmas
+pub mod StepLemmas
+pub mod UserFileLemmas

@@ -1,0 +1,99 @@
+-- Places below a folder: which of them are never the same.
+use Rattle.std.proofs.Common.{◌≡◌, ◌≢◌, ◌⊎◌, inl, inr, ℕ, ◌==◌, ◌||◌, Bool, true, false, IsTrue, List, [], ◌∷◌, ◌++◌, codes, refl, sym, ◌∙◌, ap, append_assoc, arith}
+use Rattle.std.proofs.lemmas.List.{append_cancel_left}
+use Rattle.std.specs.Char.{is_ascii_alphanumeric}
+use Rattle.std.specs.List.{list_all}
+use Rattle.std.specs.Prelude.{slice_index}
+use Rattle.std.specs.Str.{bytes_eq}
+use Rattle.std.proofs.lemmas.Slice.Eq.{bytes_eq-Decides}
+use Rattle.hex.specs.Hex.{encode_lower}
+use Rattle.gb_text.specs.Digits.{IsId}
+use Rattle.gb_text.specs.Folder.{joined}
+use Rattle.gb_text.specs.declared.id.Id.{Id}
+use Rattle.gb_text.specs.declared.id.Name.{Name}
+use Rattle.gb_store.specs.ObjectPath.{object_place}
+use Rattle.git_object.specs.Grammar.{Lacks}
+use Rattle.git_object.specs.Reading.{cut_at}
+use Rattle.git_object.proofs.CutLaws.{and_true, cut_again, some_is}
+use Rattle.ref_store.proofs.MapLemmas.{joined-same}
+use Rattle.repo_state.specs.Sides.{dir_of, ref_place}
+use Rattle.repo_state.specs.Sound.{IsNamedSide, IsRemoteName}
+use Rattle.repo_state.specs.Users.{user_place}
+use Rattle.repo_state.specs.declared.side.Side.{Side}
+use Rattle.repo_state.specs.declared.side.Side.TheVariants as side
+use Rattle.repo_state.proofs.IdLemmas.{digits-same}
+
+-- two paths are the same or not
+pub same_or_other : (one two : List ℕ) → (one ≡ two) ⊎ (one ≢ two)
+same_or_other one two = decide (bytes_eq one two) refl
+  where
+    decide : (b : Bool) → bytes_eq one two ≡ b → (one ≡ two) ⊎ (one ≢ two)
+    decide true h = inl ((bytes_eq-Decides one two).0 h)
+    decide false h = inr (λ e. cc (sym h ∙ (bytes_eq-Decides one two).1 e))
+
+-- places that differ in a byte stand at paths that differ
+apart : (folder one two : List ℕ) (k : ℕ) → slice_index one k ≢ slice_index two k → joined folder one ≢ joined folder two
+apart folder one two k differ e = differ (ap (λ (place : List ℕ). slice_index place k) (joined-same folder one two e))
+
+-- a ref and an object
+pub ref-not_object : (folder : List ℕ) (of : Side) (id : Id) (name : Name) → joined folder (ref_place of id) ≢ joined folder (object_place name)
+ref-not_object folder side.Bugs id name = apart folder (ref_place side.Bugs id) (object_place name) 0 (λ e. omega arith)
+ref-not_object folder side.Identities id name = apart folder (ref_place side.Identities id) (object_place name) 0 (λ e. omega arith)
+ref-not_object folder (side.RemoteBugs remote) id name = apart folder (ref_place (side.RemoteBugs remote) id) (object_place name) 0 (λ e. omega arith)
+ref-not_object folder (side.RemoteIdentities remote) id name = apart folder (ref_place (side.RemoteIdentities remote) id) (object_place name) 0 (λ e. omega arith)
+
+-- a ref and the user
+pub ref-not_user : (folder : List ℕ) (of : Side) (id : Id) → joined folder (ref_place of id) ≢ joined folder user_place
+ref-not_user folder side.Bugs id = apart folder (ref_place side.Bugs id) user_place 0 (λ e. omega arith)
+ref-not_user folder side.Identities id = apart folder (ref_place side.Identities id) user_place 0 (λ e. omega arith)
+ref-not_user folder (side.RemoteBugs remote) id = apart folder (ref_place (side.RemoteBugs remote) id) user_place 0 (λ e. omega arith)
+ref-not_user folder (side.RemoteIdentities remote) id = apart folder (ref_place (side.RemoteIdentities remote) id) user_place 0 (λ e. omega arith)
+
+-- the user and an object
+pub user-not_object : (folder : List ℕ) (name : Name) → joined folder user_place ≢ joined folder (object_place name)
+user-not_object folder name = apart folder user_place (object_place name) 0 (λ e. omega arith)
+
+-- the refs of one side stand at one place only for one id
+pub ref_place-same : (of : Side) (one two : Id) → IsId one → IsId two → ref_place of one ≡ ref_place of two → one ≡ two
+ref_place-same of one two first second e =
+    let tail : 47 ∷ encode_lower one.bytes ≡ 47 ∷ encode_lower two.bytes = append_cancel_left (dir_of of) (47 ∷ encode_lower one.bytes) (47 ∷ encode_lower two.bytes) e in
+    digits-same one two first second cc
+
+-- ---- two sides
+
+-- the name of a remote has no slash
+remote-lacks : (remote : List ℕ) → IsRemoteName remote → Lacks 47 remote
+remote-lacks remote is = each remote is.each
+  where
+    each : (cs : List ℕ) → IsTrue (list_all (λ c. is_ascii_alphanumeric c || ((c == 95) || (c == 45))) cs) → Lacks 47 cs
+    each [] all = tt
+    each (c ∷ cs) all =
+        let parts = and_true (is_ascii_alphanumeric c || ((c == 95) || (c == 45))) (list_all (λ c. is_ascii_alphanumeric c || ((c == 95) || (c == 45))) cs) all in
+        ((λ e. cc (sym parts.0 ∙ ap (λ (c : ℕ). is_ascii_alphanumeric c || ((c == 95) || (c == 45))) e)), each cs parts.1)
+
+-- refs of remotes stand at one place only for one remote, and below one dir of it
+remotes-same : (one two kind other x y : List ℕ) → IsRemoteName one → IsRemoteName two
+    → ((codes "refs/remotes/" ++ one) ++ 47 ∷ kind) ++ x ≡ ((codes "refs/remotes/" ++ two) ++ 47 ∷ other) ++ y → (one ≡ two) × (kind ++ x ≡ other ++ y)
+remotes-same one two kind other x y first second e =
+    let tails : one ++ 47 ∷ (kind ++ x) ≡ two ++ 47 ∷ (other ++ y) =
+    append_cancel_left (codes "refs/remotes/") (one ++ 47 ∷ (kind ++ x)) (two ++ 47 ∷ (other ++ y)) (sym (spelled one kind x) ∙ e ∙ spelled two other y) in
+    let cuts : ◌≡◌ {A = List ℕ × List ℕ} (one, kind ++ x) (two, other ++ y) =
+    some_is _ _ (sym (cut_again 47 one (kind ++ x) (remote-lacks one first)) ∙ ap (cut_at 47) tails ∙ cut_again 47 two (other ++ y) (remote-lacks two second)) in
+    (ap (λ (cut : List ℕ × List ℕ). cut.0) cuts, ap (λ (cut : List ℕ × List ℕ). cut.1) cuts)
+  where
+    spelled : (remote kind x : List ℕ) → ((codes "refs/remotes/" ++ remote) ++ 47 ∷ kind) ++ x ≡ codes "refs/remotes/" ++ (remote ++ 47 ∷ (kind ++ x))
+    spelled remote kind x = simp append_assoc
+
+-- the refs of two sides stand at no one place
+pub ref_place-side : (one two : Side) (id other : Id) → IsNamedSide one → IsNamedSide two → ref_place one id ≡ ref_place two other → one ≡ two
+ref_place-side side.Bugs side.Bugs id other first second e = refl
+ref_place-side side.Identities side.Identities id other first second e = refl
+ref_place-side (side.RemoteBugs one) (side.RemoteBugs two) id other first second e =
+    ap side.RemoteBugs (remotes-same one two (codes "bugs") (codes "bugs") (47 ∷ encode_lower id.bytes) (47 ∷ encode_lower other.bytes) first second e).0
+ref_place-side (side.RemoteIdentities one) (side.RemoteIdentities two) id other first second e =
+    ap side.RemoteIdentities (remotes-same one two (codes "identities") (codes "identities") (47 ∷ encode_lower id.bytes) (47 ∷ encode_lower other.bytes) first second e).0
+ref_place-side (side.RemoteBugs one) (side.RemoteIdentities two) id other first second e =
+    absurd (omega (arith, ap (λ (rest : List ℕ). slice_index rest 0) (remotes-same one two (codes "bugs") (codes "identities") (47 ∷ encode_lower id.bytes) (47 ∷ encode_lower other.bytes) first second e).1))
+ref_place-side (side.RemoteIdentities one) (side.RemoteBugs two) id other first second e =
+    absurd (omega (arith, ap (λ (rest : List ℕ). slice_index rest 0) (remotes-same one two (codes "identities") (codes "bugs") (47 ∷ encode_lower id.bytes) (47 ∷ encode_lower other.bytes) first second e).1))
+ref_place-side one two id other first second e = absurd (omega (arith, ap (λ (place : List ℕ). slice_index place 5) e))

@@ -1,0 +1,148 @@
+-- The answers to reads and writes of a folder's state, each with what is so of the files. Want of memory and
+-- faults of the disk have no cause here.
+use Rattle.std.specs.Prelude.{◌≡◌, ◌≤◌, ◌+◌, ◌*◌, ◌⊎◌, ⊤, ℕ, List, ◌∷◌, length, map, Contains, Vec, Option, Some, None, Result, Ok, Err}
+use Rattle.std.specs.declared.alloc.Global.{Global}
+use Rattle.gb_text.specs.Digits.{IsId}
+use Rattle.gb_text.specs.Folder.{joined}
+use Rattle.gb_text.specs.declared.id.Id.{Id}
+use Rattle.gb_text.specs.declared.id.Name.{Name}
+use Rattle.gb_store.specs.Files.{Files, History}
+use Rattle.gb_store.specs.Moments.{MaybeWrote}
+use Rattle.gb_store.specs.declared.store.Change.{Change}
+use Rattle.object_store.specs.Held.{objects_in}
+use Rattle.ref_store.specs.Refs.{Absent, Head, Bad}
+use Rattle.ref_store.specs.declared.listing.RefEntry.{RefEntry}
+use Rattle.ref_store.specs.declared.listing.RefFound.TheVariants as found
+use Rattle.identity.specs.Commits.{HasNoVersion}
+use Rattle.identity.specs.Persons.{Shows}
+use Rattle.identity.specs.declared.chain.Person.{Person}
+use Rattle.identity.specs.declared.fault.IdentityFault.{IdentityFault}
+use Rattle.repo_state.specs.Sides.{AreHeads, head_at, ref_place}
+use Rattle.repo_state.specs.Users.{UserFound, NoUser, User, BadUser, user_at, user_place, user_write}
+use Rattle.repo_state.specs.People.{AllShow}
+use Rattle.repo_state.specs.declared.refusal.Refusal.TheVariants as refusal
+use Rattle.repo_state.specs.declared.refusal.Stop.{Stop}
+use Rattle.repo_state.specs.declared.refusal.Stop.TheVariants as stop
+use Rattle.repo_state.specs.declared.side.HeadEntry.{HeadEntry}
+use Rattle.repo_state.specs.declared.side.Side.{Side}
+use Rattle.repo_state.specs.declared.side.Side.TheVariants as side
+
+-- an answer that is no refusal
+abbrev pub NeverRefused : {T : Type 0} → Result T Stop → Type 0
+NeverRefused (Ok value) = ⊤
+NeverRefused (Err stop.Memory) = ⊤
+NeverRefused (Err stop.Disk) = ⊤
+NeverRefused (Err (stop.Refused r)) = ⊥
+
+-- an answer that is no refusal, but for damage
+abbrev pub OnlyDamaged : {T : Type 0} → Result T Stop → Type 0
+OnlyDamaged (Ok value) = ⊤
+OnlyDamaged (Err stop.Memory) = ⊤
+OnlyDamaged (Err stop.Disk) = ⊤
+OnlyDamaged (Err (stop.Refused (refusal.Damaged path))) = ⊤
+OnlyDamaged (Err (stop.Refused _)) = ⊥
+
+-- a value that is so, or a file that is damaged so
+abbrev pub Reads : {T : Type 0} → (T → Type 0) → (List ℕ → Type 0) → Result T Stop → Type 0
+Reads Is IsDamaged (Ok value) = Is value
+Reads Is IsDamaged (Err stop.Memory) = ⊤
+Reads Is IsDamaged (Err stop.Disk) = ⊤
+Reads Is IsDamaged (Err (stop.Refused (refusal.Damaged path))) = IsDamaged path
+Reads Is IsDamaged (Err (stop.Refused _)) = ⊥
+
+-- the head of a ref, or none where no ref stands
+abbrev pub IsHeadAt : Files → List ℕ → Side → Id → Option Name → Type 0
+IsHeadAt files folder of id None = head_at files folder of id ≡ Absent
+IsHeadAt files folder of id (Some name) = head_at files folder of id ≡ Head name
+
+-- the ref of this id, at this path, is no ref text
+abbrev pub IsBadRef : Files → List ℕ → Side → Id → List ℕ → Type 0
+IsBadRef files folder of id path = (path ≡ joined folder (ref_place of id)) × (head_at files folder of id ≡ Bad)
+
+-- some ref of the side, at this path, is no ref text
+abbrev pub HasBadRef : Files → List ℕ → Side → List ℕ → Type 0
+HasBadRef files folder of path = (id : Id) × IsId id × IsBadRef files folder of id path
+
+-- the user, or none where no user file stands
+abbrev pub IsUser : Files → List ℕ → Option Id → Type 0
+IsUser files folder None = user_at files folder ≡ NoUser
+IsUser files folder (Some id) = user_at files folder ≡ User id
+
+-- the user file, at this path, names no local identity
+abbrev pub IsBadUser : Files → List ℕ → List ℕ → Type 0
+IsBadUser files folder path = (path ≡ joined folder user_place) × (user_at files folder ≡ BadUser)
+
+-- some identity's ref, at this path, is no ref text, or its head has no version
+abbrev pub HasBadPerson : Files → List ℕ → List ℕ → Type 0
+HasBadPerson files folder path = (id : Id) × IsId id × (path ≡ joined folder (ref_place side.Identities id))
+    × ((head_at files folder side.Identities id ≡ Bad)
+    ⊎ ((head : Name) × (head_at files folder side.Identities id ≡ Head head) × (fault : IdentityFault) × HasNoVersion (objects_in files folder) head fault))
+
+-- at most three objects were read for each local identity, or none
+abbrev pub ReadsPeople : Files → List ℕ → ℕ → ℕ → Type 0
+ReadsPeople files folder old new =
+    (new ≡ old) ⊎ ((heads : List HeadEntry) × AreHeads files folder side.Identities heads × (new ≤ old + 3 * length heads))
+
+-- the answer to a write, and whether it was made
+abbrev pub PutAnswers : Change → History → History → Result Unit Stop → Type 0
+PutAnswers change old new (Ok done) = new ≡ change ∷ old
+PutAnswers change old new (Err stop.Memory) = new ≡ old
+PutAnswers change old new (Err stop.Disk) = MaybeWrote change old new
+PutAnswers change old new (Err (stop.Refused r)) = ⊥
+
+-- a write of the user file, of this identity
+abbrev pub PutsUser : List ℕ → Id → Files → Change → Type 0
+PutsUser folder id files change = change ≡ user_write folder id
+
+-- ---- parts of the reads
+
+-- the refusal for the damaged ref of an id, unless memory ran out
+abbrev pub DamagedRef : List ℕ → Side → Id → Stop → Type 0
+DamagedRef folder of id stop.Memory = ⊤
+DamagedRef folder of id (stop.Refused (refusal.Damaged path)) = path ≡ joined folder (ref_place of id)
+DamagedRef folder of id _ = ⊥
+
+-- the answer to a read of the user, whose file stands at a path
+abbrev pub UserAnswers : List ℕ → UserFound → Result (Option Id) Stop → Type 0
+UserAnswers path user (Ok None) = user ≡ NoUser
+UserAnswers path user (Ok (Some id)) = user ≡ User id
+UserAnswers path user (Err stop.Memory) = ⊤
+UserAnswers path user (Err stop.Disk) = ⊤
+UserAnswers path user (Err (stop.Refused (refusal.Damaged at))) = (at ≡ path) × (user ≡ BadUser)
+UserAnswers path user (Err (stop.Refused _)) = ⊥
+
+-- the head of an entry
+abbrev pub as_entry : HeadEntry → RefEntry
+as_entry e = record { id = e.id; found = found.Head e.name }
+
+-- the head of a ref, which reads; or the path of one that is no ref text
+abbrev pub HeadOf : List ℕ → Side → RefEntry → Result HeadEntry Stop → Type 0
+HeadOf folder of entry (Ok head) = as_entry head ≡ entry
+HeadOf folder of entry (Err stop.Memory) = ⊤
+HeadOf folder of entry (Err (stop.Refused (refusal.Damaged path))) = (entry.found ≡ found.Bad) × (path ≡ joined folder (ref_place of entry.id))
+HeadOf folder of entry (Err _) = ⊥
+
+-- the heads of these refs, all of which read; or the path of one that is no ref text
+abbrev pub HeadsOf : List ℕ → Side → List RefEntry → Result (Vec HeadEntry Global) Stop → Type 0
+HeadsOf folder of entries (Ok heads) = map as_entry heads.items ≡ entries
+HeadsOf folder of entries (Err stop.Memory) = ⊤
+HeadsOf folder of entries (Err (stop.Refused (refusal.Damaged path))) = (id : Id) × Contains entries (record { id = id; found = found.Bad }) × (path ≡ joined folder (ref_place of id))
+HeadsOf folder of entries (Err _) = ⊥
+
+-- the person of an identity's head, or its ref's path where the head has no version
+abbrev pub PersonOf : Files → List ℕ → HeadEntry → Result Person Stop → Type 0
+PersonOf files folder e (Ok person) = Shows (objects_in files folder) e.id e.name person
+PersonOf files folder e (Err stop.Memory) = ⊤
+PersonOf files folder e (Err stop.Disk) = ⊤
+PersonOf files folder e (Err (stop.Refused (refusal.Damaged path))) =
+    (path ≡ joined folder (ref_place side.Identities e.id)) × (fault : IdentityFault) × HasNoVersion (objects_in files folder) e.name fault
+PersonOf files folder e (Err _) = ⊥
+
+-- the people of these heads, or the path of one's ref
+abbrev pub PeopleOf : Files → List ℕ → List HeadEntry → Result (Vec Person Global) Stop → Type 0
+PeopleOf files folder heads (Ok people) = AllShow (objects_in files folder) heads people.items
+PeopleOf files folder heads (Err stop.Memory) = ⊤
+PeopleOf files folder heads (Err stop.Disk) = ⊤
+PeopleOf files folder heads (Err (stop.Refused (refusal.Damaged path))) =
+    (e : HeadEntry) × Contains heads e × (path ≡ joined folder (ref_place side.Identities e.id)) × (fault : IdentityFault) × HasNoVersion (objects_in files folder) e.name fault
+PeopleOf files folder heads (Err _) = ⊥

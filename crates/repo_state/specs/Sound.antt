@@ -1,0 +1,85 @@
+-- Sound folders: one record, a field for each part.
+use Rattle.std.specs.Prelude.{◌≡◌, ◌≤◌, ⊤, ℕ, ◌==◌, ◌||◌, List, length, IsTrue, Some}
+use Rattle.std.specs.List.{list_all}
+use Rattle.std.specs.Char.{is_ascii_alphanumeric}
+use Rattle.gb_text.specs.Digits.{IsId, IsName}
+use Rattle.gb_text.specs.declared.id.Id.{Id}
+use Rattle.gb_text.specs.declared.id.Name.{Name}
+use Rattle.gb_store.specs.Files.{Files, History, files_of}
+use Rattle.gb_store.specs.Moments.{AllMoments}
+use Rattle.git_object.specs.declared.commit.Commit.{Commit}
+use Rattle.git_object.specs.declared.object.Object.{Object}
+use Rattle.object_store.specs.Held.{Objects, object_at, objects_in}
+use Rattle.object_batch.specs.Needs.{AllHeld}
+use Rattle.commit_chain.specs.Objects.{commit_at}
+use Rattle.ref_store.specs.Refs.{Ref, Absent, Head, Bad}
+use Rattle.identity.specs.Persons.{IsChain}
+use Rattle.repo_state.specs.Sides.{head_at}
+use Rattle.repo_state.specs.Users.{BadUser, user_at}
+use Rattle.repo_state.specs.declared.side.Side.{Side}
+use Rattle.repo_state.specs.declared.side.Side.TheVariants as side
+
+-- each file at the path of a name is an object that the name holds, and all that an object names is held, as of
+-- the kinds by which it is named; so all that a held commit leads to is held
+pub record AreWhole (objects : Objects) : Type 0 where
+  pub held : (name : Name) (text : List ℕ) → IsName name → objects name ≡ Some text → (object : Object) × (object_at objects name ≡ Some object)
+  pub needs : (name : Name) (object : Object) → object_at objects name ≡ Some object → AllHeld objects object
+
+-- an identity's ref: one that stands reads, and the chain from its head has no fault
+abbrev pub IsSoundIdentity : Objects → Id → Ref → Type 0
+IsSoundIdentity objects id Absent = ⊤
+IsSoundIdentity objects id (Head head) = IsChain objects id head
+IsSoundIdentity objects id Bad = ⊥
+
+-- a tracking ref: one that stands reads, and names a commit that is held
+abbrev pub IsSoundTracking : Objects → Ref → Type 0
+IsSoundTracking objects Absent = ⊤
+IsSoundTracking objects (Head head) = (commit : Commit) × (commit_at objects head ≡ Some commit)
+IsSoundTracking objects Bad = ⊥
+
+-- the name of a remote: 1 to 64 letters, digits, `_` or `-` of ASCII
+pub record IsRemoteName (remote : List ℕ) : Type 0 where
+  pub some : 1 ≤ length remote
+  pub few : length remote ≤ 64
+  pub each : IsTrue (list_all (λ c. is_ascii_alphanumeric c || ((c == 95) || (c == 45))) remote)
+
+-- a side whose remote, if it is of one, has such a name
+abbrev pub IsNamedSide : Side → Type 0
+IsNamedSide side.Bugs = ⊤
+IsNamedSide side.Identities = ⊤
+IsNamedSide (side.RemoteBugs remote) = IsRemoteName remote
+IsNamedSide (side.RemoteIdentities remote) = IsRemoteName remote
+
+-- ---- the parts of a sound folder
+
+-- its objects are whole
+abbrev pub HasWholeObjects : List ℕ → Files → Type 0
+HasWholeObjects folder files = AreWhole (objects_in files folder)
+
+-- each local identity's ref reads, and its chain has no fault
+abbrev pub HasSoundIdentities : List ℕ → Files → Type 0
+HasSoundIdentities folder files = (id : Id) → IsId id → IsSoundIdentity (objects_in files folder) id (head_at files folder side.Identities id)
+
+-- each tracking ref reads, and names a held commit
+abbrev pub HasSoundTracking : List ℕ → Files → Type 0
+HasSoundTracking folder files = (remote : List ℕ) → IsRemoteName remote → (id : Id) → IsId id
+    → IsSoundTracking (objects_in files folder) (head_at files folder (side.RemoteBugs remote) id)
+    × IsSoundTracking (objects_in files folder) (head_at files folder (side.RemoteIdentities remote) id)
+
+-- the user file, where one stands, names a local identity
+abbrev pub HasSoundUser : List ℕ → Files → Type 0
+HasSoundUser folder files = user_at files folder ≡ BadUser → ⊥
+
+-- A sound folder.
+pub record IsSound (folder : List ℕ) (files : Files) : Type 0 where
+  pub objects : HasWholeObjects folder files
+  pub identities : HasSoundIdentities folder files
+  pub tracking : HasSoundTracking folder files
+  pub user : HasSoundUser folder files
+
+-- What is written keeps each part of a sound folder, at each moment and whatever the other parts are.
+pub record KeepsParts (folder : List ℕ) (old new : History) : Type 0 where
+  pub objects : HasWholeObjects folder (files_of old) → AllMoments (HasWholeObjects folder) old new
+  pub identities : HasSoundIdentities folder (files_of old) → AllMoments (HasSoundIdentities folder) old new
+  pub tracking : HasSoundTracking folder (files_of old) → AllMoments (HasSoundTracking folder) old new
+  pub user : HasSoundUser folder (files_of old) → AllMoments (HasSoundUser folder) old new

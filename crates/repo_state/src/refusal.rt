@@ -1,0 +1,107 @@
+//! Why commands are refused, and why they stop.
+use gb_store::StoreFault;
+use gb_text::{Id, Memory, Name, Text};
+use object_store::PutFault;
+use ref_store::RefFault;
+use std::alloc::AllocFailed;
+
+/// Why a command was refused. The variants are told by number, and some numbers are not used yet.
+#[derive(Debug, Drop)]
+pub enum Refusal {
+    /// 1: no user file stands.
+    NoUser,
+    /// 2: the word names nothing of the kind that is sought.
+    NotFound,
+    /// 4: the argument at this place, counted from 1, breaks its rule.
+    BadText(u64),
+    /// 9: an entity of this id stands already.
+    EntityExists(Id),
+    /// 10: another text stands under this name of an object that was to be written, or two of them
+    /// have the name.
+    NameTaken(Name),
+    /// 13: 65,537 versions or commits, or 4,194,305 bytes of an object.
+    TooLarge(u64),
+    /// 14: the file at this path breaks its grammar, names a head that has a fault, or is a user
+    /// file that names no local identity.
+    Damaged(Text),
+    /// 17: the folder word is no folder.
+    BadFolder,
+    /// 18: this commit of the bug has two parents or more.
+    MergeCommit(Name),
+}
+
+/// Why a command gave no answer.
+#[derive(Debug, Drop)]
+pub enum Stop {
+    Memory,
+    /// The store failed.
+    Disk,
+    Refused(Refusal),
+}
+
+impl From<Memory> for Stop {
+    ghost use Rattle.std.specs.Prelude.{◌≡◌};
+    ghost use Rattle.repo_state.specs.declared.refusal.Stop.TheVariants as stop;
+
+    ghost from_gives = { λ _ e. e ≡ stop.Memory };
+
+    fn from(_: Memory) -> Self {
+        Stop::Memory
+    }
+}
+
+impl<T: Drop> From<AllocFailed<T>> for Stop {
+    ghost use Rattle.std.specs.Prelude.{◌≡◌};
+    ghost use Rattle.repo_state.specs.declared.refusal.Stop.TheVariants as stop;
+
+    ghost from_gives = { λ _ e. e ≡ stop.Memory };
+
+    fn from(_: AllocFailed<T>) -> Self {
+        Stop::Memory
+    }
+}
+
+impl From<StoreFault> for Stop {
+    ghost use Rattle.std.specs.Prelude.{◌≡◌};
+    ghost use Rattle.repo_state.specs.Stops.{stop_of_store};
+
+    ghost from_gives = { λ fault e. e ≡ stop_of_store fault };
+
+    fn from(fault: StoreFault) -> Self {
+        match fault {
+            StoreFault::Memory => Stop::Memory,
+            StoreFault::Failed => Stop::Disk,
+        }
+    }
+}
+
+impl From<RefFault> for Stop {
+    ghost use Rattle.std.specs.Prelude.{◌≡◌};
+    ghost use Rattle.repo_state.specs.Stops.{stop_of_ref};
+
+    ghost from_gives = { λ fault e. e ≡ stop_of_ref fault };
+
+    fn from(fault: RefFault) -> Self {
+        match fault {
+            RefFault::Memory => Stop::Memory,
+            RefFault::Disk => Stop::Disk,
+            RefFault::BadRef(path) => Stop::Refused(Refusal::Damaged(path)),
+        }
+    }
+}
+
+impl From<PutFault> for Stop {
+    ghost use Rattle.std.specs.Prelude.{◌≡◌};
+    ghost use Rattle.repo_state.specs.Stops.{stop_of_put};
+
+    ghost from_gives = { λ fault e. e ≡ stop_of_put fault };
+
+    fn from(fault: PutFault) -> Self {
+        match fault {
+            PutFault::Memory => Stop::Memory,
+            PutFault::Disk => Stop::Disk,
+            PutFault::Large(count) => Stop::Refused(Refusal::TooLarge(count)),
+            PutFault::Taken(name) => Stop::Refused(Refusal::NameTaken(name)),
+        }
+    }
+}

@@ -1,0 +1,82 @@
+//! The user of a folder.
+ghost use Rattle.std.specs.Prelude.{◌≡◌, IsTrue, IsErrOf, IfOk};
+ghost use Rattle.gb_store.specs.Faults.{KeepsFaults};
+ghost use Rattle.gb_store.specs.Files.{files_of};
+ghost use Rattle.gb_store.specs.Moments.{WroteIf};
+ghost use Rattle.gb_store.specs.ObjectPath.{reads_after};
+ghost use Rattle.repo_state.specs.Answers.{IsBadUser, IsUser, NeverRefused, OnlyDamaged, PutAnswers, PutsUser, Reads, UserAnswers};
+ghost use Rattle.repo_state.specs.Users.{id_line, user_of, user_write};
+
+use crate::refs::stands;
+use crate::refusal::{Refusal, Stop};
+use crate::side::Side;
+use gb_store::{Content, Store};
+use gb_text::{Bytes, Folder, Id, Memory, Text, without_line_end};
+use std::alloc::Global;
+
+/// Where the user file stands, below its folder.
+pub const USER_PLACE: &str = "git-bug/user";
+
+/// The most bytes that a user file may have. It has 64 or 65.
+pub const MOST_BYTES: u64 = 4096;
+
+/// The user of the folder: an identity whose ref stands. None exactly where no user file stands;
+/// `Damaged`, with the path of the user file, exactly where that file is no id with at most one line
+/// feed behind it, or no ref of the identity stands.
+pub fn user<S: Store>(alloc: Global, disk: &mut S, folder: &Folder) -> Result<Option<Id>, Stop>
+    ensures answers { IsTrue S.tells → Reads (IsUser (files_of (S.history disk.old)) folder.now) (IsBadUser (files_of (S.history disk.old)) folder.now) result }
+    ensures only_damaged { OnlyDamaged result }
+    ensures unwritten { IsTrue S.tells → S.history disk.new ≡ S.history disk.old }
+    ensures reads { S.object_reads disk.new ≡ S.object_reads disk.old }
+    ensures caused { KeepsFaults S.never_fails S.faults (IsErrOf result Stop.Disk) disk.old disk.new }
+{
+    let path = folder.join(alloc, USER_PLACE)?;
+    user_in(alloc, disk, folder, path)
+}
+
+// The user that the file at a path names.
+#[tactic(auto, using(crate::proofs::UserFileLemmas::long_is_bad))]
+fn user_in<S: Store>(
+    alloc: Global,
+    disk: &mut S,
+    folder: &Folder,
+    path: Text,
+) -> Result<Option<Id>, Stop>
+    ensures answers { IsTrue S.tells → UserAnswers path (user_of (files_of (S.history disk.old)) folder.now (files_of (S.history disk.old) path)) result }
+    ensures only_damaged { OnlyDamaged result }
+    ensures unwritten { IsTrue S.tells → S.history disk.new ≡ S.history disk.old }
+    ensures reads { S.object_reads disk.new ≡ reads_after path (S.object_reads disk.old) }
+    ensures caused { KeepsFaults S.never_fails S.faults (IsErrOf result Stop.Disk) disk.old disk.new }
+{
+    match disk.read(alloc, path.as_str(), MOST_BYTES)? {
+        Content::Absent => Ok(None),
+        Content::Long => Err(Stop::Refused(Refusal::Damaged(path))),
+        Content::Whole(text) => match Id::read(without_line_end(text.as_slice())) {
+            Some(id) if stands(alloc, disk, folder, &Side::Identities, &id)? => Ok(Some(id)),
+            _ => Err(Stop::Refused(Refusal::Damaged(path))),
+        },
+    }
+}
+
+/// Makes an identity the user, by one write: its digits and a line feed.
+pub fn set_user<S: Store>(alloc: Global, disk: &mut S, folder: &Folder, id: &Id) -> Result<(), Stop>
+    ensures answers { IsTrue S.tells → PutAnswers (user_write folder.now id.now) (S.history disk.old) (S.history disk.new) result }
+    ensures never_refused { NeverRefused result }
+    ensures wrote { WroteIf S.tells (PutsUser folder.now id.now) (S.history disk.old) (S.history disk.new) }
+    ensures reads { S.object_reads disk.new ≡ S.object_reads disk.old }
+    ensures caused { KeepsFaults S.never_fails S.faults (IsErrOf result Stop.Disk) disk.old disk.new }
+{
+    let path = folder.join(alloc, USER_PLACE)?;
+    let line = id_line(alloc, id)?;
+    disk.put(alloc, path.as_str(), line.as_slice())?;
+    Ok(())
+}
+
+// The line of an id: its digits and a line feed.
+fn id_line(alloc: Global, id: &Id) -> Result<Bytes, Memory>
+    ensures { IfOk result (λ line. line ≡ id_line id.now) }
+{
+    let mut line = id.text().to_vec(alloc)?;
+    line.push(b'\n')?;
+    Ok(Bytes::from_vec(line))
+}
