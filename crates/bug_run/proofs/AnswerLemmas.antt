@@ -1,34 +1,93 @@
--- The answer for a head is that for the bug whose ref names it.
-use Rattle.std.proofs.Common.{◌≡◌, inr, ℕ, Bool, IsTrue, List, Some, IsSome, Result, Ok, Err, refl}
+-- The answers of commands, as answers of the run.
+use Rattle.std.proofs.Common.{◌≡◌, inr, ℕ, Bool, List, Some, None, Result, Ok, Err, refl, sym, ap, []}
+use Rattle.std.proofs.lemmas.List.{append-nil}
 use Rattle.gb_text.specs.Digits.{id_of}
+use Rattle.gb_text.specs.declared.id.Id.{Id}
 use Rattle.gb_text.specs.declared.id.Name.{Name}
-use Rattle.gb_store.specs.Files.{Files}
-use Rattle.ref_store.specs.Refs.{Head, ref_at}
-use Rattle.gb_text.specs.Folder.{folder_of}
-use Rattle.bug_run.specs.Run.{CommandAnswers, RequestAnswers}
+use Rattle.gb_store.specs.Files.{Files, History, files_of}
+use Rattle.gb_store.proofs.MomentLemmas.{WroteSome-back}
+use Rattle.ref_store.specs.Refs.{Head}
+use Rattle.repo_state.specs.Edits.{Edit}
+use Rattle.repo_state.specs.Sides.{head_at}
+use Rattle.repo_state.specs.Steps.{EditAnswers, bad_text_of, writes_of}
+use Rattle.repo_state.specs.declared.env.Env.{Env}
+use Rattle.repo_state.specs.declared.refusal.Refusal.TheVariants as refusal
+use Rattle.repo_state.specs.declared.refusal.Stop.{Stop}
+use Rattle.repo_state.specs.declared.refusal.Stop.TheVariants as stop
+use Rattle.repo_state.specs.declared.side.Side.TheVariants as side
+use Rattle.bug_run.specs.Log.{LogAnswers, MayRefuse, WalkTold}
+use Rattle.bug_run.specs.Run.{EditTold, Performed, RequestAnswers, ToldOf}
 use Rattle.bug_run.specs.Words.{Request}
-use Rattle.bug_run.specs.Log.{LogAnswers, WalkTold, bug_ref}
-use Rattle.bug_run.specs.declared.status.Refusal.TheVariants as refusal
-use Rattle.bug_run.specs.declared.status.Stop.{Stop}
-use Rattle.bug_run.specs.declared.status.Stop.TheVariants as stop
 
-pub LogAnswers-told : (files : Files) (folder bug : List ℕ) (head : Name) (result : Result (List ℕ) Stop) → IsSome (id_of bug)
-    → ref_at files folder (bug_ref bug) ≡ Head head → WalkTold files folder (bug_ref bug) head result → LogAnswers files folder bug result
-LogAnswers-told files folder bug head (Ok text) some names told = (some, head, names, told.0, told.1, told.2)
-LogAnswers-told files folder bug head (Err stop.Memory) some names told = tt
-LogAnswers-told files folder bug head (Err stop.Disk) some names told = tt
-LogAnswers-told files folder bug head (Err (stop.Refused refusal.BadFolder)) some names told = told
-LogAnswers-told files folder bug head (Err (stop.Refused refusal.NotFound)) some names told = absurd told
-LogAnswers-told files folder bug head (Err (stop.Refused (refusal.MergeCommit name))) some names told = (some, head, names, told)
-LogAnswers-told files folder bug head (Err (stop.Refused (refusal.Damaged path))) some names told = (some, told.0, inr (head, names, told.1, told.2, told.3))
+-- the answer for a head is that for the bug whose ref names it
+pub LogAnswers-told : (files : Files) (folder bug : List ℕ) (id : Id) (head : Name) (result : Result (List ℕ) Stop) → id_of bug ≡ Some id
+    → head_at files folder side.Bugs id ≡ Head head → WalkTold files folder id head result → LogAnswers files folder bug result
+LogAnswers-told files folder bug id head (Ok text) some names told = (id, some, head, names, told.0, told.1, told.2)
+LogAnswers-told files folder bug id head (Err stop.Memory) some names told = tt
+LogAnswers-told files folder bug id head (Err stop.Disk) some names told = tt
+LogAnswers-told files folder bug id head (Err (stop.Refused (refusal.MergeCommit name))) some names told = (id, some, head, names, told)
+LogAnswers-told files folder bug id head (Err (stop.Refused (refusal.Damaged path))) some names told = (id, some, told.0, inr (head, names, told.1, told.2, told.3))
+LogAnswers-told files folder bug id head (Err (stop.Refused refusal.NoUser)) some names told = absurd told
+LogAnswers-told files folder bug id head (Err (stop.Refused refusal.NotFound)) some names told = absurd told
+LogAnswers-told files folder bug id head (Err (stop.Refused (refusal.BadText place))) some names told = absurd told
+LogAnswers-told files folder bug id head (Err (stop.Refused (refusal.EntityExists other))) some names told = absurd told
+LogAnswers-told files folder bug id head (Err (stop.Refused (refusal.NameTaken name))) some names told = absurd told
+LogAnswers-told files folder bug id head (Err (stop.Refused (refusal.TooLarge count))) some names told = absurd told
+LogAnswers-told files folder bug id head (Err (stop.Refused refusal.BadFolder)) some names told = absurd told
+
+-- `log` refuses no word
+pub MayRefuse-words : (result : Result (List ℕ) Stop) → MayRefuse result → bad_text_of result ≡ None
+MayRefuse-words (Err (stop.Refused (refusal.BadText place))) may = absurd may
+MayRefuse-words (Ok text) may = refl
+MayRefuse-words (Err stop.Memory) may = refl
+MayRefuse-words (Err stop.Disk) may = refl
+MayRefuse-words (Err (stop.Refused (refusal.MergeCommit name))) may = refl
+MayRefuse-words (Err (stop.Refused (refusal.Damaged path))) may = refl
+MayRefuse-words (Err (stop.Refused refusal.NoUser)) may = refl
+MayRefuse-words (Err (stop.Refused refusal.NotFound)) may = refl
+MayRefuse-words (Err (stop.Refused (refusal.EntityExists other))) may = refl
+MayRefuse-words (Err (stop.Refused (refusal.NameTaken name))) may = refl
+MayRefuse-words (Err (stop.Refused (refusal.TooLarge count))) may = refl
+MayRefuse-words (Err (stop.Refused refusal.BadFolder)) may = refl
+
+-- the line of the id tells what an edit answered; where memory runs out for it, all was written
+pub EditTold-told : (env : Env) (edit : Edit) (old new : History) (answer : Result Id Stop) (result : Result (List ℕ) Stop)
+    → EditAnswers env edit old new answer → ToldOf answer result → EditTold env edit old new result
+EditTold-told env edit old new (Ok id) (Ok text) done told = (id, done, told)
+EditTold-told env edit old new (Ok id) (Err s) done told = rw told (inr (done.may, WroteSome-back (writes_of env edit (files_of old)) old new (writes_of env edit (files_of old)) [] (sym (append-nil (writes_of env edit (files_of old)))) done.writes))
+EditTold-told env edit old new (Err s) result answers told = rw told answers
+
+-- the line of the id refuses no word more
+pub told_words : (answer : Result Id Stop) (result : Result (List ℕ) Stop) → ToldOf answer result → bad_text_of result ≡ bad_text_of answer
+told_words (Ok id) (Ok text) told = refl
+told_words (Ok id) (Err s) told = ap (λ (t : Stop). bad_text_of {T = List ℕ} (Err t)) told
+told_words (Err s) result told = each s result told
+  where
+    each : (s : Stop) (result : Result (List ℕ) Stop) → result ≡ Err s → bad_text_of result ≡ bad_text_of {T = Id} (Err s)
+    each stop.Memory result told = ap bad_text_of told
+    each stop.Disk result told = ap bad_text_of told
+    each (stop.Refused refusal.NoUser) result told = ap bad_text_of told
+    each (stop.Refused refusal.NotFound) result told = ap bad_text_of told
+    each (stop.Refused (refusal.BadText place)) result told = ap bad_text_of told
+    each (stop.Refused (refusal.EntityExists id)) result told = ap bad_text_of told
+    each (stop.Refused (refusal.NameTaken name)) result told = ap bad_text_of told
+    each (stop.Refused (refusal.TooLarge count)) result told = ap bad_text_of told
+    each (stop.Refused (refusal.Damaged path)) result told = ap bad_text_of told
+    each (stop.Refused refusal.BadFolder) result told = ap bad_text_of told
+    each (stop.Refused (refusal.MergeCommit name)) result told = ap bad_text_of told
 
 -- the answer of the command is that to the request
-pub RequestAnswers-done : (tells : Bool) (files : Files) (request : Request) (folder : List ℕ) (result : Result (List ℕ) Stop) → folder_of request.folder ≡ Some folder
-    → (result ≡ Err (stop.Refused refusal.BadFolder) → ⊥) → (IsTrue tells → CommandAnswers files folder request.command result) → RequestAnswers tells files request result
-RequestAnswers-done tells files request folder (Ok text) is good answers = (folder, is, answers)
-RequestAnswers-done tells files request folder (Err stop.Memory) is good answers = tt
-RequestAnswers-done tells files request folder (Err stop.Disk) is good answers = (folder, is, answers)
-RequestAnswers-done tells files request folder (Err (stop.Refused refusal.BadFolder)) is good answers = absurd (good refl)
-RequestAnswers-done tells files request folder (Err (stop.Refused refusal.NotFound)) is good answers = (folder, is, answers)
-RequestAnswers-done tells files request folder (Err (stop.Refused (refusal.MergeCommit name))) is good answers = (folder, is, answers)
-RequestAnswers-done tells files request folder (Err (stop.Refused (refusal.Damaged path))) is good answers = (folder, is, answers)
+pub RequestAnswers-done : (tells : Bool) (request : Request) (now : ℕ) (seed : List ℕ) (old new : History) (result : Result (List ℕ) Stop)
+    → (result ≡ Err (stop.Refused refusal.BadFolder) → ⊥) → Performed tells request now seed old new result → RequestAnswers tells request now seed old new result
+RequestAnswers-done tells request now seed old new (Ok text) good done = done
+RequestAnswers-done tells request now seed old new (Err stop.Memory) good done = inr done
+RequestAnswers-done tells request now seed old new (Err stop.Disk) good done = done
+RequestAnswers-done tells request now seed old new (Err (stop.Refused refusal.BadFolder)) good done = absurd (good refl)
+RequestAnswers-done tells request now seed old new (Err (stop.Refused refusal.NoUser)) good done = done
+RequestAnswers-done tells request now seed old new (Err (stop.Refused refusal.NotFound)) good done = done
+RequestAnswers-done tells request now seed old new (Err (stop.Refused (refusal.BadText place))) good done = done
+RequestAnswers-done tells request now seed old new (Err (stop.Refused (refusal.EntityExists id))) good done = done
+RequestAnswers-done tells request now seed old new (Err (stop.Refused (refusal.NameTaken name))) good done = done
+RequestAnswers-done tells request now seed old new (Err (stop.Refused (refusal.TooLarge count))) good done = done
+RequestAnswers-done tells request now seed old new (Err (stop.Refused (refusal.Damaged path))) good done = done
+RequestAnswers-done tells request now seed old new (Err (stop.Refused (refusal.MergeCommit name))) good done = done

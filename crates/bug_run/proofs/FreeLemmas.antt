@@ -1,6 +1,5 @@
 -- A head that has a log meets no merge commit and has no fault.
-use Rattle.std.proofs.Common.{◌≡◌, inl, inr, Option, IsSome, is_some, ℕ, ◌+◌, ◌<◌, ◌≤◌, zero, suc, List, [], ◌∷◌, length, get_or, Contains, Some, None, option_and_then, add-one, refl, sym, ◌∙◌, ap, subst, arith}
-use Rattle.std.proofs.lemmas.Bool.{cases_eq, cases_lt}
+use Rattle.std.proofs.Common.{◌≡◌, inl, inr, Option, IsSome, is_some, ℕ, ◌+◌, ◌<◌, zero, suc, List, [], ◌∷◌, length, get_or, Some, None, option_and_then, add-one, refl, sym, ◌∙◌, ap, subst, arith}
 use Rattle.gb_text.specs.declared.id.Name.{Name}
 use Rattle.git_object.specs.declared.commit.Commit.{Commit}
 use Rattle.git_object.specs.declared.tree.Tree.{Tree}
@@ -17,7 +16,7 @@ use Rattle.op_pack.specs.declared.fault.PackFault.{PackFault}
 use Rattle.op_pack.specs.declared.head.TreeHead.{TreeHead}
 use Rattle.op_pack.proofs.HeadLaws.{fault_means_none as head_fault_means_none}
 use Rattle.op_pack.proofs.PackLaws.{fault_means_none as text_fault_means_none}
-use Rattle.bug_run.specs.Packs.{PackFails, OpsIsNoBlob, OpsTextFails, pack_in, pack_of_head, pack_under}
+use Rattle.bug_run.specs.Packs.{PackFails, pack_in, pack_of_head, pack_under}
 use Rattle.bug_run.specs.Walk.{Needs, FaultHolds, clock_at}
 use Rattle.bug_run.specs.Log.{Clocked, HasPack, IsLog}
 use Rattle.bug_run.specs.declared.log.Step.{Step}

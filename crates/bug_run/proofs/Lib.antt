@@ -3,3 +3,4 @@ pub mod FreeLemmas
 pub mod LogLemmas
 pub mod PackLemmas
 pub mod StepLemmas
+pub mod SoundLemmas

@@ -4,7 +4,7 @@ use Rattle.std.proofs.lemmas.List.{get_or_default, take_more}
 use Rattle.gb_text.specs.declared.id.Name.{Name}
 use Rattle.git_object.specs.declared.commit.Commit.{Commit}
 use Rattle.object_store.specs.Held.{Objects, object_at}
-use Rattle.commit_chain.specs.Objects.{commit_at, tree_at}
+use Rattle.commit_chain.specs.Objects.{tree_at}
 use Rattle.commit_chain.specs.Chain.{IsCommit, Walked, Meets, MeetsCommit}
 use Rattle.commit_chain.specs.declared.chain.Met.{Met}
 use Rattle.commit_chain.proofs.PassLemmas.{Linked, Linked-walked, Linked-above, linked_at, meets_first, no_merge-walked}

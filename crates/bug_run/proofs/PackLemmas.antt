@@ -1,5 +1,5 @@
 -- What keeps a commit that the walk met from having a pack.
-use Rattle.std.proofs.Common.{◌≡◌, inl, inr, ℕ, List, Option, Some, None, IsSome, is_some, Ok, Err, option_and_then, sym, ◌∙◌, ap}
+use Rattle.std.proofs.Common.{◌≡◌, inl, inr, ℕ, List, Option, Some, None, IsSome, is_some, Ok, Err, option_and_then, ◌∙◌, ap}
 use Rattle.gb_text.specs.declared.id.Name.{Name}
 use Rattle.git_object.specs.declared.tree.Tree.{Tree}
 use Rattle.object_store.specs.Held.{Objects}

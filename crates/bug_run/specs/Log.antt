@@ -2,12 +2,13 @@
 use Rattle.std.specs.Prelude.{◌≡◌, ◌<◌, ◌≤◌, ◌⊎◌, ⊤, ℕ, List, [], ◌∷◌, ◌++◌, length, codes, decimal, Some, None, IsSome, Result, Ok, Err, option_and_then}
 use Rattle.std.specs.List.{flat_map, AllAdjacentBelow}
 use Rattle.hex.specs.Hex.{encode_lower}
+use Rattle.gb_text.specs.declared.id.Id.{Id}
 use Rattle.gb_text.specs.declared.id.Name.{Name}
 use Rattle.gb_text.specs.Digits.{id_of}
 use Rattle.gb_text.specs.Folder.{joined}
 use Rattle.gb_store.specs.Files.{Files}
 use Rattle.object_store.specs.Held.{Objects, objects_in}
-use Rattle.ref_store.specs.Refs.{Head, Absent, Bad, ref_at}
+use Rattle.ref_store.specs.Refs.{Head, Absent, Bad}
 use Rattle.commit_chain.specs.Objects.{tree_at}
 use Rattle.commit_chain.specs.Chain.{Walked, MeetsMerge}
 use Rattle.commit_chain.specs.declared.chain.Met.{Met}
@@ -16,9 +17,11 @@ use Rattle.bug_run.specs.Packs.{pack_under}
 use Rattle.bug_run.specs.Walk.{FaultHolds}
 use Rattle.bug_run.specs.declared.log.Step.{Step}
 use Rattle.bug_run.specs.declared.fault.WalkFault.{WalkFault}
-use Rattle.bug_run.specs.declared.status.Refusal.TheVariants as refusal
-use Rattle.bug_run.specs.declared.status.Stop.{Stop}
-use Rattle.bug_run.specs.declared.status.Stop.TheVariants as stop
+use Rattle.repo_state.specs.Sides.{head_at, ref_place}
+use Rattle.repo_state.specs.declared.refusal.Refusal.TheVariants as refusal
+use Rattle.repo_state.specs.declared.refusal.Stop.{Stop}
+use Rattle.repo_state.specs.declared.refusal.Stop.TheVariants as stop
+use Rattle.repo_state.specs.declared.side.Side.TheVariants as side
 
 -- a commit that the walk met has a pack: its tree says one, and the blob that the tree names is its text
 abbrev pub HasPack : Objects → Met → Type 0
@@ -52,40 +55,44 @@ log_line step = decimal step.clock ++ codes " " ++ encode_lower step.name.bytes 
 abbrev pub log_text_of : List Step → List ℕ
 log_text_of steps = flat_map log_line steps
 
--- where the ref of a bug stands below its folder
-abbrev pub bug_ref : List ℕ → List ℕ
-bug_ref bug = codes "refs/bugs/" ++ bug
-
--- why the log of a bug is damaged: its file is no ref text, or the walk from its head meets no merge and has a fault
-abbrev pub IsDamagedBug : Files → List ℕ → List ℕ → Type 0
-IsDamagedBug files folder bug =
-    (ref_at files folder (bug_ref bug) ≡ Bad)
-    ⊎ ((head : Name) × (ref_at files folder (bug_ref bug) ≡ Head head)
+-- why the log of a bug is damaged: its ref is no ref text, or the walk from its head meets no merge and has a fault
+abbrev pub IsDamagedBug : Files → List ℕ → Id → Type 0
+IsDamagedBug files folder id =
+    (head_at files folder side.Bugs id ≡ Bad)
+    ⊎ ((head : Name) × (head_at files folder side.Bugs id ≡ Head head)
     × ((name : Name) → MeetsMerge (objects_in files folder) head name → ⊥)
     × (fault : WalkFault) × FaultHolds (objects_in files folder) head fault)
 
--- the log of the bug whose ref stands at a place and names this head, or why there is none
-abbrev pub WalkTold : Files → List ℕ → List ℕ → Name → Result (List ℕ) Stop → Type 0
-WalkTold files folder place head (Ok text) = (steps : List Step) × IsLog (objects_in files folder) head steps × (text ≡ log_text_of steps)
-WalkTold files folder place head (Err stop.Memory) = ⊤
-WalkTold files folder place head (Err stop.Disk) = ⊤
-WalkTold files folder place head (Err (stop.Refused refusal.BadFolder)) = ⊥
-WalkTold files folder place head (Err (stop.Refused refusal.NotFound)) = ⊥
-WalkTold files folder place head (Err (stop.Refused (refusal.MergeCommit name))) = MeetsMerge (objects_in files folder) head name
-WalkTold files folder place head (Err (stop.Refused (refusal.Damaged path))) =
-    (path ≡ joined folder place) × ((name : Name) → MeetsMerge (objects_in files folder) head name → ⊥)
+-- the log of the bug with this id and this head, or why there is none
+abbrev pub WalkTold : Files → List ℕ → Id → Name → Result (List ℕ) Stop → Type 0
+WalkTold files folder id head (Ok text) = (steps : List Step) × IsLog (objects_in files folder) head steps × (text ≡ log_text_of steps)
+WalkTold files folder id head (Err stop.Memory) = ⊤
+WalkTold files folder id head (Err stop.Disk) = ⊤
+WalkTold files folder id head (Err (stop.Refused (refusal.MergeCommit name))) = MeetsMerge (objects_in files folder) head name
+WalkTold files folder id head (Err (stop.Refused (refusal.Damaged path))) =
+    (path ≡ joined folder (ref_place side.Bugs id)) × ((name : Name) → MeetsMerge (objects_in files folder) head name → ⊥)
     × (fault : WalkFault) × FaultHolds (objects_in files folder) head fault
+WalkTold files folder id head (Err (stop.Refused _)) = ⊥
 
 -- the answer to `log`, each with what is so of the files; want of memory and faults of the disk have no cause here
 abbrev pub LogAnswers : Files → List ℕ → List ℕ → Result (List ℕ) Stop → Type 0
 LogAnswers files folder bug (Ok text) =
-    IsSome (id_of bug) × (head : Name) × (ref_at files folder (bug_ref bug) ≡ Head head)
+    (id : Id) × (id_of bug ≡ Some id) × (head : Name) × (head_at files folder side.Bugs id ≡ Head head)
     × (steps : List Step) × IsLog (objects_in files folder) head steps × (text ≡ log_text_of steps)
 LogAnswers files folder bug (Err stop.Memory) = ⊤
 LogAnswers files folder bug (Err stop.Disk) = ⊤
-LogAnswers files folder bug (Err (stop.Refused refusal.BadFolder)) = ⊥
-LogAnswers files folder bug (Err (stop.Refused refusal.NotFound)) = (id_of bug ≡ None) ⊎ (ref_at files folder (bug_ref bug) ≡ Absent)
+LogAnswers files folder bug (Err (stop.Refused refusal.NotFound)) =
+    (id_of bug ≡ None) ⊎ ((id : Id) × (id_of bug ≡ Some id) × (head_at files folder side.Bugs id ≡ Absent))
 LogAnswers files folder bug (Err (stop.Refused (refusal.MergeCommit name))) =
-    IsSome (id_of bug) × (head : Name) × (ref_at files folder (bug_ref bug) ≡ Head head) × MeetsMerge (objects_in files folder) head name
+    (id : Id) × (id_of bug ≡ Some id) × (head : Name) × (head_at files folder side.Bugs id ≡ Head head) × MeetsMerge (objects_in files folder) head name
 LogAnswers files folder bug (Err (stop.Refused (refusal.Damaged path))) =
-    IsSome (id_of bug) × (path ≡ joined folder (bug_ref bug)) × IsDamagedBug files folder bug
+    (id : Id) × (id_of bug ≡ Some id) × (path ≡ joined folder (ref_place side.Bugs id)) × IsDamagedBug files folder id
+LogAnswers files folder bug (Err (stop.Refused _)) = ⊥
+
+-- the refusals that `log` may answer at all
+abbrev pub MayRefuse : Result (List ℕ) Stop → Type 0
+MayRefuse (Err (stop.Refused refusal.NotFound)) = ⊤
+MayRefuse (Err (stop.Refused (refusal.MergeCommit name))) = ⊤
+MayRefuse (Err (stop.Refused (refusal.Damaged path))) = ⊤
+MayRefuse (Err (stop.Refused _)) = ⊥
+MayRefuse _ = ⊤

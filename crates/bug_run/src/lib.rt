@@ -14,5 +14,5 @@ mod words;
 
 pub use fault::WalkFault;
 pub use laws::{a_log_has_no_fault, logs_are_determined};
-pub use status::{Refusal, Status, Stop};
+pub use status::Status;
 pub use top::run;

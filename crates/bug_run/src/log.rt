@@ -3,19 +3,16 @@ ghost use Rattle.std.specs.Prelude.{◌≡◌, ◌++◌, IsTrue, IfOk, OnOk, IsE
 ghost use Rattle.gb_store.specs.Faults.{KeepsFaults};
 ghost use Rattle.gb_store.specs.Files.{files_of};
 ghost use Rattle.object_store.specs.Held.{objects_in};
-ghost use Rattle.ref_store.specs.Refs.{Head, ref_at};
 ghost use Rattle.bug_run.specs.Answers.{ClocksAnswers, RisingAnswers, StepsAnswers};
-ghost use Rattle.bug_run.specs.Log.{LogAnswers, WalkTold, bug_ref, log_line, log_text_of};
+ghost use Rattle.bug_run.specs.Log.{LogAnswers, MayRefuse, WalkTold, log_line, log_text_of};
 
 use crate::fault::{WalkFault, WalkStop};
-use crate::name::push_name;
+use crate::name::{push_name, push_number};
 use crate::pack::clock_of;
-use crate::status::{Refusal, Stop};
 use commit_chain::{Met, walk};
 use gb_store::Store;
 use gb_text::{Folder, Id, Memory, Name, Text};
-use itoa::Buffer;
-use ref_store::RefFault;
+use repo_state::{Refusal, Side, Stop, damaged, head};
 use std::alloc::{AllocError, Global};
 
 /// A commit of a bug and its edit clock.
@@ -29,42 +26,29 @@ pub struct Step {
 /// head. Each commit and each tree is read once.
 pub fn log<S: Store>(alloc: Global, disk: &mut S, folder: &Folder, bug: &str) -> Result<Text, Stop>
     ensures answers { IsTrue S.tells → LogAnswers (files_of (S.history disk.old)) folder.now bug.now result }
-    ensures folder { IsErrOf result (Stop.Refused Refusal.BadFolder) → ⊥ }
+    ensures refusals { MayRefuse result }
     ensures unwritten { IsTrue S.tells → S.history disk.new ≡ S.history disk.old }
     ensures caused { KeepsFaults S.never_fails S.faults (IsErrOf result Stop.Disk) disk.old disk.new }
 {
-    if Id::read(bug.as_bytes()).is_none() {
+    let Some(id) = Id::read(bug.as_bytes()) else {
         return Err(Stop::Refused(Refusal::NotFound));
-    }
-    let place = ref_place(alloc, bug)?;
-    match ref_store::get(alloc, disk, folder, place.as_str()) {
-        Ok(Some(head)) => log_from(alloc, disk, folder, place.as_str(), &head),
-        Ok(None) => Err(Stop::Refused(Refusal::NotFound)),
-        Err(RefFault::BadRef(path)) => Err(Stop::Refused(Refusal::Damaged(path))),
-        Err(RefFault::Memory) => Err(Stop::Memory),
-        Err(RefFault::Disk) => Err(Stop::Disk),
+    };
+    match head(alloc, disk, folder, &Side::Bugs, &id)? {
+        Some(head) => log_from(alloc, disk, folder, &id, &head),
+        None => Err(Stop::Refused(Refusal::NotFound)),
     }
 }
 
-// Where the ref of a bug stands below its folder.
-fn ref_place(alloc: Global, bug: &str) -> Result<Text, Memory>
-    ensures { IfOk result (λ place. place ≡ bug_ref bug.now) }
-{
-    let mut place = String::from_str(alloc, "refs/bugs/")?;
-    place.push_str(bug)?;
-    Ok(Text::from_string(place))
-}
-
-// The log of the bug whose ref stands at a place and names this head.
+// The log of the bug with this id and this head.
 fn log_from<S: Store>(
     alloc: Global,
     disk: &mut S,
     folder: &Folder,
-    place: &str,
+    id: &Id,
     head: &Name,
 ) -> Result<Text, Stop>
-    ensures answers { IsTrue S.tells → WalkTold (files_of (S.history disk.old)) folder.now place.now head.now result }
-    ensures folder { IsErrOf result (Stop.Refused Refusal.BadFolder) → ⊥ }
+    ensures answers { IsTrue S.tells → WalkTold (files_of (S.history disk.old)) folder.now id.now head.now result }
+    ensures refusals { MayRefuse result }
     ensures unwritten { IsTrue S.tells → S.history disk.new ≡ S.history disk.old }
     ensures caused { KeepsFaults S.never_fails S.faults (IsErrOf result Stop.Disk) disk.old disk.new }
 {
@@ -73,10 +57,7 @@ fn log_from<S: Store>(
         Err(WalkStop::Memory) => Err(Stop::Memory),
         Err(WalkStop::Disk) => Err(Stop::Disk),
         Err(WalkStop::Merge(name)) => Err(Stop::Refused(Refusal::MergeCommit(name))),
-        Err(WalkStop::Fault(_)) => {
-            let path = folder.join(alloc, place)?;
-            Err(Stop::Refused(Refusal::Damaged(path)))
-        }
+        Err(WalkStop::Fault(_)) => Err(damaged(alloc, folder, &Side::Bugs, id)),
     }
 }
 
@@ -148,8 +129,8 @@ fn log_text(alloc: Global, steps: &[Step]) -> Result<Text, Memory>
 fn push_line(text: &mut String, step: &Step) -> Result<(), AllocError>
     ensures { OnOk result (string_bytes text.new ≡ string_bytes text.old ++ log_line step.now) }
 {
-    let mut clock = Buffer::new();
-    text.push_str(clock.format(step.clock))?;
+    let clock = step.clock;
+    push_number(text, clock)?;
     text.push_str(" ")?;
     push_name(text, &step.name)?;
     text.push_str("\n")?;

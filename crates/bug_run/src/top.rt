@@ -1,23 +1,28 @@
 //! The top call.
-ghost use Rattle.std.specs.Prelude.{◌≡◌, IsTrue, IsErrOf, map, string_bytes};
+ghost use Rattle.std.specs.Prelude.{◌≡◌, ◌≤◌, ◌-◌, ◌^◌, IsTrue, IfOk, IsErrOf, Some, map, string_bytes};
 ghost use Rattle.gb_store.specs.Faults.{KeepsFaults};
-ghost use Rattle.gb_store.specs.Files.{files_of};
-ghost use Rattle.bug_run.specs.Run.{CommandAnswers, Printed, RequestAnswers, RunAnswers, status_of, text_of};
+ghost use Rattle.gb_store.specs.Moments.{WroteIf};
+ghost use Rattle.repo_state.specs.Steps.{bad_text_of};
+ghost use Rattle.repo_state.specs.Users.{id_line};
+ghost use Rattle.bug_run.specs.Run.{CommandAnswers, CommandWrites, Printed, RequestAnswers, RunAnswers, RunStaysSound, RunWrites, ToldOf, bad_word_in, moment, status_of, text_of};
 ghost use Rattle.bug_run.specs.Words.{asked, command_asked, request_of};
 
 use crate::log::log;
+use crate::name::push_id;
 use crate::print::print;
 use crate::refusal::refusal_line;
-use crate::status::{Refusal, Status, Stop};
+use crate::status::Status;
 use crate::words::{Command, Request, read_words};
 use gb_store::{Sink, Store};
-use gb_text::{Folder, FolderFault, Text};
+use gb_text::{Folder, FolderFault, Id, Memory, Text};
+use repo_edit::{user_edit, user_new, user_set};
+use repo_state::{Env, Refusal, Stop};
 use std::alloc::Global;
 
 /// Does what the words ask over the store, and tells the sink: the command's text, the line of
 /// its refusal, or how the program is used. The effects come first and the text is made whole
-/// before the first byte of it is told. `now` is the moment in seconds since 1970, where a negative one counts
-/// as 0; `seed` is 32 random bytes.
+/// before the first byte of it is told. `now` is the moment in seconds since 1970, where a negative
+/// one counts as 0; `seed` is 32 random bytes, from which a command makes its nonce.
 pub fn run<S: Store, K: Sink>(
     alloc: Global,
     words: &[String],
@@ -26,27 +31,42 @@ pub fn run<S: Store, K: Sink>(
     now: i64,
     seed: [u8; 32],
 ) -> Status
-    ensures answers { RunAnswers S.tells K.tells (request_of (map string_bytes words.now)) (files_of (S.history disk.old))
-        (K.written out.old) (K.written out.new) result }
-    ensures unwritten { IsTrue S.tells → S.history disk.new ≡ S.history disk.old }
+    ensures answers { RunAnswers S.tells K.tells (request_of (map string_bytes words.now)) (moment now) seed
+        (S.history disk.old) (S.history disk.new) (K.written out.old) (K.written out.new) result }
+    ensures wrote { WroteIf S.tells (RunWrites (request_of (map string_bytes words.now)) (moment now) seed) (S.history disk.old) (S.history disk.new) }
+    ensures sound { IsTrue S.tells → RunStaysSound (request_of (map string_bytes words.now)) (S.history disk.old) (S.history disk.new) }
     ensures disk { KeepsFaults S.never_fails S.faults (result ≡ Status.DiskFault) disk.old disk.new }
     ensures sink { KeepsFaults K.never_fails K.faults (result ≡ Status.OutFault) out.old out.new }
 {
-    let _ = (now, seed);
     let Some(request) = read_words(words) else {
         return print(alloc, out, USAGE, Status::Usage);
     };
-    let outcome = perform(alloc, disk, &request);
+    let outcome = perform(alloc, disk, &request, moment_of(now), seed);
     tell(alloc, out, outcome)
 }
 
 /// What is told where the words give no command.
 pub const USAGE: &str = "usage: gitbug FOLDER COMMAND ARGUMENTS\n";
 
+// A moment, where a negative one counts as 0.
+fn moment_of(now: i64) -> u64
+    ensures value { result ≡ moment now }
+    ensures within { result ≤ 2 ^ 63 - 1 }
+{
+    u64::try_from(now).unwrap_or(0)
+}
+
 // Does what is asked in the folder that the request's word names.
-fn perform<S: Store>(alloc: Global, disk: &mut S, request: &Request<'_>) -> Result<Text, Stop>
-    ensures answers { RequestAnswers S.tells (files_of (S.history disk.old)) (asked request.now) result }
-    ensures unwritten { IsTrue S.tells → S.history disk.new ≡ S.history disk.old }
+fn perform<S: Store>(
+    alloc: Global,
+    disk: &mut S,
+    request: &Request<'_>,
+    now: u64,
+    seed: [u8; 32],
+) -> Result<Text, Stop>
+    requires moment { now ≤ 2 ^ 63 - 1 }
+    ensures answers { RequestAnswers S.tells (asked request.now) now seed (S.history disk.old) (S.history disk.new) result }
+    ensures wrote { WroteIf S.tells (RunWrites (Some (asked request.now)) now seed) (S.history disk.old) (S.history disk.new) }
     ensures caused { KeepsFaults S.never_fails S.faults (IsErrOf result Stop.Disk) disk.old disk.new }
 {
     let folder = match Folder::read(alloc, request.folder) {
@@ -54,24 +74,48 @@ fn perform<S: Store>(alloc: Global, disk: &mut S, request: &Request<'_>) -> Resu
         Err(FolderFault::BadFolder) => return Err(Stop::Refused(Refusal::BadFolder)),
         Err(FolderFault::Memory) => return Err(Stop::Memory),
     };
-    carry_out(alloc, disk, &folder, &request.command)
+    let env = Env { folder, now, seed };
+    carry_out(alloc, disk, &env, &request.command)
 }
 
-// Carries out a command in a folder.
+// Carries out a command.
 fn carry_out<S: Store>(
     alloc: Global,
     disk: &mut S,
-    folder: &Folder,
+    env: &Env,
     command: &Command<'_>,
 ) -> Result<Text, Stop>
-    ensures answers { IsTrue S.tells → CommandAnswers (files_of (S.history disk.old)) folder.now (command_asked command.now) result }
+    requires moment { env.now.now ≤ 2 ^ 63 - 1 }
+    ensures answers { IsTrue S.tells → CommandAnswers env.entry.now (command_asked command.now) (S.history disk.old) (S.history disk.new) result }
+    ensures words { bad_text_of result ≡ bad_word_in (command_asked command.now) }
     ensures folder { IsErrOf result (Stop.Refused Refusal.BadFolder) → ⊥ }
-    ensures unwritten { IsTrue S.tells → S.history disk.new ≡ S.history disk.old }
+    ensures wrote { WroteIf S.tells (CommandWrites env.entry.now (command_asked command.now)) (S.history disk.old) (S.history disk.new) }
     ensures caused { KeepsFaults S.never_fails S.faults (IsErrOf result Stop.Disk) disk.old disk.new }
 {
     match command {
-        Command::Log { bug } => log(alloc, disk, folder, bug),
+        Command::Log { bug } => log(alloc, disk, &env.folder, bug),
+        Command::UserNew { name, email } => told(alloc, user_new(alloc, disk, env, name, email)),
+        Command::UserEdit { name, email } => told(alloc, user_edit(alloc, disk, env, name, email)),
+        Command::UserSet { id } => told(alloc, user_set(alloc, disk, env, id)),
     }
+}
+
+// The line of the id that an edit answers.
+fn told(alloc: Global, answer: Result<Id, Stop>) -> Result<Text, Stop>
+    ensures { ToldOf answer result }
+{
+    let id = answer?;
+    Ok(id_line(alloc, &id)?)
+}
+
+// The line of an id: its digits and a line feed.
+fn id_line(alloc: Global, id: &Id) -> Result<Text, Memory>
+    ensures { IfOk result (λ line. line ≡ id_line id.now) }
+{
+    let mut line = String::new(alloc);
+    push_id(&mut line, id)?;
+    line.push_str("\n")?;
+    Ok(Text::from_string(line))
 }
 
 // Tells the text of an answer, and answers its status.

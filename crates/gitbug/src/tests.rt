@@ -1,7 +1,8 @@
 //! What a real disk holds, and the number of each status.
 use super::*;
-use bug_run::Refusal;
-use gb_store::{Content, Store, StoreFault};
+use gb_store::{Content, MemSink, Store, StoreFault};
+use gb_text::List;
+use repo_state::Refusal;
 use std::process::Abort;
 use std::test::Fail;
 use std::{fs, process};
@@ -31,6 +32,7 @@ fn files_are_kept_in_real_folders(rt: HostRuntime) -> Result<(), Fail> {
     object_reads(&rt, &mut store)?;
     refused_puts(&rt, &mut store)?;
     removed_files(&rt, &mut store)?;
+    persons_are_made_once(&rt, &mut store)?;
     fs::remove_dir_all(&rt, root.as_str())?;
     Ok(())
 }
@@ -156,5 +158,25 @@ fn removed_files<R: Runtime + AllocGlobal + Abort>(
     assert!(rt; is_absent(rt, store, "f/refs/b"));
     assert_eq!(rt; listed(rt, store)?.as_str(), "B ");
     assert_eq!(rt; store.faults(), 2);
+    Ok(())
+}
+
+// Makes a person in a real folder, and the same once more.
+fn persons_are_made_once<R: Runtime + AllocGlobal + Abort>(
+    rt: &R,
+    store: &mut FolderStore<R>,
+) -> Result<(), Fail> {
+    let alloc = rt.alloc();
+    let mut words = Vec::new(alloc);
+    for word in ["g", "user-new", "Ana", "ana@x"] {
+        words.push(String::from_str(alloc, word)?)?;
+    }
+    let mut sink = MemSink::new(alloc, List::new(alloc), 100);
+    let made = run(alloc, &words, store, &mut sink, 101, [1; 32]);
+    assert!(rt; matches!(made, Status::Done));
+    let again = run(alloc, &words, store, &mut sink, 101, [1; 32]);
+    assert!(rt; matches!(again, Status::Refused(Refusal::EntityExists(_))));
+    let line = b"a206955f92c7be1bb318733460d3b85e208c8b1c8fb805c6d9991de1e0f35c00\n";
+    assert!(rt; holds(rt, store, "g/git-bug/user", line));
     Ok(())
 }

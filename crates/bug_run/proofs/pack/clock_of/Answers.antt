@@ -1,11 +1,10 @@
-use Rattle.std.proofs.Common.{◌≡◌, ℕ, List, Result, Some, Ok, Err, sym, ◌∙◌, subst, rules}
-use Rattle.gb_text.specs.declared.id.Name.{Name}
+use Rattle.std.proofs.Common.{◌≡◌, ℕ, List, Result, Some, Err, sym, subst, rules}
 use Rattle.gb_store.specs.Files.{History, files_of}
 use Rattle.object_store.specs.Held.{objects_in}
 use Rattle.bug_run.specs.Answers.{ClockAnswers, PackAnswers, TextAnswers}
 use Rattle.commit_chain.specs.Objects.{blob_at}
 use Rattle.bug_run.specs.declared.fault.WalkStop.{WalkStop}
-use Rattle.bug_run.proofs.PackLemmas.{ClockAnswers-tree, ClockAnswers-head, ClockAnswers-text, ClockAnswers-pack, ClockAnswers-done}
+use Rattle.bug_run.proofs.PackLemmas.{ClockAnswers-tree, ClockAnswers-head, ClockAnswers-text, ClockAnswers-pack}
 use Rattle.bug_run.proofs.pack.clock_of.Goals as goal
 
 pub returns-in_err-tree-clause-answers : goal.returns-in_err-tree-clause-answers

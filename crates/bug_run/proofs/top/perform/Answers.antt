@@ -1,8 +1,12 @@
-use Rattle.gb_store.specs.Files.{files_of}
-use Rattle.bug_run.specs.Words.{asked}
-use Rattle.bug_run.proofs.AnswerLemmas.{RequestAnswers-done}
+use Rattle.std.proofs.Common.{ℕ, List, Option, sym, subst}
+use Rattle.gb_store.specs.Moments.{WroteIf}
+use Rattle.bug_run.specs.Run.{WritesIn}
+use Rattle.bug_run.specs.Words.{command_asked}
 use Rattle.bug_run.proofs.top.perform.Goals as goal
 
-pub returns-clause-answers : goal.returns-clause-answers
-returns-clause-answers g c =
-    RequestAnswers-done g.S.Store.tells (files_of (g.S.Store.history c.args.disk.now)) (asked c.args.request.now) c.in-Ok.folder c.carry_out.result c.in-Ok.ensures c.carry_out.ensures.folder c.carry_out.ensures.answers
+pub returns-clause-wrote : goal.returns-clause-wrote
+returns-clause-wrote g c =
+    let old = g.S.Store.history c.args.disk.now in
+    let new = g.S.Store.history c.carry_out.new.disk in
+    subst (λ (at : Option (List ℕ)). WroteIf g.S.Store.tells (WritesIn at (command_asked c.args.request.now.command) c.args.now c.args.seed) old new)
+    (sym c.in-Ok.ensures) c.carry_out.ensures.wrote

@@ -1,0 +1,6 @@
+//! Tests of the commands that edit, over a store and a sink in memory. They stand apart, so that the
+//! proofs of `bug_run` are made once.
+#![tactic(auto)]
+
+#[cfg(test)]
+mod tests;
