@@ -16,7 +16,7 @@ use Rattle.repo_state.specs.declared.refusal.Stop.{Stop}
 use Rattle.repo_state.specs.declared.refusal.Stop.TheVariants as stop
 use Rattle.repo_state.specs.declared.side.Side.TheVariants as side
 use Rattle.bug_run.specs.Log.{LogAnswers, MayRefuse, WalkTold}
-use Rattle.bug_run.specs.Run.{EditTold, Performed, RequestAnswers, ToldOf}
+use Rattle.bug_run.specs.Run.{EditTold, Performed, RequestAnswers}
 use Rattle.bug_run.specs.Words.{Request}
 
 -- the answer for a head is that for the bug whose ref names it
@@ -49,32 +49,6 @@ MayRefuse-words (Err (stop.Refused (refusal.EntityExists other))) may = refl
 MayRefuse-words (Err (stop.Refused (refusal.NameTaken name))) may = refl
 MayRefuse-words (Err (stop.Refused (refusal.TooLarge count))) may = refl
 MayRefuse-words (Err (stop.Refused refusal.BadFolder)) may = refl
-
--- the line of the id tells what an edit answered; where memory runs out for it, all was written
-pub EditTold-told : (env : Env) (edit : Edit) (old new : History) (answer : Result Id Stop) (result : Result (List ℕ) Stop)
-    → EditAnswers env edit old new answer → ToldOf answer result → EditTold env edit old new result
-EditTold-told env edit old new (Ok id) (Ok text) done told = (id, done, told)
-EditTold-told env edit old new (Ok id) (Err s) done told = rw told (inr (done.may, WroteSome-back (writes_of env edit (files_of old)) old new (writes_of env edit (files_of old)) [] (sym (append-nil (writes_of env edit (files_of old)))) done.writes))
-EditTold-told env edit old new (Err s) result answers told = rw told answers
-
--- the line of the id refuses no word more
-pub told_words : (answer : Result Id Stop) (result : Result (List ℕ) Stop) → ToldOf answer result → bad_text_of result ≡ bad_text_of answer
-told_words (Ok id) (Ok text) told = refl
-told_words (Ok id) (Err s) told = ap (λ (t : Stop). bad_text_of {T = List ℕ} (Err t)) told
-told_words (Err s) result told = each s result told
-  where
-    each : (s : Stop) (result : Result (List ℕ) Stop) → result ≡ Err s → bad_text_of result ≡ bad_text_of {T = Id} (Err s)
-    each stop.Memory result told = ap bad_text_of told
-    each stop.Disk result told = ap bad_text_of told
-    each (stop.Refused refusal.NoUser) result told = ap bad_text_of told
-    each (stop.Refused refusal.NotFound) result told = ap bad_text_of told
-    each (stop.Refused (refusal.BadText place)) result told = ap bad_text_of told
-    each (stop.Refused (refusal.EntityExists id)) result told = ap bad_text_of told
-    each (stop.Refused (refusal.NameTaken name)) result told = ap bad_text_of told
-    each (stop.Refused (refusal.TooLarge count)) result told = ap bad_text_of told
-    each (stop.Refused (refusal.Damaged path)) result told = ap bad_text_of told
-    each (stop.Refused refusal.BadFolder) result told = ap bad_text_of told
-    each (stop.Refused (refusal.MergeCommit name)) result told = ap bad_text_of told
 
 -- the answer of the command is that to the request
 pub RequestAnswers-done : (tells : Bool) (request : Request) (now : ℕ) (seed : List ℕ) (old new : History) (result : Result (List ℕ) Stop)

@@ -4,5 +4,6 @@ pub mod Packs
 pub mod Refusals
 pub mod Run
 pub mod Stops
+pub mod Told
 pub mod Walk
 pub mod Words

@@ -37,12 +37,6 @@ abbrev pub EditTold : Env → Edit → History → History → Result (List ℕ)
 EditTold env edit old new (Ok text) = (id : Id) × IsDone env edit old new id × (text ≡ id_line id)
 EditTold env edit old new (Err s) = EditAnswers env edit old new (Err s)
 
--- the line of the id that an edit answers, unless memory ran out
-abbrev pub ToldOf : Result Id Stop → Result (List ℕ) Stop → Type 0
-ToldOf (Ok id) (Ok text) = text ≡ id_line id
-ToldOf (Ok id) (Err s) = s ≡ stop.Memory
-ToldOf (Err s) result = result ≡ Err s
-
 -- the answer to a command in a folder, with what was written: that of the one call that it makes
 abbrev pub CommandAnswers : Env → Command → History → History → Result (List ℕ) Stop → Type 0
 CommandAnswers env (Log bug) old new result = LogAnswers (files_of old) env.folder bug result × (new ≡ old)

@@ -9,6 +9,7 @@ mod pack;
 mod print;
 mod refusal;
 mod status;
+mod told;
 mod top;
 mod words;
 

@@ -10,12 +10,12 @@ use std::alloc::Global;
 /// Prints the whole text, and answers the status that was to be told, which is another than the
 /// sink's. Where the sink refuses, the
 /// answer is its refusal, and a front of the text was printed.
-pub fn print<K: Sink>(alloc: Global, out: &mut K, text: &str, told: Status) -> Status
+pub fn print<K: Sink>(alloc: Global, out: &mut K, text: &[u8], told: Status) -> Status
     requires { told ≢ Status.OutFault }
     ensures printed { Printed K.tells text.now told (K.written out.old) (K.written out.new) result }
     ensures caused { KeepsFaults K.never_fails K.faults (result ≡ Status.OutFault) out.old out.new }
 {
-    match write_whole(alloc, out, text.as_bytes()) {
+    match write_whole(alloc, out, text) {
         Ok(()) => told,
         Err(SinkFault::Memory) => Status::Memory,
         Err(SinkFault::Failed) => Status::OutFault,

@@ -1,20 +1,20 @@
 //! The top call.
-ghost use Rattle.std.specs.Prelude.{◌≡◌, ◌≤◌, ◌-◌, ◌^◌, IsTrue, IfOk, IsErrOf, Some, map, string_bytes};
+ghost use Rattle.std.specs.Prelude.{◌≡◌, ◌≤◌, ◌-◌, ◌^◌, IsTrue, IsErrOf, Some, map, string_bytes};
 ghost use Rattle.gb_store.specs.Faults.{KeepsFaults};
 ghost use Rattle.gb_store.specs.Moments.{WroteIf};
 ghost use Rattle.repo_state.specs.Steps.{bad_text_of};
-ghost use Rattle.repo_state.specs.Users.{id_line};
-ghost use Rattle.bug_run.specs.Run.{CommandAnswers, CommandWrites, Printed, RequestAnswers, RunAnswers, RunStaysSound, RunWrites, ToldOf, bad_word_in, moment, status_of, text_of};
+ghost use Rattle.bug_run.specs.Run.{CommandAnswers, CommandWrites, Printed, RequestAnswers, RunAnswers, RunStaysSound, RunWrites, bad_word_in, moment, status_of, text_of};
+ghost use Rattle.bug_run.specs.Told.{as_text};
 ghost use Rattle.bug_run.specs.Words.{asked, command_asked, request_of};
 
 use crate::log::log;
-use crate::name::push_id;
 use crate::print::print;
 use crate::refusal::refusal_line;
 use crate::status::Status;
+use crate::told::{Told, id_line};
 use crate::words::{Command, Request, read_words};
 use gb_store::{Sink, Store};
-use gb_text::{Folder, FolderFault, Id, Memory, Text};
+use gb_text::{Folder, FolderFault};
 use repo_edit::{user_edit, user_new, user_set};
 use repo_state::{Env, Refusal, Stop};
 use std::alloc::Global;
@@ -39,7 +39,7 @@ pub fn run<S: Store, K: Sink>(
     ensures sink { KeepsFaults K.never_fails K.faults (result ≡ Status.OutFault) out.old out.new }
 {
     let Some(request) = read_words(words) else {
-        return print(alloc, out, USAGE, Status::Usage);
+        return print(alloc, out, USAGE.as_bytes(), Status::Usage);
     };
     let outcome = perform(alloc, disk, &request, moment_of(now), seed);
     tell(alloc, out, outcome)
@@ -63,9 +63,9 @@ fn perform<S: Store>(
     request: &Request<'_>,
     now: u64,
     seed: [u8; 32],
-) -> Result<Text, Stop>
+) -> Result<Told, Stop>
     requires moment { now ≤ 2 ^ 63 - 1 }
-    ensures answers { RequestAnswers S.tells (asked request.now) now seed (S.history disk.old) (S.history disk.new) result }
+    ensures answers { RequestAnswers S.tells (asked request.now) now seed (S.history disk.old) (S.history disk.new) (as_text result) }
     ensures wrote { WroteIf S.tells (RunWrites (Some (asked request.now)) now seed) (S.history disk.old) (S.history disk.new) }
     ensures caused { KeepsFaults S.never_fails S.faults (IsErrOf result Stop.Disk) disk.old disk.new }
 {
@@ -84,51 +84,41 @@ fn carry_out<S: Store>(
     disk: &mut S,
     env: &Env,
     command: &Command<'_>,
-) -> Result<Text, Stop>
+) -> Result<Told, Stop>
     requires moment { env.now.now ≤ 2 ^ 63 - 1 }
-    ensures answers { IsTrue S.tells → CommandAnswers env.entry.now (command_asked command.now) (S.history disk.old) (S.history disk.new) result }
+    ensures answers { IsTrue S.tells → CommandAnswers env.entry.now (command_asked command.now) (S.history disk.old) (S.history disk.new) (as_text result) }
     ensures words { bad_text_of result ≡ bad_word_in (command_asked command.now) }
     ensures folder { IsErrOf result (Stop.Refused Refusal.BadFolder) → ⊥ }
     ensures wrote { WroteIf S.tells (CommandWrites env.entry.now (command_asked command.now)) (S.history disk.old) (S.history disk.new) }
     ensures caused { KeepsFaults S.never_fails S.faults (IsErrOf result Stop.Disk) disk.old disk.new }
 {
     match command {
-        Command::Log { bug } => log(alloc, disk, &env.folder, bug),
-        Command::UserNew { name, email } => told(alloc, user_new(alloc, disk, env, name, email)),
-        Command::UserEdit { name, email } => told(alloc, user_edit(alloc, disk, env, name, email)),
-        Command::UserSet { id } => told(alloc, user_set(alloc, disk, env, id)),
+        Command::Log { bug } => Ok(Told::Text(log(alloc, disk, &env.folder, bug)?)),
+        Command::UserNew { name, email } => Ok(Told::Id(user_new(alloc, disk, env, name, email)?)),
+        Command::UserEdit { name, email } => {
+            Ok(Told::Id(user_edit(alloc, disk, env, name, email)?))
+        }
+        Command::UserSet { id } => Ok(Told::Id(user_set(alloc, disk, env, id)?)),
     }
 }
 
-// The line of the id that an edit answers.
-fn told(alloc: Global, answer: Result<Id, Stop>) -> Result<Text, Stop>
-    ensures { ToldOf answer result }
-{
-    let id = answer?;
-    Ok(id_line(alloc, &id)?)
-}
-
-// The line of an id: its digits and a line feed.
-fn id_line(alloc: Global, id: &Id) -> Result<Text, Memory>
-    ensures { IfOk result (λ line. line ≡ id_line id.now) }
-{
-    let mut line = String::new(alloc);
-    push_id(&mut line, id)?;
-    line.push_str("\n")?;
-    Ok(Text::from_string(line))
-}
-
 // Tells the text of an answer, and answers its status.
-fn tell<K: Sink>(alloc: Global, out: &mut K, outcome: Result<Text, Stop>) -> Status
-    ensures answers { Printed K.tells (text_of outcome) (status_of outcome) (K.written out.old) (K.written out.new) result }
+fn tell<K: Sink>(alloc: Global, out: &mut K, outcome: Result<Told, Stop>) -> Status
+    ensures answers { Printed K.tells (text_of (as_text outcome)) (status_of (as_text outcome)) (K.written out.old) (K.written out.new) result }
     ensures caused { KeepsFaults K.never_fails K.faults (result ≡ Status.OutFault) out.old out.new }
 {
     match outcome {
-        Ok(text) => print(alloc, out, text.as_str(), Status::Done),
+        Ok(Told::Text(text)) => print(alloc, out, text.as_str().as_bytes(), Status::Done),
+        Ok(Told::Id(id)) => print(alloc, out, &id_line(&id), Status::Done),
         Err(Stop::Memory) => Status::Memory,
         Err(Stop::Disk) => Status::DiskFault,
         Err(Stop::Refused(refusal)) => match refusal_line(alloc, &refusal) {
-            Ok(line) => print(alloc, out, line.as_str(), Status::Refused(refusal)),
+            Ok(line) => print(
+                alloc,
+                out,
+                line.as_str().as_bytes(),
+                Status::Refused(refusal),
+            ),
             Err(_) => Status::Memory,
         },
     }
