@@ -5,8 +5,8 @@ ghost use Rattle.lamport.specs.Clock.{clock_of, seen_by, root_time_of, edit_time
 use gb_text::{LIMIT, read_decimal, without_line_end};
 use std::marker::Model;
 
-/// The greatest number that a clock holds: 2^62. It leaves room above for the edits of 2^62
-/// further commits, however a hostile clock was set.
+/// The greatest number that a clock holds: 2^62. It leaves room above, up to [`LIMIT`], for the edits of
+/// 2^62 - 1 further commits, however a hostile clock was set.
 pub const CAP: u64 = 4611686018427387904;
 
 /// The most by which an edit's clock may lie above that of its parent.
@@ -35,8 +35,8 @@ impl Model for Clock {
 pub struct ClockFull;
 
 impl Clock {
-    /// Reads a clock file: a plain decimal and at most one LF. A text that is none reads as 0, a
-    /// greater number as [`CAP`].
+    /// Reads a clock file: a plain decimal below 2^64 and at most one LF. A text that is none reads as
+    /// 0, a number above [`CAP`] as [`CAP`].
     pub fn read(text: &[u8]) -> Clock
         ensures { result ≡ clock_of text.now }
     {
