@@ -1,5 +1,5 @@
 -- Folders, and paths below them.
-use Rattle.std.specs.Prelude.{◌≡◌, ⊤, ℕ, ◌==◌, ◌||◌, not, Bool, true, false, if◌then◌else◌, List, [], ◌∷◌, ◌++◌, codes, filter, Option, Some, None, Result, Ok, Err}
+use Rattle.std.specs.Prelude.{◌≡◌, ◌≢◌, ℕ, ◌==◌, ◌||◌, not, Bool, true, false, if◌then◌else◌, List, [], ◌∷◌, ◌++◌, codes, filter, Option, Some, None, Result, Ok, Err}
 use Rattle.std.specs.List.{list_any, slice_split, join_with_byte}
 use Rattle.std.specs.Str.{bytes_eq}
 use Rattle.gb_text.specs.Rules.{is_line_text}
@@ -36,11 +36,11 @@ is_bad_folder (c ∷ cs) = not (is_line_text (c ∷ cs)) || goes_up (parts_of (c
 abbrev pub folder_of : List ℕ → Option (List ℕ)
 folder_of word = if is_bad_folder word then None else Some (folder_text (is_rooted word) (filter counts (parts_of word)))
 
--- the answer to a word that names this folder, or none
+-- the answer to a word that names this folder, or none; want of memory comes only where it names one
 abbrev pub FolderAnswers : Option (List ℕ) → Result (List ℕ) FolderFault → Type 0
 FolderAnswers folder (Ok text) = folder ≡ Some text
 FolderAnswers folder (Err BadFolder) = folder ≡ None
-FolderAnswers folder (Err Memory) = ⊤
+FolderAnswers folder (Err Memory) = folder ≢ None
 
 -- what stands between a folder's text and the rest of a path: nothing after the empty text and after `/`, else a slash
 abbrev pub joint : List ℕ → List ℕ

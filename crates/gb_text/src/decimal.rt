@@ -1,11 +1,16 @@
 //! Plain decimal numbers below 2^64.
-ghost use Rattle.std.specs.Prelude.{◌≡◌, ℕ, IfSome, Some};
+ghost use Rattle.std.specs.Prelude.{◌≡◌, ◌^◌, ◌-◌, ℕ, IfSome, Some};
 ghost use Rattle.gb_text.specs.Decimal.{IsDecimal, decimal_of};
 
 use itoa::Buffer;
 
 /// The greatest moment, in seconds since 1970, and the greatest edit or create clock: 2^63 - 1.
 pub const LIMIT: u64 = 9223372036854775807;
+
+/// The limit is as the contracts above this crate write it.
+pub fn limit_is_known()
+    ensures { LIMIT ≡ 2 ^ 63 - 1 }
+{}
 
 /// The number of which the text is the plain decimal: one or more digits, no sign, no leading
 /// zero but in `0`, a value below 2^64. Takes no memory.

@@ -10,7 +10,7 @@ mod memory;
 mod owned;
 mod rules;
 
-pub use decimal::{LIMIT, read_decimal};
+pub use decimal::{LIMIT, limit_is_known, read_decimal};
 pub use folder::{Folder, FolderFault};
 pub use id::{Id, Name};
 pub use line_end::without_line_end;
