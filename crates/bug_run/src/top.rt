@@ -1,5 +1,5 @@
 //! The top call.
-ghost use Rattle.std.specs.Prelude.{◌≡◌, ◌≤◌, ◌-◌, ◌^◌, IsTrue, IsErrOf, Some, map, string_bytes};
+ghost use Rattle.std.specs.Prelude.{◌≡◌, ◌↔◌, ◌≤◌, ◌-◌, ◌^◌, IsTrue, IsErrOf, Some, map, string_bytes};
 ghost use Rattle.gb_store.specs.Faults.{KeepsFaults};
 ghost use Rattle.gb_store.specs.Moments.{WroteIf};
 ghost use Rattle.repo_state.specs.Steps.{bad_text_of};
@@ -105,6 +105,7 @@ fn carry_out<S: Store>(
 // Tells the text of an answer, and answers its status.
 fn tell<K: Sink>(alloc: Global, out: &mut K, outcome: Result<Told, Stop>) -> Status
     ensures answers { Printed K.tells (text_of (as_text outcome)) (status_of (as_text outcome)) (K.written out.old) (K.written out.new) result }
+    ensures disk { result ≡ Status.DiskFault ↔ IsErrOf outcome Stop.Disk }
     ensures caused { KeepsFaults K.never_fails K.faults (result ≡ Status.OutFault) out.old out.new }
 {
     match outcome {

@@ -2,14 +2,25 @@
 use Rattle.std.proofs.Common.{ℕ, Bool, arith, ◌∙◌}
 use Rattle.gb_store.specs.Faults.{KeepsFaults}
 
--- A call that did not fail, and one after it. What the whole fails by is a failure of the second.
-pub KeepsFaults_then : {S : Type 0} (never_fails : S → Bool) (faults : S → ℕ) (failed whole : Type 0) (old mid new : S) → (whole → failed)
-    → KeepsFaults never_fails faults ⊥ old mid → KeepsFaults never_fails faults failed mid new → KeepsFaults never_fails faults whole old new
-KeepsFaults_then never_fails faults failed whole old mid new causes first then = record {
+-- A failure that is told by another name.
+pub KeepsFaults_as : {S : Type 0} (never_fails : S → Bool) (faults : S → ℕ) (failed whole : Type 0) (old new : S)
+    → KeepsFaults never_fails faults failed old new → (whole → failed) → (failed → whole) → KeepsFaults never_fails faults whole old new
+KeepsFaults_as never_fails faults failed whole old new keeps causes told = record {
+  counts = keeps.counts;
+  cause = λ fails. keeps.cause (causes fails);
+  told = λ calm. keeps.told (λ fails. calm (told fails));
+  calm = λ calm. let rest = keeps.calm calm in (λ fails. rest.0 (causes fails), rest.1);
+}
+
+-- A call that did not fail, and one after it. The whole fails where the second does.
+pub KeepsFaults_then : {S : Type 0} (never_fails : S → Bool) (faults : S → ℕ) (failed whole : Type 0) (old mid new : S)
+    → KeepsFaults never_fails faults ⊥ old mid → KeepsFaults never_fails faults failed mid new → (whole → failed) → (failed → whole)
+    → KeepsFaults never_fails faults whole old new
+KeepsFaults_then never_fails faults failed whole old mid new first then causes told = record {
   counts = omega (arith, first.counts, then.counts);
   cause = λ fails. let risen = then.cause (causes fails) in omega (arith, first.counts);
+  told = λ calm. then.told (λ fails. calm (told fails)) ∙ first.told (λ never. never);
   calm = λ calm.
-      let one = first.calm calm in
-      let two = then.calm one.1 in
-      (λ fails. two.0 (causes fails), two.1, two.2 ∙ one.2);
+      let two = then.calm (first.calm calm).1 in
+      (λ fails. two.0 (causes fails), two.1);
 }

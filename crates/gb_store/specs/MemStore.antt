@@ -43,6 +43,10 @@ next_fail s = fail_at s.calls s.fails
 abbrev pub after_call : MemState → MemState
 after_call s = record s { calls = raised s.calls; faults = if is_some (next_fail s) then raised s.faults else s.faults }
 
+-- one call more, which memory ran out in: no fault
+abbrev pub out_of_memory : MemState → MemState
+out_of_memory s = record s { calls = raised s.calls }
+
 -- one call more, which read a path
 abbrev pub after_read : List ℕ → MemState → MemState
 after_read path s = record (after_call s) { reads = reads_after path s.reads }
@@ -63,10 +67,10 @@ ReadAnswers old (Err Failed) Tells = next_fail old ≢ None
 ReadAnswers old (Err Memory) Tells = next_fail old ≡ None
 
 -- A write fails only where its call is listed, and is then made or not as the first entry for it
--- says. Want of memory makes no write, and comes in a listed call only where its write was to be
--- made.
+-- says. Want of memory makes no write and counts no fault, and comes in a listed call only where its
+-- write was to be made.
 abbrev pub WriteAnswers : Change → MemState → MemState → Result Unit StoreFault → Type 0
 WriteAnswers change old new (Ok _) = (next_fail old ≡ None) × (new ≡ with_write change (after_call old))
 WriteAnswers change old new (Err Failed) =
     (after : Bool) × (next_fail old ≡ Some after) × (new ≡ (if after then with_write change (after_call old) else after_call old))
-WriteAnswers change old new (Err Memory) = (next_fail old ≢ Some false) × (new ≡ after_call old)
+WriteAnswers change old new (Err Memory) = (next_fail old ≢ Some false) × (new ≡ out_of_memory old)

@@ -149,11 +149,15 @@ impl MemStore {
         ensures caused { KeepsFaults has_no_fails fault_count (IsErrOf result StoreFault.Failed)
             self.old self.new }
     {
+        let faults = self.faults;
         let fail = self.begin();
         if fail == Some(false) {
             return Err(StoreFault::Failed);
         }
-        self.add(alloc, path, bytes)?;
+        if let Err(memory) = self.add(alloc, path, bytes) {
+            self.faults = faults;
+            return Err(memory.into());
+        }
         match fail {
             Some(_) => Err(StoreFault::Failed),
             None => Ok(()),

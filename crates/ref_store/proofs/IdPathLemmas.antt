@@ -1,5 +1,5 @@
 -- The place of an id's ref is no object's path.
-use Rattle.std.proofs.Common.{◌≡◌, ◌⊎◌, inl, inr, ℕ, ◌+◌, ◌*◌, ◌<◌, ◌==◌, suc, Bool, true, false, ◌&&◌, cond, List, [], ◌∷◌, ◌++◌, length, take, drop, refl, sym, ◌∙◌, ap, subst, append_assoc, arith, length-append, eqb-true}
+use Rattle.std.proofs.Common.{◌≡◌, inl, inr, ℕ, ◌+◌, ◌*◌, ◌<◌, ◌==◌, suc, Bool, true, false, ◌&&◌, List, [], ◌∷◌, ◌++◌, length, take, drop, refl, sym, ◌∙◌, ap, append_assoc, arith, length-append, eqb-true}
 use Rattle.std.specs.Prelude.{codes, slice_index, is_some, ◌/◌, ◌%◌}
 use Rattle.std.proofs.Math.Seq.{drop-append_seam}
 use Rattle.std.proofs.lemmas.List.{take-append-drop, length-take-le}
@@ -17,7 +17,7 @@ use Rattle.hex.proofs.HexLemmas.{IsAscii-encode_with, IsDigits-lower_digits, len
 use Rattle.gb_text.specs.Digits.{IsId}
 use Rattle.gb_text.specs.declared.id.Id.{Id}
 use Rattle.gb_text.specs.Folder.{joined, joint}
-use Rattle.gb_store.specs.ObjectPath.{IsObjectPath, is_object_path, reads_after}
+use Rattle.gb_store.specs.ObjectPath.{is_object_path}
 use Rattle.gb_store.proofs.ObjectPathLemmas.{form_of_parts}
 use Rattle.ref_store.specs.Listing.{id_place}
 use Rattle.ref_store.specs.Refs.{ReadsOnce}

@@ -34,5 +34,5 @@ loop-met-preserved g c =
           subst (λ (h : History). VersionAnswers (objects_in (files_of h) c.args.folder.now) met (Ok c.in_ok-last.last)) (c.loop-met.invariant.unwritten tells) (c.in_ok-last.ensures.answers tells) in
           Leads-more objects c.args.first c.loop-met.last c.in_ok-last.last c.args.later.now c.loop-met.met-index none answer.0 c.loop-met-test.true (c.loop-met.invariant.leads tells) answer.1;
       unwritten = λ tells. c.in_ok-last.ensures.unwritten tells ∙ c.loop-met.invariant.unwritten tells;
-      caused = KeepsFaults_then g.S.Store.never_fails g.S.Store.faults _ ⊥ c.args.disk.now c.loop-met.disk c.version_of.new.disk (λ none. absurd none) c.loop-met.invariant.caused c.in_ok-last.ensures.caused;
+      caused = KeepsFaults_then g.S.Store.never_fails g.S.Store.faults _ ⊥ c.args.disk.now c.loop-met.disk c.version_of.new.disk c.loop-met.invariant.caused c.in_ok-last.ensures.caused (λ none. absurd none) (λ fails. absurd (cc));
     }

@@ -1,9 +1,8 @@
-use Rattle.std.proofs.Common.{◌≡◌, Err, IsErrOf, sym, subst, arith}
+use Rattle.std.proofs.Common.{◌≡◌, Err, sym, subst, arith}
 use Rattle.std.proofs.lemmas.Grind.{common_steps}
 use Rattle.gb_store.proofs.MomentLemmas.{WroteIf_then}
 use Rattle.gb_store.proofs.FaultLemmas.{KeepsFaults_then}
 use Rattle.object_store.specs.Puts.{PutsObject}
-use Rattle.object_store.specs.declared.fault.PutFault.TheVariants as fault
 use Rattle.object_batch.specs.Batches.{IsShort, MissingAnswers}
 use Rattle.object_batch.proofs.PutLemmas.{put_more, stopped}
 use Rattle.object_batch.proofs.batch.put_missing.Goals as goal
@@ -33,6 +32,5 @@ loop-text-preserved g c = record {
   wrote = WroteIf_then g.S.Store.tells (PutsObject c.args.folder.now) (g.S.Store.history c.args.disk.now) (g.S.Store.history c.loop-text.disk) (g.S.Store.history c.put_text.new.disk)
       c.loop-text.invariant.wrote c.put_text.ensures.wrote;
   reads = omega arith;
-  caused = KeepsFaults_then g.S.Store.never_fails g.S.Store.faults (IsErrOf c.put_text.result fault.Disk) ⊥ c.args.disk.now c.loop-text.disk c.put_text.new.disk (λ never. absurd never)
-      c.loop-text.invariant.caused c.put_text.ensures.caused;
+  caused = KeepsFaults_then g.S.Store.never_fails g.S.Store.faults _ ⊥ c.args.disk.now c.loop-text.disk c.put_text.new.disk c.loop-text.invariant.caused c.in_ok-put_text.ensures.caused (λ none. absurd none) (λ fails. absurd (cc));
 }

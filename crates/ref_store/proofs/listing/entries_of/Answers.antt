@@ -1,4 +1,4 @@
-use Rattle.std.proofs.Common.{◌≡◌, ◌+◌, ◌∷◌, [], ◌++◌, List, ℕ, Some, None, Option, get_or, take, sym, ◌∙◌, ap, subst, rules, arith}
+use Rattle.std.proofs.Common.{◌≡◌, [], ◌++◌, List, ℕ, Option, take, sym, ◌∙◌, ap, subst, arith}
 use Rattle.std.proofs.lemmas.Grind.{common_steps}
 use Rattle.std.specs.List.{cons_option, filter_map}
 use Rattle.gb_store.specs.Files.{History, files_of}
@@ -27,5 +27,5 @@ loop-name-preserved g c =
           ∙ sym (filter_map-more all c.args.names.now c.loop-name.name-index name c.loop-name-test.true);
       unwritten = λ tells. c.in_ok-entry.ensures.unwritten tells ∙ c.loop-name.invariant.unwritten tells;
       reads = c.in_ok-entry.ensures.reads ∙ c.loop-name.invariant.reads;
-      caused = KeepsFaults_then g.S.Store.never_fails g.S.Store.faults _ ⊥ c.args.disk.now c.loop-name.disk c.entry_at.new.disk (λ none. absurd none) c.loop-name.invariant.caused c.in_ok-entry.ensures.caused;
+      caused = KeepsFaults_then g.S.Store.never_fails g.S.Store.faults _ ⊥ c.args.disk.now c.loop-name.disk c.entry_at.new.disk c.loop-name.invariant.caused c.in_ok-entry.ensures.caused (λ none. absurd none) (λ fails. absurd (cc));
     }

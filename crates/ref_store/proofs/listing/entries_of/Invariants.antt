@@ -1,4 +1,4 @@
-use Rattle.std.proofs.Common.{◌≡◌, IsTrue, Err, take}
+use Rattle.std.proofs.Common.{◌≡◌, IsTrue, take}
 use Rattle.std.specs.List.{filter_map}
 use Rattle.gb_store.specs.Faults.{KeepsFaults}
 use Rattle.gb_store.specs.Files.{files_of}

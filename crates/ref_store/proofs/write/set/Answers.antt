@@ -1,4 +1,4 @@
-use Rattle.std.proofs.Common.{◌≡◌, List, ℕ, ◌∙◌, ap, refl, subst, sym}
+use Rattle.std.proofs.Common.{◌≡◌, List, ℕ, ◌∙◌, ap, refl, subst}
 use Rattle.gb_text.specs.Folder.{joined}
 use Rattle.gb_store.specs.Files.{Put}
 use Rattle.gb_store.specs.Moments.{MaybeWrote}

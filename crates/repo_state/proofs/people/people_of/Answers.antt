@@ -27,5 +27,5 @@ loop-entry-preserved g c =
           (AllShow-more objects c.args.heads.now c.loop-entry.people.items c.loop-entry.entry-index none c.in_ok-person_of.field-0 c.loop-entry-test.true (c.loop-entry.invariant.shown tells) shows);
       unwritten = λ tells. c.in_ok-person_of.ensures.unwritten tells ∙ c.loop-entry.invariant.unwritten tells;
       reads = omega (arith, c.in_ok-person_of.ensures.reads, c.loop-entry.invariant.reads);
-      caused = KeepsFaults_then g.S.Store.never_fails g.S.Store.faults _ ⊥ c.args.disk.now c.loop-entry.disk c.person_of.new.disk (λ none. absurd none) c.loop-entry.invariant.caused c.in_ok-person_of.ensures.caused;
+      caused = KeepsFaults_then g.S.Store.never_fails g.S.Store.faults _ ⊥ c.args.disk.now c.loop-entry.disk c.person_of.new.disk c.loop-entry.invariant.caused c.in_ok-person_of.ensures.caused (λ none. absurd none) (λ fails. absurd (cc));
     }
