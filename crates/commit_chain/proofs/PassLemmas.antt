@@ -1,10 +1,10 @@
 -- The commits of a whole walk are those that it meets, and it has no fault.
-use Rattle.std.proofs.Common.{◌≡◌, inl, inr, ℕ, ◌+◌, ◌<◌, ◌≤◌, zero, suc, List, [], ◌∷◌, length, get_or, Contains, Some, None, option_and_then, refl, sym, ◌∙◌, ap, subst, arith}
+use Rattle.std.proofs.Common.{◌≡◌, inl, inr, ℕ, ◌<◌, ◌≤◌, zero, suc, List, [], ◌∷◌, length, get_or, Contains, Some, None, refl, sym, ◌∙◌, ap, subst, arith}
 use Rattle.std.proofs.lemmas.Bool.{cases_eq, cases_lt}
 use Rattle.gb_text.specs.declared.id.Name.{Name}
 use Rattle.git_object.specs.declared.commit.Commit.{Commit}
 use Rattle.object_store.specs.Held.{Objects}
-use Rattle.commit_chain.specs.Objects.{as_commit, commit_at}
+use Rattle.commit_chain.specs.Objects.{commit_at}
 use Rattle.commit_chain.specs.Chain.{IsCommit, Chain, Walked, Meets, MeetsMerge, FaultHolds, IsTooLong, Passes}
 use Rattle.commit_chain.specs.declared.chain.Met.{Met}
 use Rattle.commit_chain.specs.declared.fault.ChainFault.{ChainFault}

@@ -1,5 +1,5 @@
 //! The walk from a head by the single parent.
-ghost use Rattle.std.specs.Prelude.{◌≡◌, ◌≤◌, IsTrue, IfOk, IfErr, IsErrOf, List, length, reverse, [], ◌∷◌};
+ghost use Rattle.std.specs.Prelude.{◌≡◌, ◌≤◌, ◌+◌, IsTrue, IfOk, IfErr, IsErrOf, List, length, reverse, [], ◌∷◌};
 ghost use Rattle.gb_text.specs.declared.id.Name.{Name as NameValue};
 ghost use Rattle.gb_store.specs.Faults.{KeepsFaults};
 ghost use Rattle.gb_store.specs.Files.{files_of};
@@ -31,6 +31,8 @@ pub fn walk<S: Store>(
 ) -> Result<Vec<Met>, ChainStop>
     ensures answers { IsTrue S.tells → WalkAnswers (objects_in (files_of (S.history disk.old)) folder.now) head.now result }
     ensures unwritten { IsTrue S.tells → S.history disk.new ≡ S.history disk.old }
+    ensures reads { S.object_reads disk.new ≤ S.object_reads disk.old + 65537 }
+    ensures once { IfOk result (λ walk. S.object_reads disk.new ≤ S.object_reads disk.old + length walk.items) }
     ensures caused { KeepsFaults S.never_fails S.faults (IsErrOf result ChainStop.Disk) disk.old disk.new }
 {
     let mut above = Vec::new(alloc);
@@ -59,6 +61,7 @@ fn step<S: Store>(
 ) -> Result<(Met, Option<Name>), ChainStop>
     ensures answers { IsTrue S.tells → StepAnswers (objects_in (files_of (S.history disk.old)) folder.now) name.now result }
     ensures unwritten { IsTrue S.tells → S.history disk.new ≡ S.history disk.old }
+    ensures reads { S.object_reads disk.new ≤ S.object_reads disk.old + 1 }
     ensures caused { KeepsFaults S.never_fails S.faults (IsErrOf result ChainStop.Disk) disk.old disk.new }
 {
     let commit = commit_of(alloc, disk, folder, name)?;
@@ -82,6 +85,7 @@ fn commit_of<S: Store>(
 ) -> Result<Commit, ChainStop>
     ensures answers { IsTrue S.tells → CommitAnswers (objects_in (files_of (S.history disk.old)) folder.now) name.now result }
     ensures unwritten { IsTrue S.tells → S.history disk.new ≡ S.history disk.old }
+    ensures reads { S.object_reads disk.new ≤ S.object_reads disk.old + 1 }
     ensures caused { KeepsFaults S.never_fails S.faults (IsErrOf result ChainStop.Disk) disk.old disk.new }
 {
     match object_store::get(alloc, disk, folder, name)? {
