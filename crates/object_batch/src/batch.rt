@@ -29,7 +29,8 @@ pub fn put_all<S: Store>(
     ensures answers { IsTrue S.tells → BatchAnswers folder.now texts.now (S.history disk.old) (S.history disk.new) result }
     ensures held { IsTrue S.tells → OnOk result (All (λ text. text_at (objects_in (files_of (S.history disk.new)) folder.now) (object_name text) ≡ Some text) texts.now) }
     ensures wrote { WroteIf S.tells (PutsObject folder.now) (S.history disk.old) (S.history disk.new) }
-    ensures needed { IsTrue S.tells → InNeedOrder (objects_in (files_of (S.history disk.old)) folder.now) texts.now
+    ensures needed { IsTrue S.tells
+        → (MayBePut folder.now texts.now (S.history disk.old) → InNeedOrder (objects_in (files_of (S.history disk.old)) folder.now) texts.now)
         → Wrote (PutsAfterNeeds folder.now texts.now) (S.history disk.old) (S.history disk.new) }
     ensures reads { S.object_reads disk.new ≤ S.object_reads disk.old + 2 * length texts.now }
     ensures caused { KeepsFaults S.never_fails S.faults (IsErrOf result PutFault.Disk) disk.old disk.new }

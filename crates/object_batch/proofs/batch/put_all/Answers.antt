@@ -21,5 +21,4 @@ returns-clause-held g c = λ tells.
 
 pub returns-clause-needed : goal.returns-clause-needed
 returns-clause-needed g c = λ tells order.
-    batch_needed c.args.folder.now c.args.texts.now (g.S.Store.history c.args.disk.now) (g.S.Store.history c.put_missing.new.disk) c.put_missing.result (returns-clause-answers g c tells)
-    (λ may. order)
+    batch_needed c.args.folder.now c.args.texts.now (g.S.Store.history c.args.disk.now) (g.S.Store.history c.put_missing.new.disk) c.put_missing.result (returns-clause-answers g c tells) order
