@@ -1,5 +1,5 @@
 -- What follows from the laws of a kind alone.
-use Rattle.std.proofs.Common.{◌≡◌, ◌∙◌, sym, ap, refl, subst, List, [], ◌∷◌, ℕ, Some, None}
+use Rattle.std.proofs.Common.{◌≡◌, ◌∙◌, sym, ap, refl, subst, List, [], ◌∷◌, ◌++◌, ℕ, Some, None}
 use Rattle.std.specs.Prelude.{◌≢◌}
 use Rattle.std.specs.Str.{IsUtf8}
 use Rattle.json_span.specs.Grammar.{IsValueText}
@@ -31,3 +31,14 @@ module _ {Op State Row : Type 0} (k : Meaning Op State Row) (laws : KeepsLaws k)
   pub rows_follow : (s : State) (os : List Op) → k.row_of (state_from k s os) ≡ row_from k (k.row_of s) os
   rows_follow s [] = refl
   rows_follow s (o ∷ os) = rows_follow (k.state_after s o) os ∙ ap (λ r. row_from k r os) (laws.row_follows s o)
+
+module _ {Op State Row : Type 0} (k : Meaning Op State Row) where
+  -- The state of a list is that of its front, and the rest behind it.
+  pub states_append : (s : State) (os others : List Op) → state_from k s (os ++ others) ≡ state_from k (state_from k s os) others
+  states_append s [] others = refl
+  states_append s (o ∷ os) others = states_append (k.state_after s o) os others
+
+  -- So is its row.
+  pub rows_append : (r : Row) (os others : List Op) → row_from k r (os ++ others) ≡ row_from k (row_from k r os) others
+  rows_append r [] others = refl
+  rows_append r (o ∷ os) others = rows_append (k.row_after r o) os others

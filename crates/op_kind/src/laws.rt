@@ -1,5 +1,5 @@
 //! Laws of the definitions that the contracts cite. No call of them does anything.
-ghost use Rattle.std.specs.Prelude.{◌≡◌, ◌≢◌, ◌≤◌, ◌<◌, ◌-◌, ◌^◌, ℕ, List, Option, Some, None, decimal};
+ghost use Rattle.std.specs.Prelude.{◌≡◌, ◌≢◌, ◌≤◌, ◌<◌, ◌-◌, ◌^◌, ◌++◌, ℕ, List, Option, Some, None, decimal};
 ghost use Rattle.std.specs.List.{Contains};
 ghost use Rattle.std.specs.List.Sorted.{IsPermutation};
 ghost use Rattle.std.specs.Str.{IsUtf8};
@@ -151,4 +151,14 @@ pub fn kinds_read_what_they_write<K: OpKind>()
     ensures rows { (state : K.State) (ops : List K)
         → K.meaning.row_of (state_from K.meaning state ops)
         ≡ row_from K.meaning (K.meaning.row_of state) ops }
+{}
+
+/// A list of operations folds as its front does, and the rest behind it.
+pub fn folds_append<K: OpKind>()
+    ensures state { (state : K.State) (ops others : List K)
+        → state_from K.meaning state (ops ++ others)
+        ≡ state_from K.meaning (state_from K.meaning state ops) others }
+    ensures row { (row : K.Row) (ops others : List K)
+        → row_from K.meaning row (ops ++ others)
+        ≡ row_from K.meaning (row_from K.meaning row ops) others }
 {}

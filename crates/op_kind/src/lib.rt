@@ -19,7 +19,7 @@ pub use fault::OpFault;
 pub use forms::{decimal_in, id_in, optional_text_in, pairs_in, text_in, texts_in};
 pub use kind::OpKind;
 pub use laws::{
-    common_part_or_fault, kinds_read_what_they_write, member_value_or_fault,
+    common_part_or_fault, folds_append, kinds_read_what_they_write, member_value_or_fault,
     pairs_are_in_key_order, read_values_are_within_bounds, written_members_read_back,
     written_values_are_values, written_values_read_back,
 };
