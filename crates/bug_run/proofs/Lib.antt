@@ -4,3 +4,4 @@ pub mod LogLemmas
 pub mod PackLemmas
 pub mod StepLemmas
 pub mod SoundLemmas
+pub mod Examples

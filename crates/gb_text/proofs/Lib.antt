@@ -1,3 +1,4 @@
 pub mod DecimalLemmas
 pub mod DigitLemmas
+mod Examples
 pub mod FolderLemmas

@@ -9,3 +9,4 @@ pub mod TreeLaws
 pub mod OrderLaws
 pub mod FrameLaws
 pub mod ObjectLaws
+pub mod Examples

@@ -8,3 +8,4 @@ pub mod MakingLemmas
 pub mod NeedLemmas
 pub mod TextLemmas
 pub mod VersionLemmas
+pub mod Examples

@@ -19,3 +19,4 @@ pub mod AgainLaws
 pub mod Utf8Laws
 pub mod OrderLaws
 pub mod SpaceLaws
+pub mod Examples

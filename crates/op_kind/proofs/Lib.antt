@@ -7,3 +7,4 @@ pub mod PairTexts
 pub mod PlainLemmas
 pub mod ReadLaws
 pub mod KindLemmas
+pub mod Examples

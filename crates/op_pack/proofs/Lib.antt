@@ -8,3 +8,4 @@ pub mod PartsLaws
 pub mod ExactLaws
 pub mod RuleLaws
 pub mod BackLaws
+pub mod Examples

@@ -3,3 +3,4 @@ pub mod ListLemmas
 pub mod MapLemmas
 pub mod OrderLemmas
 pub mod RefLemmas
+pub mod Examples

@@ -1,0 +1,65 @@
+-- Worked examples of the definitions, computed.
+use Rattle.std.specs.Prelude.{◌≡◌, codes, [], ◌∷◌, Some, None, pos, negsuc}
+use Rattle.std.specs.Fmt.{digits}
+use Rattle.std.proofs.Common.{refl}
+use Rattle.hex.proofs.OnLiterals.{hex_on_literals}
+use Rattle.repo_state.specs.Edits.{UserEdit, UserNew, UserSet}
+use Rattle.repo_state.specs.declared.refusal.Refusal.TheVariants.{BadText, Damaged, EntityExists, TooLarge}
+use Rattle.bug_run.specs.Refusals.{refusal_line}
+use Rattle.bug_run.specs.Run.{moment}
+use Rattle.bug_run.specs.Words.{Edits, Log, request_of}
+
+-- what words ask
+words_none : request_of [] ≡ None
+words_none = refl
+
+words_folder : request_of (codes "f" ∷ []) ≡ None
+words_folder = refl
+
+words_log : request_of (codes "f" ∷ codes "log" ∷ codes "b" ∷ []) ≡ Some (record { folder = codes "f"; command = Log (codes "b") })
+words_log = refl
+
+words_log_of_nothing : request_of (codes "f" ∷ codes "log" ∷ []) ≡ None
+words_log_of_nothing = refl
+
+words_log_of_two : request_of (codes "f" ∷ codes "log" ∷ codes "b" ∷ codes "c" ∷ []) ≡ None
+words_log_of_two = refl
+
+words_capital : request_of (codes "f" ∷ codes "Log" ∷ codes "b" ∷ []) ≡ None
+words_capital = refl
+
+words_new : request_of (codes "f" ∷ codes "user-new" ∷ codes "n" ∷ codes "e" ∷ []) ≡ Some (record { folder = codes "f"; command = Edits (UserNew (codes "n") (codes "e")) })
+words_new = refl
+
+words_new_without_email : request_of (codes "f" ∷ codes "user-new" ∷ codes "n" ∷ []) ≡ None
+words_new_without_email = refl
+
+words_edit : request_of (codes "f" ∷ codes "user-edit" ∷ codes "n" ∷ [] ∷ []) ≡ Some (record { folder = codes "f"; command = Edits (UserEdit (codes "n") []) })
+words_edit = refl
+
+words_set : request_of (codes "f" ∷ codes "user-set" ∷ codes "i" ∷ []) ≡ Some (record { folder = codes "f"; command = Edits (UserSet (codes "i")) })
+words_set = refl
+
+-- moments
+moment_now : moment (pos 7) ≡ 7
+moment_now = refl
+
+moment_before : moment (negsuc 0) ≡ 0
+moment_before = refl
+
+-- lines of refusals
+line_of_a_text : refusal_line (BadText 2) ≡ codes "refused 4 bad text 2\n"
+unfolding digits hex_on_literals
+line_of_a_text = refl
+
+line_of_an_id : refusal_line (EntityExists (record { bytes = 10 ∷ 10 ∷ 10 ∷ 10 ∷ 10 ∷ 10 ∷ 10 ∷ 10 ∷ 10 ∷ 10 ∷ 10 ∷ 10 ∷ 10 ∷ 10 ∷ 10 ∷ 10 ∷ 10 ∷ 10 ∷ 10 ∷ 10 ∷ 10 ∷ 10 ∷ 10 ∷ 10 ∷ 10 ∷ 10 ∷ 10 ∷ 10 ∷ 10 ∷ 10 ∷ 10 ∷ 10 ∷ [] })) ≡ codes "refused 9 entity exists 0a0a0a0a0a0a0a0a0a0a0a0a0a0a0a0a0a0a0a0a0a0a0a0a0a0a0a0a0a0a0a0a\n"
+unfolding digits hex_on_literals
+line_of_an_id = refl
+
+line_of_a_size : refusal_line (TooLarge 4194305) ≡ codes "refused 13 too large 4194305\n"
+unfolding digits hex_on_literals
+line_of_a_size = refl
+
+line_of_damage : refusal_line (Damaged (codes "f/refs/bugs/x")) ≡ codes "refused 14 damaged f/refs/bugs/x\n"
+unfolding digits hex_on_literals
+line_of_damage = refl
