@@ -1,4 +1,6 @@
 //! What no clause says: worked trees and texts, and that calls succeed.
+mod callers;
+
 use crate::{Pack, PackFault, TreeHead, read_head, tree_for};
 use gb_text::{Bytes, Id, List, Memory, Name};
 use git_object::{Entry, Mode, Tree};

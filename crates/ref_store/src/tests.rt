@@ -1,3 +1,5 @@
+mod callers;
+
 use super::*;
 use gb_store::{Fail as Listed, MemStore, Store};
 use gb_text::{Folder, Id, List, Name};

@@ -1,0 +1,72 @@
+//! Callers that know a kind of operations by its trait alone, as those of the crates above.
+ghost use Rattle.std.specs.Prelude.{◌≡◌, IfOk};
+ghost use Rattle.std.specs.List.{flat_map};
+ghost use Rattle.op_kind.specs.Fold.{state_from};
+
+use crate::Pack;
+use gb_text::{Id, List, Memory};
+use op_kind::{AnyOp, OpKind, Place, folds_append};
+use std::alloc::Global;
+use std::test::Fail;
+
+// The state some operations further.
+fn after_ops<K: OpKind>(alloc: Global, before: K::State, ops: &[K]) -> Result<K::State, Memory>
+    ensures { IfOk result (λ state. state ≡ state_from K.meaning before ops.now) }
+{
+    let mut state = before;
+    for op in ops {
+        K::apply(alloc, &mut state, op)?;
+    }
+    Ok(state)
+}
+
+// The state after the operations of some packs, in order.
+fn fold_packs<K: OpKind>(alloc: Global, packs: &[Pack<K>]) -> Result<K::State, Memory>
+    ensures { IfOk result (λ state. state
+        ≡ state_from K.meaning K.meaning.initial (flat_map (λ pack. pack.ops) packs.now)) }
+{
+    folds_append::<K>();
+    let mut state = K::start(alloc);
+    for pack in packs {
+        state = after_ops(alloc, state, pack.ops.as_slice())?;
+    }
+    Ok(state)
+}
+
+const OPERATION: &[u8] =
+    b"{\"nonce\":\"AAAAAAAAAAAAAAAAAAAAAAAAAAA=\",\"timestamp\":0,\"type\":1}";
+
+// A pack of as many operations of any type.
+fn pack_of(alloc: Global, count: u64) -> Result<Pack<AnyOp>, Fail> {
+    let id = Id { bytes: [1; 32] };
+    let mut ops = List::new(alloc);
+    for _ in 0..count {
+        let place = Place {
+            id,
+            author: id,
+            edit: 7,
+            create: None,
+        };
+        let op = AnyOp::read_op(alloc, place, OPERATION)?;
+        ops.push(op).ok().ok_or("memory")?;
+    }
+    Ok(Pack {
+        id,
+        version: 4,
+        edit: 7,
+        create: None,
+        author: id,
+        ops,
+    })
+}
+
+#[test]
+fn packs_fold_in_order(rt: HostRuntime) -> Result<(), Fail> {
+    let alloc = rt.alloc();
+    let mut packs = Vec::new(alloc);
+    for count in [2, 0, 3] {
+        packs.push(pack_of(alloc, count)?).ok().ok_or("memory")?;
+    }
+    assert_eq!(rt; fold_packs(alloc, &packs)?, 5);
+    Ok(())
+}
