@@ -31,6 +31,7 @@ pub fn walk<S: Store>(
 ) -> Result<Vec<Met>, ChainStop>
     ensures answers { IsTrue S.tells → WalkAnswers (objects_in (files_of (S.history disk.old)) folder.now) head.now result }
     ensures unwritten { IsTrue S.tells → S.history disk.new ≡ S.history disk.old }
+    ensures few { IfOk result (λ walk. length walk.items ≤ 65536) }
     ensures reads { S.object_reads disk.new ≤ S.object_reads disk.old + 65537 }
     ensures once { IfOk result (λ walk. S.object_reads disk.new ≤ S.object_reads disk.old + length walk.items) }
     ensures caused { KeepsFaults S.never_fails S.faults (IsErrOf result ChainStop.Disk) disk.old disk.new }
