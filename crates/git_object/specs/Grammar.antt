@@ -1,4 +1,4 @@
--- Git's object format: which text is whose. Each value has one text, and each text at most one value.
+-- Git's object format, without annotated tags: which text is whose. Each value has one text, and each text at most one value.
 use Rattle.std.specs.Prelude.{◌≡◌, ◌≢◌, ℕ, List, [], ◌∷◌, ◌++◌, codes, decimal, length, Bool, true, false, if◌then◌else◌, IsPermutation, IsSortedByKey}
 use Rattle.std.specs.Ordering.{nat_cmp}
 use Rattle.std.specs.Cmp.Lexicographic.{slice_cmp}

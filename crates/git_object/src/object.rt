@@ -9,7 +9,7 @@ use crate::tree::Tree;
 use gb_text::{Bytes, Memory};
 use std::alloc::Global;
 
-/// A blob, a tree or a commit.
+/// A blob, a tree or a commit. Git's annotated tags are none of the three, and read as no object.
 #[derive(Drop)]
 pub enum Object {
     Blob(Bytes),
