@@ -9,7 +9,7 @@ use Rattle.gb_store.specs.Files.{Files, History, files_of}
 use Rattle.object_store.specs.Held.{objects_in}
 use Rattle.identity.proofs.NoFaultLemmas.{no_fault}
 use Rattle.repo_state.specs.Edits.{Edit, UserEdit, UserNew, UserSet}
-use Rattle.repo_state.specs.Sides.{has_ref, head_at}
+use Rattle.repo_state.specs.Sides.{has_ref}
 use Rattle.repo_state.specs.Sound.{IsSound, IsSoundIdentity}
 use Rattle.repo_state.specs.Steps.{IsBadChain, Refused}
 use Rattle.repo_state.specs.Users.{BadUser, User, local_user, user_at, user_of, user_place}

@@ -1,4 +1,5 @@
 pub mod DamageLemmas
+pub mod HeadIdLemmas
 pub mod IdLemmas
 pub mod KindLemmas
 pub mod ListingLemmas

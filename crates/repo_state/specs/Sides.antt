@@ -37,8 +37,12 @@ pub record AreIds (files : Files) (folder : List ℕ) (of : Side) (ids : List Id
   pub rising : IsStrictlySortedBy (slice_cmp nat_cmp) (map (λ (id : Id). id.bytes) ids)
   pub members : (id : Id) → Contains ids id ↔ (IsId id × IsTrue (has_ref files folder of id))
 
+-- every ref of a side reads
+abbrev pub AllRead : Files → List ℕ → Side → Type 0
+AllRead files folder of = (id : Id) → IsId id → head_at files folder of id ≡ Bad → ⊥
+
 -- the heads of all refs, each with its id and once, in the order of the ids' bytes; every ref reads
 pub record AreHeads (files : Files) (folder : List ℕ) (of : Side) (heads : List HeadEntry) : Type 0 where
   pub rising : IsStrictlySortedBy (slice_cmp nat_cmp) (map (λ (e : HeadEntry). e.id.bytes) heads)
   pub members : (e : HeadEntry) → Contains heads e ↔ (IsId e.id × (head_at files folder of e.id ≡ Head e.name))
-  pub none_bad : (id : Id) → IsId id → head_at files folder of id ≡ Bad → ⊥
+  pub none_bad : AllRead files folder of

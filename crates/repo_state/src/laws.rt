@@ -1,5 +1,5 @@
 //! Laws of sound folders and of the writes of commands, each the contract of a function that does nothing.
-ghost use Rattle.std.specs.Prelude.{◌≡◌, ◌≢◌, [], List, ℕ, IsTrue};
+ghost use Rattle.std.specs.Prelude.{◌≡◌, ◌≢◌, ◌↔◌, [], List, ℕ, IsTrue, map};
 ghost use Rattle.gb_text.specs.Digits.{IsId, IsName};
 ghost use Rattle.gb_text.specs.Folder.{joined};
 ghost use Rattle.gb_text.specs.declared.id.Id.{Id};
@@ -14,13 +14,14 @@ ghost use Rattle.ref_store.specs.Setting.{ref_write};
 ghost use Rattle.identity.specs.Extending.{OnlyGrew};
 ghost use Rattle.repo_state.specs.Edits.{Edit};
 ghost use Rattle.repo_state.specs.Kinds.{IsWrite};
-ghost use Rattle.repo_state.specs.Sides.{has_ref, head_at, ref_place};
+ghost use Rattle.repo_state.specs.Sides.{AllRead, AreHeads, AreIds, has_ref, head_at, ref_place};
 ghost use Rattle.repo_state.specs.Sound.{IsNamedSide, IsSound, KeepsParts};
 ghost use Rattle.repo_state.specs.Steps.{MayStep, Refused, Steps};
 ghost use Rattle.repo_state.specs.Users.{User, user_at, user_write};
 ghost use Rattle.repo_state.specs.declared.env.Env.{Env as EnvValue};
 ghost use Rattle.repo_state.specs.declared.refusal.Refusal.{Refusal as RefusalValue};
 ghost use Rattle.repo_state.specs.declared.refusal.Refusal.TheVariants as refusal;
+ghost use Rattle.repo_state.specs.declared.side.HeadEntry.{HeadEntry};
 ghost use Rattle.repo_state.specs.declared.side.Side.{Side as SideValue};
 ghost use Rattle.repo_state.specs.declared.side.Side.TheVariants as side;
 
@@ -78,6 +79,15 @@ pub fn steps_are_determined()
         → Steps env edit old two second → (of : SideValue) (id : Id) → head_at one env.folder of id ≡ head_at two env.folder of id }
     ensures user { (env : EnvValue) (edit : Edit) (old one two : Files) (first second : List ℕ) → Steps env edit old one first
         → Steps env edit old two second → user_at one env.folder ≡ user_at two env.folder }
+{}
+
+/// Where `heads` answers, `ids` answers the ids of those heads, in the same order. There are heads to
+/// answer exactly where every ref of the side reads.
+pub fn ids_are_those_of_the_heads()
+    ensures same { (files : Files) (folder : List ℕ) (of : SideValue) (ids : List Id) (heads : List HeadEntry) → AreIds files folder of ids
+        → AreHeads files folder of heads → ids ≡ map (λ (e : HeadEntry). e.id) heads }
+    ensures reads { (files : Files) (folder : List ℕ) (of : SideValue) (ids : List Id) → AreIds files folder of ids
+        → ((heads : List HeadEntry) × AreHeads files folder of heads) ↔ AllRead files folder of }
 {}
 
 /// A head that was set reads as it was set, and every other head and the user as before. The user

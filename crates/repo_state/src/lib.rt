@@ -12,8 +12,8 @@ mod user_file;
 pub use env::Env;
 pub use laws::{
     a_done_edit_has_no_refusal, an_empty_folder_is_sound, heads_and_user_are_a_map,
-    sound_folders_are_not_damaged, steps_are_determined, writes_keep_folders_sound,
-    writes_lose_nothing, writes_stay_below_their_folder,
+    ids_are_those_of_the_heads, sound_folders_are_not_damaged, steps_are_determined,
+    writes_keep_folders_sound, writes_lose_nothing, writes_stay_below_their_folder,
 };
 pub use people::names;
 pub use refs::{damaged, head, heads, ids, set_head, stands};
