@@ -1,5 +1,5 @@
 -- The place of an id's ref is no object's path.
-use Rattle.std.proofs.Common.{◌≡◌, inl, inr, ℕ, ◌+◌, ◌*◌, ◌<◌, ◌==◌, suc, Bool, true, false, ◌&&◌, List, [], ◌∷◌, ◌++◌, length, take, drop, refl, sym, ◌∙◌, ap, append_assoc, arith, length-append, eqb-true}
+use Rattle.std.proofs.Common.{◌≡◌, inl, inr, Result, Ok, Err, ℕ, ◌+◌, ◌*◌, ◌<◌, ◌==◌, suc, Bool, true, false, ◌&&◌, List, [], ◌∷◌, ◌++◌, length, take, drop, refl, sym, ◌∙◌, ap, append_assoc, arith, length-append, eqb-true}
 use Rattle.std.specs.Prelude.{codes, slice_index, is_some, ◌/◌, ◌%◌}
 use Rattle.std.proofs.Math.Seq.{drop-append_seam}
 use Rattle.std.proofs.lemmas.List.{take-append-drop, length-take-le}
@@ -21,6 +21,8 @@ use Rattle.gb_store.specs.ObjectPath.{is_object_path}
 use Rattle.gb_store.proofs.ObjectPathLemmas.{form_of_parts}
 use Rattle.ref_store.specs.Listing.{id_place}
 use Rattle.ref_store.specs.Refs.{ReadsOnce}
+use Rattle.ref_store.specs.declared.fault.RefFault.{RefFault}
+use Rattle.ref_store.specs.declared.fault.RefFault.TheVariants as fault
 
 pub both : (a b : Bool) → (a && b) ≡ true → (a ≡ true) × (b ≡ true)
 both true b e = (refl, e)
@@ -82,9 +84,12 @@ id_place_is_no_object folder dir id is =
     long_is_none (joined folder (id_place dir id)) (folder ++ joint folder ++ dir ++ 47 ∷ []) digits path sized (encode_lower-digits id.bytes is.bytes) (is_object_path (joined folder (id_place dir id))) refl
 
 -- a read of another path reads no object
-pub reads_none : (path : List ℕ) (old new : ℕ) → is_object_path path ≡ false → ReadsOnce path old new → new ≡ old
-reads_none path old new other (inl same) = same
-reads_none path old new other (inr after) = after ∙ rw other refl
+pub reads_none : {T : Type 0} (path : List ℕ) (r : Result T RefFault) (old new : ℕ) → is_object_path path ≡ false → ReadsOnce path r old new → new ≡ old
+reads_none path (Ok value) old new other after = after ∙ rw other refl
+reads_none path (Err fault.Memory) old new other (inl same) = same
+reads_none path (Err fault.Memory) old new other (inr after) = after ∙ rw other refl
+reads_none path (Err fault.Disk) old new other after = after ∙ rw other refl
+reads_none path (Err (fault.BadRef at)) old new other after = after ∙ rw other refl
 
 pub no_object_there : (folder dir place : List ℕ) (id : Id) → place ≡ id_place dir id → IsId id → is_object_path (joined folder place) ≡ false
 no_object_there folder dir place id at is = ap (λ (t : List ℕ). is_object_path (joined folder t)) at ∙ id_place_is_no_object folder dir id is

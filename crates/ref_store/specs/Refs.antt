@@ -37,6 +37,7 @@ Answers path ref (Err (fault.BadRef at)) = (at ≡ path) × (ref ≡ Bad)
 Answers path ref (Err fault.Memory) = ⊤
 Answers path ref (Err fault.Disk) = ⊤
 
--- the file at a path was read once, or memory ran out before
-abbrev pub ReadsOnce : List ℕ → ℕ → ℕ → Type 0
-ReadsOnce path old new = (new ≡ old) ⊎ (new ≡ reads_after path old)
+-- the file at a path was read once, but perhaps not where memory ran out
+abbrev pub ReadsOnce : {T : Type 0} → List ℕ → Result T RefFault → ℕ → ℕ → Type 0
+ReadsOnce path (Err fault.Memory) old new = (new ≡ old) ⊎ (new ≡ reads_after path old)
+ReadsOnce path _ old new = new ≡ reads_after path old

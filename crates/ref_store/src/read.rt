@@ -24,7 +24,7 @@ pub fn get<S: Store>(
 ) -> Result<Option<Name>, RefFault>
     ensures answers { IsTrue S.tells → Answers (joined folder.now path.now) (ref_at (files_of (S.history disk.old)) folder.now path.now) result }
     ensures unwritten { IsTrue S.tells → S.history disk.new ≡ S.history disk.old }
-    ensures reads { ReadsOnce (joined folder.now path.now) (S.object_reads disk.old) (S.object_reads disk.new) }
+    ensures reads { ReadsOnce (joined folder.now path.now) result (S.object_reads disk.old) (S.object_reads disk.new) }
     ensures caused { KeepsFaults S.never_fails S.faults (IsErrOf result RefFault.Disk) disk.old disk.new }
 {
     let at = folder.join(alloc, path)?;
