@@ -1,8 +1,10 @@
 //! Persons, by the chains of their versions.
-ghost use Rattle.std.specs.Prelude.{◌≡◌, ◌≤◌, ◌+◌, IsTrue, IfOk, IsErrOf};
+ghost use Rattle.std.specs.Prelude.{◌≡◌, ◌≤◌, ◌+◌, ◌*◌, IsTrue, IfOk, IsErrOf, List, length};
 ghost use Rattle.gb_store.specs.Faults.{KeepsFaults};
 ghost use Rattle.gb_store.specs.Files.{files_of};
 ghost use Rattle.object_store.specs.Held.{objects_in};
+ghost use Rattle.commit_chain.specs.Chain.{Walked};
+ghost use Rattle.commit_chain.specs.declared.chain.Met.{Met as MetValue};
 ghost use Rattle.identity.specs.Version.{person_name};
 ghost use Rattle.identity.specs.Answers.{ChainAnswers, CheckAnswers, CountAnswers, LastAnswers, LaterAnswers, WholeAnswers};
 
@@ -34,6 +36,9 @@ pub fn read_chain<S: Store>(
 ) -> Result<Person, IdentityFault>
     ensures answers { IsTrue S.tells → ChainAnswers (objects_in (files_of (S.history disk.old)) folder.now) id.now head.now result }
     ensures unwritten { IsTrue S.tells → S.history disk.new ≡ S.history disk.old }
+    ensures reads { IsTrue S.tells → S.object_reads disk.new ≤ S.object_reads disk.old + 196608 }
+    ensures once { IsTrue S.tells → IfOk result (λ _. (walk : List MetValue) → Walked (objects_in (files_of (S.history disk.old)) folder.now) head.now walk
+        → S.object_reads disk.new ≤ S.object_reads disk.old + 3 * length walk) }
     ensures caused { KeepsFaults S.never_fails S.faults (IsErrOf result IdentityFault.Disk) disk.old disk.new }
 {
     let (_, last) = read_whole(alloc, disk, folder, id, head)?;
@@ -50,6 +55,8 @@ pub fn versions<S: Store>(
 ) -> Result<u64, IdentityFault>
     ensures answers { IsTrue S.tells → CountAnswers (objects_in (files_of (S.history disk.old)) folder.now) id.now head.now result }
     ensures unwritten { IsTrue S.tells → S.history disk.new ≡ S.history disk.old }
+    ensures reads { IsTrue S.tells → S.object_reads disk.new ≤ S.object_reads disk.old + 196608 }
+    ensures once { IfOk result (λ count. S.object_reads disk.new ≤ S.object_reads disk.old + 3 * count) }
     ensures caused { KeepsFaults S.never_fails S.faults (IsErrOf result IdentityFault.Disk) disk.old disk.new }
 {
     let (count, _) = read_whole(alloc, disk, folder, id, head)?;
@@ -98,6 +105,8 @@ fn read_whole<S: Store>(
 ) -> Result<(u64, Version), IdentityFault>
     ensures answers { IsTrue S.tells → WholeAnswers (objects_in (files_of (S.history disk.old)) folder.now) id.now head.now result }
     ensures unwritten { IsTrue S.tells → S.history disk.new ≡ S.history disk.old }
+    ensures reads { IsTrue S.tells → S.object_reads disk.new ≤ S.object_reads disk.old + 196608 }
+    ensures once { IfOk result (λ whole. S.object_reads disk.new ≤ S.object_reads disk.old + 3 * whole.0) }
     ensures caused { KeepsFaults S.never_fails S.faults (IsErrOf result IdentityFault.Disk) disk.old disk.new }
 {
     let walk = walk(alloc, disk, folder, head)?;
@@ -118,6 +127,7 @@ fn check_versions<S: Store>(
 ) -> Result<Option<Version>, IdentityFault>
     ensures answers { IsTrue S.tells → CheckAnswers (objects_in (files_of (S.history disk.old)) folder.now) id.now walk.now result }
     ensures unwritten { IsTrue S.tells → S.history disk.new ≡ S.history disk.old }
+    ensures reads { S.object_reads disk.new ≤ S.object_reads disk.old + 2 * length walk.now }
     ensures caused { KeepsFaults S.never_fails S.faults (IsErrOf result IdentityFault.Disk) disk.old disk.new }
 {
     let [root, later @ ..] = walk else {
@@ -138,6 +148,7 @@ fn last_version<S: Store>(
 ) -> Result<Version, IdentityFault>
     ensures answers { IsTrue S.tells → LaterAnswers (objects_in (files_of (S.history disk.old)) folder.now) first later.now result }
     ensures unwritten { IsTrue S.tells → S.history disk.new ≡ S.history disk.old }
+    ensures reads { S.object_reads disk.new ≤ S.object_reads disk.old + 2 * length later.now }
     ensures caused { KeepsFaults S.never_fails S.faults (IsErrOf result IdentityFault.Disk) disk.old disk.new }
 {
     let mut last = first;

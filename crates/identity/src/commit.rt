@@ -62,6 +62,7 @@ pub fn first_version<S: Store>(
 ) -> Result<Version, IdentityFault>
     ensures answers { IsTrue S.tells → RootAnswers (objects_in (files_of (S.history disk.old)) folder.now) id.now root.now result }
     ensures unwritten { IsTrue S.tells → S.history disk.new ≡ S.history disk.old }
+    ensures reads { S.object_reads disk.new ≤ S.object_reads disk.old + 2 }
     ensures caused { KeepsFaults S.never_fails S.faults (IsErrOf result IdentityFault.Disk) disk.old disk.new }
 {
     let text = text_of(alloc, disk, folder, root)?;

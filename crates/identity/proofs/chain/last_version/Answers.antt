@@ -1,4 +1,4 @@
-use Rattle.std.proofs.Common.{◌≡◌, [], Result, Ok, Err, get_or, sym, ◌∙◌, subst, rules}
+use Rattle.std.proofs.Common.{◌≡◌, [], Result, Ok, Err, get_or, sym, ◌∙◌, subst, rules, arith}
 use Rattle.gb_store.specs.Files.{History, files_of}
 use Rattle.gb_store.proofs.FaultLemmas.{KeepsFaults_then}
 use Rattle.object_store.specs.Held.{objects_in}
@@ -34,5 +34,6 @@ loop-met-preserved g c =
           subst (λ (h : History). VersionAnswers (objects_in (files_of h) c.args.folder.now) met (Ok c.in_ok-last.last)) (c.loop-met.invariant.unwritten tells) (c.in_ok-last.ensures.answers tells) in
           Leads-more objects c.args.first c.loop-met.last c.in_ok-last.last c.args.later.now c.loop-met.met-index none answer.0 c.loop-met-test.true (c.loop-met.invariant.leads tells) answer.1;
       unwritten = λ tells. c.in_ok-last.ensures.unwritten tells ∙ c.loop-met.invariant.unwritten tells;
+      reads = omega (arith, c.loop-met.invariant.reads, c.version_of.ensures.reads);
       caused = KeepsFaults_then g.S.Store.never_fails g.S.Store.faults _ ⊥ c.args.disk.now c.loop-met.disk c.version_of.new.disk c.loop-met.invariant.caused c.in_ok-last.ensures.caused (λ none. absurd none) (λ fails. absurd (cc));
     }

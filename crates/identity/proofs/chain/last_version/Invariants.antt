@@ -1,4 +1,4 @@
-use Rattle.std.proofs.Common.{◌≡◌, IsTrue, take}
+use Rattle.std.proofs.Common.{◌≡◌, ◌≤◌, ◌+◌, ◌*◌, IsTrue, take}
 use Rattle.gb_store.specs.Faults.{KeepsFaults}
 use Rattle.gb_store.specs.Files.{files_of}
 use Rattle.object_store.specs.Held.{objects_in}
@@ -9,5 +9,6 @@ abbrev pub invariant-loop-met : goal.invariant-loop-met
 invariant-loop-met g l = record {
   leads : IsTrue g.S.Store.tells → Leads (objects_in (files_of (g.S.Store.history l.fn.disk)) l.folder) l.fn.first (take l.met-index l.later) l.last;
   unwritten : IsTrue g.S.Store.tells → g.S.Store.history l.disk ≡ g.S.Store.history l.fn.disk;
+  reads : g.S.Store.object_reads l.disk ≤ g.S.Store.object_reads l.fn.disk + 2 * l.met-index;
   caused : KeepsFaults g.S.Store.never_fails g.S.Store.faults ⊥ l.fn.disk l.disk;
 }
