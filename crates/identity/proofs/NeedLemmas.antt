@@ -1,5 +1,5 @@
 -- The objects of a version are put after all that they name.
-use Rattle.std.proofs.Common.{◌≡◌, ℕ, zero, suc, List, [], ◌∷◌, Contains, Option, Some, None, Result, ◌⊎◌, codes, inl, inr, refl, sym, ◌∙◌, ap, subst, arith}
+use Rattle.std.proofs.Common.{◌≡◌, ℕ, zero, suc, List, [], ◌∷◌, Contains, Option, Some, None, ◌⊎◌, codes, inl, inr, refl, sym, ◌∙◌, ap, subst, arith}
 use Rattle.std.specs.Option.{option_to_list}
 use Rattle.gb_text.specs.declared.id.Name.{Name}
 use Rattle.gb_store.specs.Files.{History, files_of}
@@ -11,11 +11,9 @@ use Rattle.git_object.specs.declared.frame.Kind.TheVariants as kinds
 use Rattle.git_object.specs.declared.object.Object.TheVariants as object
 use Rattle.git_object.specs.Grammar.{IsObjectText, object_name}
 use Rattle.object_store.specs.Held.{Objects, objects_in}
-use Rattle.object_store.specs.declared.fault.PutFault.{PutFault}
-use Rattle.object_batch.specs.Batches.{BatchAnswers}
-use Rattle.object_batch.specs.Needs.{IsHeldAs, Names, PutsAfterNeeds, kind_named}
+use Rattle.object_batch.specs.Batches.{MayBePut}
+use Rattle.object_batch.specs.Needs.{InNeedOrder, IsHeldAs, Names, PutsAfterNeeds, kind_named}
 use Rattle.object_batch.proofs.ClashLemmas.{Contains-first}
-use Rattle.object_batch.proofs.NeedLemmas.{batch_needed}
 use Rattle.object_batch.proofs.OrderLemmas.{IsAmong, NameBefore, in_need_order}
 use Rattle.identity.specs.Making.{AreContents, HasParent, blob_object, commit_content, commit_object, tree_content, tree_object, version_commit, version_objects, version_tree}
 
@@ -76,11 +74,14 @@ module _ (held : Objects) (version : List ℕ) (parent : Option Name) (now : ℕ
     ),
   )
 
--- what a put of a version's objects writes, whatever it answers
-pub version_needed : (folder version : List ℕ) (parent : Option Name) (now : ℕ) (texts : List (List ℕ)) (old new : History) (r : Result Unit PutFault)
-    → texts ≡ version_objects version parent now → AreContents version parent now → BatchAnswers folder texts old new r
+-- what a put of a version's objects writes, whatever it answers, by what it promises of texts in need order
+pub version_needed : (folder version : List ℕ) (parent : Option Name) (now : ℕ) (texts : List (List ℕ)) (old new : History) → texts ≡ version_objects version parent now
+    → AreContents version parent now
+    → ((MayBePut folder texts old → InNeedOrder (objects_in (files_of old) folder) texts) → Wrote (PutsAfterNeeds folder texts) old new)
     → HasParent (objects_in (files_of old) folder) parent → Wrote (PutsAfterNeeds folder (version_objects version parent now)) old new
-version_needed folder version parent now texts old new r same are answers has =
-    let objects = version_objects version parent now in
-    batch_needed folder objects old new r (subst (λ (ts : List (List ℕ)). BatchAnswers folder ts old new r) same answers)
-    (λ may. in_need_order folder objects old may (name_before (objects_in (files_of old) folder) version parent now are has))
+version_needed folder version parent now texts old new same are needed has =
+    let held = objects_in (files_of old) folder in
+    let all : List (List ℕ) = version_objects version parent now in
+    let each : (MayBePut folder all old → InNeedOrder held all) → Wrote (PutsAfterNeeds folder all) old new =
+    subst (λ (ts : List (List ℕ)). (MayBePut folder ts old → InNeedOrder held ts) → Wrote (PutsAfterNeeds folder ts) old new) same needed in
+    each (λ may. in_need_order folder all old may (name_before held version parent now are has))

@@ -18,9 +18,9 @@ returns-clause-held g c = λ tells.
 pub returns-in_err-put_all-clause-needed : goal.returns-in_err-put_all-clause-needed
 returns-in_err-put_all-clause-needed g c = λ tells.
     version_needed c.args.folder.now c.args.version.now c.args.parent c.args.now c.in_ok-objects.objects (g.S.Store.history c.args.disk.now) (g.S.Store.history c.put_all.new.disk)
-    c.put_all.result c.in_ok-objects.ensures.objects c.in_ok-objects.ensures.contents (c.put_all.ensures.answers tells)
+    c.in_ok-objects.ensures.objects c.in_ok-objects.ensures.contents (c.put_all.ensures.needed tells)
 
 pub returns-clause-needed : goal.returns-clause-needed
 returns-clause-needed g c = λ tells.
     version_needed c.args.folder.now c.args.version.now c.args.parent c.args.now c.in_ok-objects.objects (g.S.Store.history c.args.disk.now) (g.S.Store.history c.put_all.new.disk)
-    c.put_all.result c.in_ok-objects.ensures.objects c.in_ok-objects.ensures.contents (c.put_all.ensures.answers tells)
+    c.in_ok-objects.ensures.objects c.in_ok-objects.ensures.contents (c.put_all.ensures.needed tells)
