@@ -36,7 +36,7 @@ pub fn read_chain<S: Store>(
 ) -> Result<Person, IdentityFault>
     ensures answers { IsTrue S.tells → ChainAnswers (objects_in (files_of (S.history disk.old)) folder.now) id.now head.now result }
     ensures unwritten { IsTrue S.tells → S.history disk.new ≡ S.history disk.old }
-    ensures reads { IsTrue S.tells → S.object_reads disk.new ≤ S.object_reads disk.old + 196608 }
+    ensures reads { S.object_reads disk.new ≤ S.object_reads disk.old + 196608 }
     ensures once { IsTrue S.tells → IfOk result (λ _. (walk : List MetValue) → Walked (objects_in (files_of (S.history disk.old)) folder.now) head.now walk
         → S.object_reads disk.new ≤ S.object_reads disk.old + 3 * length walk) }
     ensures caused { KeepsFaults S.never_fails S.faults (IsErrOf result IdentityFault.Disk) disk.old disk.new }
@@ -55,7 +55,7 @@ pub fn versions<S: Store>(
 ) -> Result<u64, IdentityFault>
     ensures answers { IsTrue S.tells → CountAnswers (objects_in (files_of (S.history disk.old)) folder.now) id.now head.now result }
     ensures unwritten { IsTrue S.tells → S.history disk.new ≡ S.history disk.old }
-    ensures reads { IsTrue S.tells → S.object_reads disk.new ≤ S.object_reads disk.old + 196608 }
+    ensures reads { S.object_reads disk.new ≤ S.object_reads disk.old + 196608 }
     ensures once { IfOk result (λ count. S.object_reads disk.new ≤ S.object_reads disk.old + 3 * count) }
     ensures caused { KeepsFaults S.never_fails S.faults (IsErrOf result IdentityFault.Disk) disk.old disk.new }
 {
@@ -105,7 +105,7 @@ fn read_whole<S: Store>(
 ) -> Result<(u64, Version), IdentityFault>
     ensures answers { IsTrue S.tells → WholeAnswers (objects_in (files_of (S.history disk.old)) folder.now) id.now head.now result }
     ensures unwritten { IsTrue S.tells → S.history disk.new ≡ S.history disk.old }
-    ensures reads { IsTrue S.tells → S.object_reads disk.new ≤ S.object_reads disk.old + 196608 }
+    ensures reads { S.object_reads disk.new ≤ S.object_reads disk.old + 196608 }
     ensures once { IfOk result (λ whole. S.object_reads disk.new ≤ S.object_reads disk.old + 3 * whole.0) }
     ensures caused { KeepsFaults S.never_fails S.faults (IsErrOf result IdentityFault.Disk) disk.old disk.new }
 {

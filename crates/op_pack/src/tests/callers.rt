@@ -33,8 +33,7 @@ fn fold_packs<K: OpKind>(alloc: Global, packs: &[Pack<K>]) -> Result<K::State, M
     Ok(state)
 }
 
-const OPERATION: &[u8] =
-    b"{\"nonce\":\"AAAAAAAAAAAAAAAAAAAAAAAAAAA=\",\"timestamp\":0,\"type\":1}";
+const OPERATION: &[u8] = b"{\"nonce\":\"AAAAAAAAAAAAAAAAAAAAAAAAAAA=\",\"timestamp\":0,\"type\":1}";
 
 // A pack of as many operations of any type.
 fn pack_of(alloc: Global, count: u64) -> Result<Pack<AnyOp>, Fail> {

@@ -41,8 +41,14 @@ fn refs_serve_callers_as_a_map(rt: HostRuntime) -> Result<(), Fail> {
     let one = Name { bytes: [1; 20] };
     let two = Name { bytes: [2; 20] };
     let mut store = MemStore::new(alloc, List::new(alloc));
-    assert_eq!(rt; set_and_get(alloc, &mut store, &folder, "refs/a", "refs/b", &one)?, (Some(one), None));
-    assert_eq!(rt; set_and_get(alloc, &mut store, &folder, "refs/b", "refs/a", &two)?, (Some(two), Some(one)));
+    assert_eq!(rt;
+        set_and_get(alloc, &mut store, &folder, "refs/a", "refs/b", &one)?,
+        (Some(one), None)
+    );
+    assert_eq!(rt;
+        set_and_get(alloc, &mut store, &folder, "refs/b", "refs/a", &two)?,
+        (Some(two), Some(one))
+    );
     assert_eq!(rt; store.writes(), 2);
     Ok(())
 }
