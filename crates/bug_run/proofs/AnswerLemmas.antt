@@ -1,22 +1,18 @@
 -- The answers of commands, as answers of the run.
-use Rattle.std.proofs.Common.{◌≡◌, inr, ℕ, Bool, List, Some, None, Result, Ok, Err, refl, sym, ap, []}
-use Rattle.std.proofs.lemmas.List.{append-nil}
+use Rattle.std.proofs.Common.{◌≡◌, inr, ℕ, Bool, List, Some, None, Result, Ok, Err, refl}
 use Rattle.gb_text.specs.Digits.{id_of}
 use Rattle.gb_text.specs.declared.id.Id.{Id}
 use Rattle.gb_text.specs.declared.id.Name.{Name}
-use Rattle.gb_store.specs.Files.{Files, History, files_of}
-use Rattle.gb_store.proofs.MomentLemmas.{WroteSome-back}
+use Rattle.gb_store.specs.Files.{Files, History}
 use Rattle.ref_store.specs.Refs.{Head}
-use Rattle.repo_state.specs.Edits.{Edit}
 use Rattle.repo_state.specs.Sides.{head_at}
-use Rattle.repo_state.specs.Steps.{EditAnswers, bad_text_of, writes_of}
-use Rattle.repo_state.specs.declared.env.Env.{Env}
+use Rattle.repo_state.specs.Steps.{bad_text_of}
 use Rattle.repo_state.specs.declared.refusal.Refusal.TheVariants as refusal
 use Rattle.repo_state.specs.declared.refusal.Stop.{Stop}
 use Rattle.repo_state.specs.declared.refusal.Stop.TheVariants as stop
 use Rattle.repo_state.specs.declared.side.Side.TheVariants as side
 use Rattle.bug_run.specs.Log.{LogAnswers, MayRefuse, WalkTold}
-use Rattle.bug_run.specs.Run.{EditTold, Performed, RequestAnswers}
+use Rattle.bug_run.specs.Run.{Performed, RequestAnswers}
 use Rattle.bug_run.specs.Words.{Request}
 
 -- the answer for a head is that for the bug whose ref names it

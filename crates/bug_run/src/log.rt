@@ -1,10 +1,11 @@
 //! The log of a bug.
-ghost use Rattle.std.specs.Prelude.{◌≡◌, ◌++◌, IsTrue, IfOk, OnOk, IsErrOf, string_bytes};
+ghost use Rattle.std.specs.Prelude.{◌≡◌, ◌≤◌, ◌+◌, ◌*◌, ◌++◌, List, length, IsTrue, IfOk, OnOk, IsErrOf, string_bytes};
 ghost use Rattle.gb_store.specs.Faults.{KeepsFaults};
 ghost use Rattle.gb_store.specs.Files.{files_of};
 ghost use Rattle.object_store.specs.Held.{objects_in};
 ghost use Rattle.bug_run.specs.Answers.{ClocksAnswers, RisingAnswers, StepsAnswers};
 ghost use Rattle.bug_run.specs.Log.{LogAnswers, MayRefuse, WalkTold, log_line, log_text_of};
+ghost use Rattle.bug_run.specs.declared.log.Step.{Step as StepValue};
 
 use crate::fault::{WalkFault, WalkStop};
 use crate::name::{push_name, push_number};
@@ -23,11 +24,14 @@ pub struct Step {
 }
 
 /// The log of the bug with this id: a line for each commit of its chain, from the root to the
-/// head. Each commit and each tree is read once.
+/// head.
 pub fn log<S: Store>(alloc: Global, disk: &mut S, folder: &Folder, bug: &str) -> Result<Text, Stop>
     ensures answers { IsTrue S.tells → LogAnswers (files_of (S.history disk.old)) folder.now bug.now result }
     ensures refusals { MayRefuse result }
     ensures unwritten { IsTrue S.tells → S.history disk.new ≡ S.history disk.old }
+    ensures reads { S.object_reads disk.new ≤ S.object_reads disk.old + 196608 }
+    ensures once { IfOk result (λ text. (steps : List StepValue) × (text ≡ log_text_of steps)
+        × (S.object_reads disk.new ≤ S.object_reads disk.old + 3 * length steps)) }
     ensures caused { KeepsFaults S.never_fails S.faults (IsErrOf result Stop.Disk) disk.old disk.new }
 {
     let Some(id) = Id::read(bug.as_bytes()) else {
@@ -50,6 +54,9 @@ fn log_from<S: Store>(
     ensures answers { IsTrue S.tells → WalkTold (files_of (S.history disk.old)) folder.now id.now head.now result }
     ensures refusals { MayRefuse result }
     ensures unwritten { IsTrue S.tells → S.history disk.new ≡ S.history disk.old }
+    ensures reads { S.object_reads disk.new ≤ S.object_reads disk.old + 196608 }
+    ensures once { IfOk result (λ text. (steps : List StepValue) × (text ≡ log_text_of steps)
+        × (S.object_reads disk.new ≤ S.object_reads disk.old + 3 * length steps)) }
     ensures caused { KeepsFaults S.never_fails S.faults (IsErrOf result Stop.Disk) disk.old disk.new }
 {
     match steps_from(alloc, disk, folder, head) {
@@ -70,6 +77,8 @@ fn steps_from<S: Store>(
 ) -> Result<Vec<Step>, WalkStop>
     ensures answers { IsTrue S.tells → StepsAnswers (objects_in (files_of (S.history disk.old)) folder.now) head.now result }
     ensures unwritten { IsTrue S.tells → S.history disk.new ≡ S.history disk.old }
+    ensures reads { S.object_reads disk.new ≤ S.object_reads disk.old + 196608 }
+    ensures once { IfOk result (λ steps. S.object_reads disk.new ≤ S.object_reads disk.old + 3 * length steps.items) }
     ensures caused { KeepsFaults S.never_fails S.faults (IsErrOf result WalkStop.Disk) disk.old disk.new }
 {
     let walk = walk(alloc, disk, folder, head)?;
@@ -87,6 +96,8 @@ fn clocks<S: Store>(
 ) -> Result<Vec<Step>, WalkStop>
     ensures answers { IsTrue S.tells → ClocksAnswers (objects_in (files_of (S.history disk.old)) folder.now) walk.now result }
     ensures unwritten { IsTrue S.tells → S.history disk.new ≡ S.history disk.old }
+    ensures reads { S.object_reads disk.new ≤ S.object_reads disk.old + 2 * length walk.now }
+    ensures each { IfOk result (λ steps. length steps.items ≡ length walk.now) }
     ensures caused { KeepsFaults S.never_fails S.faults (IsErrOf result WalkStop.Disk) disk.old disk.new }
 {
     let mut steps = Vec::new(alloc);

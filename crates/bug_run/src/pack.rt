@@ -1,5 +1,5 @@
 //! The trees and the packs of the commits that a walk met.
-ghost use Rattle.std.specs.Prelude.{◌≡◌, IsTrue, IsErrOf};
+ghost use Rattle.std.specs.Prelude.{◌≡◌, ◌≤◌, ◌+◌, IsTrue, IsErrOf};
 ghost use Rattle.gb_store.specs.Faults.{KeepsFaults};
 ghost use Rattle.gb_store.specs.Files.{files_of};
 ghost use Rattle.object_store.specs.Held.{objects_in};
@@ -14,8 +14,7 @@ use op_kind::AnyOp;
 use op_pack::{Pack, PackFault, TreeHead, read_head};
 use std::alloc::Global;
 
-/// The edit clock of a commit that the walk met, and that has a pack. Its tree and its pack's text
-/// are read once.
+/// The edit clock of a commit that the walk met, and that has a pack.
 pub fn clock_of<S: Store>(
     alloc: Global,
     disk: &mut S,
@@ -24,6 +23,7 @@ pub fn clock_of<S: Store>(
 ) -> Result<u64, WalkStop>
     ensures answers { IsTrue S.tells → ClockAnswers (objects_in (files_of (S.history disk.old)) folder.now) met.now result }
     ensures unwritten { IsTrue S.tells → S.history disk.new ≡ S.history disk.old }
+    ensures reads { S.object_reads disk.new ≤ S.object_reads disk.old + 2 }
     ensures caused { KeepsFaults S.never_fails S.faults (IsErrOf result WalkStop.Disk) disk.old disk.new }
 {
     let tree = tree_of(alloc, disk, folder, met)?;
@@ -53,6 +53,7 @@ fn text_of<S: Store>(
 ) -> Result<Bytes, WalkStop>
     ensures answers { IsTrue S.tells → TextAnswers (objects_in (files_of (S.history disk.old)) folder.now) met.now ops.now result }
     ensures unwritten { IsTrue S.tells → S.history disk.new ≡ S.history disk.old }
+    ensures reads { S.object_reads disk.new ≤ S.object_reads disk.old + 1 }
     ensures caused { KeepsFaults S.never_fails S.faults (IsErrOf result WalkStop.Disk) disk.old disk.new }
 {
     match object_store::get(alloc, disk, folder, ops)? {
@@ -84,6 +85,7 @@ fn tree_of<S: Store>(
 ) -> Result<Tree, WalkStop>
     ensures answers { IsTrue S.tells → TreeAnswers (objects_in (files_of (S.history disk.old)) folder.now) met.now result }
     ensures unwritten { IsTrue S.tells → S.history disk.new ≡ S.history disk.old }
+    ensures reads { S.object_reads disk.new ≤ S.object_reads disk.old + 1 }
     ensures caused { KeepsFaults S.never_fails S.faults (IsErrOf result WalkStop.Disk) disk.old disk.new }
 {
     match object_store::get(alloc, disk, folder, &met.tree)? {

@@ -42,5 +42,7 @@ loop-met-preserved g c =
           subst (λ (steps : List Step). Clocked objects (take (c.loop-met.met-index + 1) c.args.walk.now) steps) (sym pushed)
           (Clocked-more objects c.args.walk.now c.loop-met.steps.items c.loop-met.met-index c.in_ok-clock.clock none c.loop-met-test.true (c.loop-met.invariant.clocked tells) pack clock);
       unwritten = λ tells. c.in_ok-clock.ensures.unwritten tells ∙ c.loop-met.invariant.unwritten tells;
+      reads = omega (arith, c.loop-met.invariant.reads, c.in_ok-clock.ensures.reads);
+      each = grind (arith, common_steps);
       caused = KeepsFaults_then g.S.Store.never_fails g.S.Store.faults _ ⊥ c.args.disk.now c.loop-met.disk c.clock_of.new.disk c.loop-met.invariant.caused c.in_ok-clock.ensures.caused (λ none. absurd none) (λ fails. absurd (cc));
     }
