@@ -6,8 +6,8 @@ use Rattle.std.specs.Option.{option_and_then, option_map}
 use Rattle.std.specs.Result.{result_ok}
 use Rattle.std.specs.Str.{bytes_eq}
 use Rattle.hex.specs.declared.error.FromHexError.{FromHexError}
-use Rattle.hex.specs.Hex.{IsBytes, encode_lower, decode_of, decode_sized}
-use Rattle.hex.proofs.HexLemmas.{decode_of-encode_lower, decode_of-ok, decode_sized-ok, decode_sized-twice}
+use Rattle.hex.specs.Hex.{IsBytes, encode_lower, lower_digits, decode_of, decode_sized}
+use Rattle.hex.proofs.HexLemmas.{length-encode_with, decode_of-encode_lower, decode_of-ok, decode_sized-ok, decode_sized-twice}
 use Rattle.gb_text.specs.declared.id.Id.{Id}
 use Rattle.gb_text.specs.declared.id.Name.{Name}
 use Rattle.gb_text.specs.Digits.{IsId, IsName, printed_as, bytes_of_digits, id_of, name_of}
@@ -92,3 +92,23 @@ name_of-is text name e = each (bytes_of_digits 20 text) refl
         let is = bytes_of_digits-is 20 text bytes h in
         let eq : bytes ≡ name.bytes = grind (arith, same) in
         rw (← eq) (record { sized = is.0; bytes = is.1 }, is.2)
+
+-- ids with the same digits are the same
+pub id_digits-same : (one two : Id) → IsId one → IsId two → encode_lower one.bytes ≡ encode_lower two.bytes → one ≡ two
+id_digits-same one two first second e =
+    let same : Some one ≡ Some two = sym (id_of-encode_lower one first) ∙ ap id_of e ∙ id_of-encode_lower two second in
+    cc
+
+-- names with the same digits are the same
+pub name_digits-same : (one two : Name) → IsName one → IsName two → encode_lower one.bytes ≡ encode_lower two.bytes → one ≡ two
+name_digits-same one two first second e =
+    let same : Some one ≡ Some two = sym (name_of-encode_lower one first) ∙ ap name_of e ∙ name_of-encode_lower two second in
+    cc
+
+-- an id has 64 digits
+pub id_digits-sized : (id : Id) → IsId id → length (encode_lower id.bytes) ≡ 64
+id_digits-sized id is = length-encode_with lower_digits id.bytes ∙ ap (λ (n : ℕ). 2 * n) is.sized
+
+-- a name has 40 digits
+pub name_digits-sized : (name : Name) → IsName name → length (encode_lower name.bytes) ≡ 40
+name_digits-sized name is = length-encode_with lower_digits name.bytes ∙ ap (λ (n : ℕ). 2 * n) is.sized

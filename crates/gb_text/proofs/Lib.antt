@@ -1,4 +1,12 @@
+pub mod AsciiLemmas
 pub mod DecimalLemmas
 pub mod DigitLemmas
 mod Examples
 pub mod FolderLemmas
+pub mod LineEndLemmas
+pub mod OrderLemmas
+pub mod OverlapLemmas
+pub mod PartLemmas
+pub mod PathLemmas
+pub mod ReadBackLemmas
+pub mod SortedLemmas

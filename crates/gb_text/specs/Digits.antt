@@ -19,7 +19,8 @@ pub record IsName (name : Name) : Type 0 where
 
 -- the bytes, if there are n of them and the text is their digits
 abbrev pub printed_as : ℕ → List ℕ → List ℕ → Option (List ℕ)
-printed_as n text bytes = if (length bytes == n) && bytes_eq (encode_lower bytes) text then Some bytes else None
+printed_as n text bytes =
+    if (length bytes == n) && bytes_eq (encode_lower bytes) text then Some bytes else None
 
 -- the n bytes whose digits the text is, if there are such
 abbrev pub bytes_of_digits : ℕ → List ℕ → Option (List ℕ)

@@ -34,17 +34,22 @@ is_bad_folder (c ∷ cs) = not (is_line_text (c ∷ cs)) || goes_up (parts_of (c
 
 -- the text of the folder that a word names, if it names one
 abbrev pub folder_of : List ℕ → Option (List ℕ)
-folder_of word = if is_bad_folder word then None else Some (folder_text (is_rooted word) (filter counts (parts_of word)))
+folder_of word =
+    if is_bad_folder word then None
+    else Some (folder_text (is_rooted word) (filter counts (parts_of word)))
 
--- the answer to a word that names this folder, or none; want of memory comes only where it names one
+-- the answer to a word that names this folder, or none; want of memory comes only where it names
+-- one
 abbrev pub FolderAnswers : Option (List ℕ) → Result (List ℕ) FolderFault → Type 0
 FolderAnswers folder (Ok text) = folder ≡ Some text
 FolderAnswers folder (Err BadFolder) = folder ≡ None
 FolderAnswers folder (Err Memory) = folder ≢ None
 
--- what stands between a folder's text and the rest of a path: nothing after the empty text and after `/`, else a slash
+-- what stands between a folder's text and the rest of a path: nothing after the empty text and
+-- after `/`, else a slash
 abbrev pub joint : List ℕ → List ℕ
-joint folder = if bytes_eq folder (codes "") || bytes_eq folder (codes "/") then codes "" else codes "/"
+joint folder =
+    if bytes_eq folder (codes "") || bytes_eq folder (codes "/") then codes "" else codes "/"
 
 -- the path of a file below a folder
 abbrev pub joined : List ℕ → List ℕ → List ℕ

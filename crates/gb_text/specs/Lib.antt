@@ -2,4 +2,5 @@ pub mod Decimal
 pub mod Digits
 pub mod Folder
 pub mod LineEnd
+pub mod Overlap
 pub mod Rules

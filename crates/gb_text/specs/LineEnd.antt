@@ -4,4 +4,5 @@ use Rattle.std.specs.Str.{bytes_eq}
 
 -- the text without one LF at its end, where it has one
 abbrev pub line_of : List ℕ → List ℕ
-line_of text = if bytes_eq (drop (length text - 1) text) (10 ∷ []) then take (length text - 1) text else text
+line_of text =
+    if bytes_eq (drop (length text - 1) text) (10 ∷ []) then take (length text - 1) text else text

@@ -1,8 +1,9 @@
 //! Folder words, cut into parts, and the paths of files below a folder.
-ghost use Rattle.std.specs.Prelude.{◌≡◌, ◌++◌, IfOk, OnOk, IsErrOf, map, true, false, filter, string_bytes, codes, if◌then◌else◌};
-ghost use Rattle.std.specs.List.{join_with_byte};
+ghost use Rattle.std.specs.Prelude.{◌≡◌, ◌++◌, ◌↔◌, IsTrue, IfOk, OnOk, map, filter, string_bytes, codes, if◌then◌else◌};
+ghost use Rattle.std.specs.List.{join_with_byte, list_all, zip};
 ghost use Rattle.std.specs.Str.{bytes_eq};
-ghost use Rattle.gb_text.specs.Folder.{joined, parts_of, counts, goes_up, folder_text, is_bad_folder};
+ghost use Rattle.gb_text.specs.Folder.{joined, parts_of, counts, goes_up, is_bad_folder, is_rooted};
+ghost use Rattle.gb_text.specs.Overlap.{Overlap, steps_of};
 
 use crate::{Memory, Text, is_line};
 use std::alloc::{AllocError, Global};
@@ -55,7 +56,7 @@ impl Folder {
             return Err(FolderFault::BadFolder);
         }
         let parts = split_word(alloc, word)?;
-        let root = if word.as_bytes()[0] == b'/' { "/" } else { "" };
+        let root = if is_rooted(word) { "/" } else { "" };
         let text = join_parts(alloc, root, &parts)?;
         Ok(Folder {
             text: Text::from_string(text),
@@ -81,6 +82,33 @@ impl Folder {
     {
         self.text.as_str()
     }
+
+    /// Whether some path can lie below both folders: both are rooted or neither is, and the parts
+    /// of one begin with those of the other. Takes no memory.
+
+    pub fn overlaps(&self, other: &Folder) -> bool
+        ensures { IsTrue result ↔ Overlap self.now other.now }
+    {
+        let (one, two) = (self.as_str(), other.as_str());
+        is_rooted(one) == is_rooted(two) && steps_agree(one, two)
+    }
+}
+
+// Whether the word begins with a slash.
+fn is_rooted(word: &str) -> bool
+    ensures { result ≡ is_rooted word.now }
+{
+    word.as_bytes().first() == Some(&b'/')
+}
+
+// Whether the steps of two words are the same as far as both have some.
+fn steps_agree(one: &str, two: &str) -> bool
+    ensures { result
+        ≡ list_all (λ pair. bytes_eq pair.0 pair.1) (zip (steps_of one.now) (steps_of two.now)) }
+{
+    let ours = one.split('/').filter(|part| counts(part));
+    let theirs = two.split('/').filter(|part| counts(part));
+    ours.zip(theirs).all(|(ours, theirs)| ours == theirs)
 }
 
 // Whether the word names no folder.
@@ -106,7 +134,8 @@ fn split_word<'a>(alloc: Global, word: &'a str) -> Result<Vec<&'a str>, AllocErr
 
 // The parts that count, with slashes between, behind a root.
 fn join_parts(alloc: Global, root: &str, parts: &[&str]) -> Result<String, AllocError>
-    ensures { IfOk result (λ text. string_bytes text ≡ root.now ++ join_with_byte 47 (filter counts (map (λ part. part.now) parts.now))) }
+    ensures { IfOk result (λ text. string_bytes text
+        ≡ root.now ++ join_with_byte 47 (filter counts (map (λ part. part.now) parts.now))) }
 {
     let mut text = String::from_str(alloc, root)?;
     let mut is_first = true;
@@ -122,7 +151,8 @@ fn join_parts(alloc: Global, root: &str, parts: &[&str]) -> Result<String, Alloc
 
 // Adds a part, behind a slash unless it is the first.
 fn push_part(text: &mut String, is_first: bool, part: &str) -> Result<(), AllocError>
-    ensures { OnOk result (string_bytes text.new ≡ string_bytes text.old ++ (if is_first then part.now else codes "/" ++ part.now)) }
+    ensures { OnOk result (string_bytes text.new
+        ≡ string_bytes text.old ++ (if is_first then part.now else codes "/" ++ part.now)) }
 {
     if !is_first {
         text.push_str("/")?;

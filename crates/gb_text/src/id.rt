@@ -18,7 +18,8 @@ impl Id {
     pub fn read(text: &[u8]) -> Option<Id>
         ensures value { result ≡ id_of text.now }
         ensures found { IfSome result (λ id. text.now ≡ encode_lower id.bytes) }
-        ensures only { (id : IdValue) → IsId id → text.now ≡ encode_lower id.bytes → result ≡ Some id }
+        ensures only { (id : IdValue) → IsId id → text.now ≡ encode_lower id.bytes
+            → result ≡ Some id }
     {
         let mut bytes = [0; 32];
         if read_digits(text, &mut bytes) {
@@ -62,7 +63,8 @@ impl Name {
     pub fn read(text: &[u8]) -> Option<Name>
         ensures value { result ≡ name_of text.now }
         ensures found { IfSome result (λ name. text.now ≡ encode_lower name.bytes) }
-        ensures only { (name : NameValue) → IsName name → text.now ≡ encode_lower name.bytes → result ≡ Some name }
+        ensures only { (name : NameValue) → IsName name → text.now ≡ encode_lower name.bytes
+            → result ≡ Some name }
     {
         let mut bytes = [0; 20];
         if read_digits(text, &mut bytes) {
@@ -98,7 +100,8 @@ ghost use Rattle.hex.specs.Hex.{IsBytes};
 #[tactic(auto, using(crate::proofs::DigitLemmas::refused_digits, crate::proofs::DigitLemmas::read_digits_are))]
 fn read_digits(text: &[u8], bytes: &mut [u8]) -> bool
     requires { length bytes.old ≤ 32 }
-    ensures { bytes_of_digits (length bytes.old) text.now ≡ (if result then Some bytes.new else None) }
+    ensures { bytes_of_digits (length bytes.old) text.now
+        ≡ (if result then Some bytes.new else None) }
 {
     if hex::decode_to_slice(text, bytes).is_err() {
         return false;

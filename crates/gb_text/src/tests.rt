@@ -39,6 +39,27 @@ fn folders_are_normalised_and_joined(rt: HostRuntime) -> Result<(), Fail> {
 }
 
 #[test]
+fn folders_overlap_by_parts(rt: HostRuntime) -> Result<(), Fail> {
+    let alloc = rt.alloc();
+    let rows = [
+        (".", "a/b", true),
+        ("/", "/a", true),
+        ("a", "a/b", true),
+        ("a/b/c", "./a//b", true),
+        ("a", "ab", false),
+        ("a", "/a", false),
+        (".", "/", false),
+        ("a/b", "a/c", false),
+    ];
+    for (one, two, overlap) in rows {
+        let (one, two) = (Folder::read(alloc, one)?, Folder::read(alloc, two)?);
+        assert_eq!(rt; one.overlaps(&two), overlap);
+        assert_eq!(rt; two.overlaps(&one), overlap);
+    }
+    Ok(())
+}
+
+#[test]
 fn ids_and_names_are_lower_case_digits(rt: HostRuntime) -> Result<(), Fail> {
     let digits = b"e69de29bb2d1d6434b8b29ae775ad8c2e48c5391";
     let name = Name::read(digits).ok_or("a name")?;
@@ -96,4 +117,20 @@ fn one_line_end_is_dropped(rt: HostRuntime) {
     assert_eq!(rt; without_line_end(b"a\n\n"), b"a\n".as_slice());
     assert_eq!(rt; without_line_end(b"a"), b"a".as_slice());
     assert_eq!(rt; without_line_end(b""), b"".as_slice());
+}
+
+#[test]
+fn pieces_are_written_one_behind_another(rt: HostRuntime) -> Result<(), Fail> {
+    let alloc = rt.alloc();
+    let mut text = String::from_str(alloc, "x ")?;
+    push_name(&mut text, &Name::from_bytes([0x0a; 20]))?;
+    push_line_end(&mut text)?;
+    push_number(&mut text, 0)?;
+    push_number(&mut text, u64::MAX)?;
+    push_id(&mut text, &Id::from_bytes([0xf0; 32]))?;
+    assert_eq!(rt;
+        text.as_str(),
+        "x 0a0a0a0a0a0a0a0a0a0a0a0a0a0a0a0a0a0a0a0a\n018446744073709551615f0f0f0f0f0f0f0f0f0f0f0f0f0f0f0f0f0f0f0f0f0f0f0f0f0f0f0f0f0f0f0f0"
+    );
+    Ok(())
 }
