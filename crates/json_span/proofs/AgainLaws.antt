@@ -33,6 +33,7 @@ number_begins s i r absent zero_digit = record { b = 48; bs = r; at = refl; asci
 number_begins s i r absent (no_zero_first {b} {t} is ne each) = digit_begins b (t ++ r) is
 number_begins s i r (present {b} e) w = record { b = 45; bs = i ++ r; at = ap (λ (x : ℕ). x ∷ (i ++ r)) (eqb-true b 45 e); ascii = omega arith; no_space = refl; no_array = refl; no_object = refl }
 
+-- A text with no bracket begins with an ASCII byte that is neither white space nor a bracket.
 pub scalar_begins : (t : List ℕ) → Scalar t → Begins t
 scalar_begins t (string_text is) = record { b = 34; bs = is.inner ++ 34 ∷ []; at = is.whole; ascii = omega arith; no_space = refl; no_array = refl; no_object = refl }
 scalar_begins t (number_text is) = subst Begins (sym is.whole) (number_begins is.sign is.integer (is.fraction ++ is.exponent) is.is_sign is.is_integer)
@@ -96,18 +97,22 @@ above d text parts le (front, pieces, s, e) = subst (λ (x : List (List ℕ × L
 above_elements : (d : ℕ) (text : List ℕ) (parts : List (List ℕ)) → 100 ≤ d → HasElements text parts → All (IsValueText d) parts
 above_elements d text parts le (front, pieces, s, e) = subst (All (IsValueText d)) (sym e) (element_values d IsPartText (λ t is. deeper 100 d t le is) pieces (all_pieces Array IsPartText s.inner pieces s.inside))
 
+-- The values of an object have not too many brackets open.
 pub members_limit : (text : List ℕ) (parts : List (List ℕ × List ℕ)) → members_of text ≡ Some parts → All (IsMemberOf 100) parts
 members_limit text parts e = above 100 text parts (omega arith) (members_found text parts e)
 
+-- The elements of an array have not too many brackets open.
 pub elements_limit : (text : List ℕ) (parts : List (List ℕ)) → elements_of text ≡ Some parts → All IsPartText parts
 elements_limit text parts e = above_elements 100 text parts (omega arith) (elements_found text parts e)
 
+-- The values of a value text's members have one bracket fewer open.
 pub members_shallower : (d : ℕ) (text : List ℕ) (parts : List (List ℕ × List ℕ)) → IsValueText (suc d) text → members_of text ≡ Some parts → All (IsMemberOf d) parts
 members_shallower d text parts is e = elim (cases_lt 100 d) [
   | inl lt ↦ above d text parts (omega arith) (members_found text parts e)
   | inr le ↦ below d text parts le is.within (members_found text parts e)
 ]
 
+-- The elements of a value text have one bracket fewer open.
 pub elements_shallower : (d : ℕ) (text : List ℕ) (parts : List (List ℕ)) → IsValueText (suc d) text → elements_of text ≡ Some parts → All (IsValueText d) parts
 elements_shallower d text parts is e = elim (cases_lt 100 d) [
   | inl lt ↦ above_elements d text parts (omega arith) (elements_found text parts e)
@@ -126,8 +131,10 @@ array_again rest (inl is) = let f = scalar_begins (91 ∷ rest) is in absurd (le
 array_again rest (inr (Object, l)) = absurd (let e : 91 ≡ 123 = head_is 91 123 rest (l.inner ++ 125 ∷ []) l.whole in omega arith)
 array_again rest (inr (Array, l)) = let parts : List (List ℕ) = map (λ (p : Piece). p.value) l.pieces in (parts, elements_taken (91 ∷ rest) parts ([], l.pieces, list_splits Array 100 (91 ∷ rest) (omega arith) l, refl))
 
+-- A value text that begins as an object splits again.
 pub objects_split : (d : ℕ) (rest : List ℕ) → d ≤ 101 → IsValueText d (123 ∷ rest) → (parts : List (List ℕ × List ℕ)) × (members_of (123 ∷ rest) ≡ Some parts)
 objects_split d rest le is = object_again rest (deeper d 101 (123 ∷ rest) le is).within
 
+-- A value text that begins as an array splits again.
 pub arrays_split : (d : ℕ) (rest : List ℕ) → d ≤ 101 → IsValueText d (91 ∷ rest) → (parts : List (List ℕ)) × (elements_of (91 ∷ rest) ≡ Some parts)
 arrays_split d rest le is = array_again rest (deeper d 101 (91 ∷ rest) le is).within

@@ -16,17 +16,21 @@ use Rattle.json_span.proofs.StringLaws.{InString}
 
 -- ---- what completes the open brackets, the innermost first
 
+-- what completes a text behind a value
 abbrev pub Afters : ℕ → List Kind → List ℕ → Type 0
 Afters d [] u = Each is_space u
 Afters d (k ∷ ks) u = (after : List ℕ) × (ps : List Piece) × (v : List ℕ) × Each is_space after × AllByRecursion (IsPiece k (ValueWithin d)) ps × Afters (suc d) ks v × (u ≡ after ++ (commas ps ++ close_of k ∷ v))
 
+-- what completes a text before a value
 abbrev pub Values : ℕ → List Kind → List ℕ → Type 0
 Values d ks u = (a : List ℕ) × (w : List ℕ) × ValueWithin d a × Afters d ks w × (u ≡ a ++ w)
 
+-- what completes a text before a part behind a comma
 abbrev pub Parts : ℕ → List Kind → List ℕ → Type 0
 Parts d [] u = ⊥
 Parts d (k ∷ ks) u = (name : List ℕ) × (middle : List ℕ) × (w : List ℕ) × IsNamed k name middle × Values d (k ∷ ks) w × (u ≡ name ++ (middle ++ w))
 
+-- what completes a text behind a bracket that opens a list
 abbrev pub Freshes : ℕ → List Kind → List ℕ → Type 0
 Freshes d [] u = ⊥
 Freshes d (k ∷ ks) u = ((v : List ℕ) × Afters (suc d) ks v × (u ≡ close_of k ∷ v)) ⊎ Parts d (k ∷ ks) u
@@ -82,6 +86,7 @@ letters_of L = codes "l"
 abbrev pub Colons : ℕ → List Kind → List ℕ → Type 0
 Colons d ks u = Spaced (Byte 58 (Spaced (Values d ks))) u
 
+-- what completes a text behind a string, by what the string is
 abbrev pub Closing : Role → ℕ → List Kind → List ℕ → Type 0
 Closing Key d ks u = Colons d ks u
 Closing Item d ks u = Afters d ks u

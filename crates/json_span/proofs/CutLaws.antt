@@ -12,6 +12,7 @@ use Rattle.json_span.specs.declared.Member.{Member}
 use Rattle.json_span.specs.declared.Span.{Span}
 use Rattle.json_span.specs.declared.state.Kind.{Kind}
 use Rattle.json_span.specs.declared.state.Kind.TheVariants.{Array, Object}
+use Rattle.json_span.proofs.BasicLaws.{map_some}
 use Rattle.json_span.proofs.SplitLaws.{split_taken, split_found}
 
 -- ---- one span
@@ -37,12 +38,15 @@ record Cuts (k : Kind) (text : List ℕ) (m : Member) (p : Piece) : Type 0 where
   value : IsCut text p.value m.value
   is_value : IsPartText p.value
 
+-- The bytes round a value, grouped so that the value can be cut.
 pub value_grouped : (f b n m v a c w : List ℕ) → f ++ (((b ++ (n ++ (m ++ (v ++ a)))) ++ c) ++ w) ≡ (f ++ (b ++ (n ++ m))) ++ (v ++ (a ++ (c ++ w)))
 value_grouped f b n m v a c w = simp append_assoc
 
+-- The bytes round a name, grouped so that the name can be cut.
 pub name_grouped : (f b n m v a c w : List ℕ) → f ++ (((b ++ (n ++ (m ++ (v ++ a)))) ++ c) ++ w) ≡ (f ++ b) ++ (n ++ (m ++ (v ++ (a ++ (c ++ w)))))
 name_grouped f b n m v a c w = simp append_assoc
 
+-- The bytes round a comma, grouped so that what follows can be cut.
 pub next_grouped : (f p q w : List ℕ) → f ++ ((p ++ 44 ∷ q) ++ w) ≡ (f ++ (p ++ 44 ∷ [])) ++ (q ++ w)
 next_grouped f p q w = simp append_assoc
 
@@ -75,6 +79,7 @@ pieces_cut k text w (q ∷ qs) p f at n is all e = (
   pieces_cut k text w qs q (f ++ (piece_text p ++ 44 ∷ [])) (at + length (piece_text p) + 1) (omega (arith, length-append f (piece_text p ++ 44 ∷ []), length-append (piece_text p) (44 ∷ []))) all.0 all.1 (e ∙ next_grouped f (piece_text p) (piece_text q ++ commas qs) w),
 )
 
+-- The bytes round an opening bracket, grouped so that what follows can be cut.
 pub opened_grouped : (f x w : List ℕ) (o : ℕ) → (f ++ o ∷ x) ++ w ≡ (f ++ o ∷ []) ++ (x ++ w)
 opened_grouped f x w o = simp append_assoc
 
@@ -115,40 +120,42 @@ values_cut text [] (p ∷ ps) all = absurd all
 values_cut text (m ∷ ms) [] all = absurd all
 values_cut text (m ∷ ms) (p ∷ ps) all = ap (λ (x : List ℕ). x ∷ map (λ (m : Member). cut_of text m.value) ms) all.0.value.is ∙ ap (λ (x : List (List ℕ)). p.value ∷ x) (values_cut text ms ps all.1)
 
+-- The spans of an object cut strings and value texts.
 pub object_cuts : (text : List ℕ) (ms : List Member) → IsSplit Object text ms → All (CutsMember text) ms
 object_cuts text ms (front, pieces, s, e) = subst (λ (x : List Member). All (CutsMember text) x) (sym e) (member_cuts text (places Object (length front + 1) pieces) pieces (split_cut Object text front pieces s))
 
+-- The spans of an array cut value texts.
 pub array_cuts : (text : List ℕ) (ms : List Member) → IsSplit Array text ms → All (CutsValue text) (map (λ (m : Member). m.value) ms)
 array_cuts text ms (front, pieces, s, e) = subst (λ (x : List Member). All (CutsValue text) (map (λ (m : Member). m.value) x)) (sym e) (value_cuts text (places Array (length front + 1) pieces) pieces (split_cut Array text front pieces s))
 
 -- ---- the parts as functions of the text
 
+-- The members by the grammar are those that are computed.
 pub members_taken : (text : List ℕ) (parts : List (List ℕ × List ℕ)) → HasMembers text parts → members_of text ≡ Some parts
 unfolding members_of
 members_taken text parts (front, pieces, s, e) =
     ap (option_map (map (member_of text))) (split_taken Object text (places Object (length front + 1) pieces) (front, pieces, s, refl))
     ∙ ap (λ (x : List (List ℕ × List ℕ)). Some x) (members_cut text (places Object (length front + 1) pieces) pieces (split_cut Object text front pieces s) ∙ sym e)
 
+-- The elements by the grammar are those that are computed.
 pub elements_taken : (text : List ℕ) (parts : List (List ℕ)) → HasElements text parts → elements_of text ≡ Some parts
 unfolding elements_of
 elements_taken text parts (front, pieces, s, e) =
     ap (option_map (map (λ (m : Member). cut_of text m.value))) (split_taken Array text (places Array (length front + 1) pieces) (front, pieces, s, refl))
     ∙ ap (λ (x : List (List ℕ)). Some x) (values_cut text (places Array (length front + 1) pieces) pieces (split_cut Array text front pieces s) ∙ sym e)
 
-pub some_map : {X Y : Type 0} (f : X → Y) (o : Option X) (y : Y) → option_map f o ≡ Some y → (x : X) × (o ≡ Some x) × (y ≡ f x)
-some_map f None y e = absurd cc
-some_map f (Some x) y e = (x, refl, cc)
-
+-- The members that are computed are those by the grammar.
 pub members_found : (text : List ℕ) (parts : List (List ℕ × List ℕ)) → members_of text ≡ Some parts → HasMembers text parts
 unfolding members_of
 members_found text parts e =
-    let m = some_map (map (member_of text)) (split_of Object text) parts e in
+    let m = map_some (map (member_of text)) (split_of Object text) parts e in
     let s = split_found Object text m.0 m.1 in
-    (s.0, s.1, s.2, m.2 ∙ ap (map (member_of text)) s.3 ∙ members_cut text (places Object (length s.0 + 1) s.1) s.1 (split_cut Object text s.0 s.1 s.2))
+    (s.0, s.1, s.2, sym m.2 ∙ ap (map (member_of text)) s.3 ∙ members_cut text (places Object (length s.0 + 1) s.1) s.1 (split_cut Object text s.0 s.1 s.2))
 
+-- The elements that are computed are those by the grammar.
 pub elements_found : (text : List ℕ) (parts : List (List ℕ)) → elements_of text ≡ Some parts → HasElements text parts
 unfolding elements_of
 elements_found text parts e =
-    let m = some_map (map (λ (m : Member). cut_of text m.value)) (split_of Array text) parts e in
+    let m = map_some (map (λ (m : Member). cut_of text m.value)) (split_of Array text) parts e in
     let s = split_found Array text m.0 m.1 in
-    (s.0, s.1, s.2, m.2 ∙ ap (map (λ (x : Member). cut_of text x.value)) s.3 ∙ values_cut text (places Array (length s.0 + 1) s.1) s.1 (split_cut Array text s.0 s.1 s.2))
+    (s.0, s.1, s.2, sym m.2 ∙ ap (map (λ (x : Member). cut_of text x.value)) s.3 ∙ values_cut text (places Array (length s.0 + 1) s.1) s.1 (split_cut Array text s.0 s.1 s.2))

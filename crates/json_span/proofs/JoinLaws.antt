@@ -44,6 +44,7 @@ element_values (x ∷ xs) = ap (λ (ys : List (List ℕ)). x ∷ ys) (element_va
 array_has : (xs : List (List ℕ)) → All IsPartText xs → HasElements (array_text xs) xs
 array_has xs all = ([], map element_piece xs, record { inner = joined xs; last = []; is_front = tt; is_last = tt; inside = elements_inside IsPartText xs all; whole = refl }, element_values xs)
 
+-- An array that is joined of parts has these elements.
 pub elements_joined : (xs : List (List ℕ)) → All IsPartText xs → elements_of (array_text xs) ≡ Some xs
 elements_joined xs all = elements_taken (array_text xs) xs (array_has xs all)
 
@@ -55,6 +56,7 @@ list_value : (k : Kind) (d : ℕ) (inner : List ℕ) (ps : List Piece) → Insid
 list_value k d inner [] is = is
 list_value k d inner (p ∷ ps) is = let w = inside_values k d (p ∷ ps) (is.0, is.1) in (w.0, w.1, is.2)
 
+-- An array of value texts is one with a bracket more.
 pub array_value : (d : ℕ) (xs : List (List ℕ)) → All (IsValueText d) xs → IsValueText (suc d) (array_text xs)
 array_value d xs all = record { within = inr (Array, record { inner = joined xs; pieces = map element_piece xs; inside = list_value Array d (joined xs) (map element_piece xs) (elements_inside (IsValueText d) xs all); whole = refl }) }
 
@@ -92,8 +94,10 @@ member_values (m ∷ ms) = ap (λ (ys : List (List ℕ × List ℕ)). m ∷ ys) 
 object_has : (ms : List (List ℕ × List ℕ)) → All (IsMemberOf 100) ms → HasMembers (object_text ms) ms
 object_has ms all = ([], map member_piece ms, record { inner = joined (map member_text ms); last = []; is_front = tt; is_last = tt; inside = members_inside 100 ms all; whole = refl }, member_values ms)
 
+-- An object that is joined of members has these.
 pub members_joined : (ms : List (List ℕ × List ℕ)) → All (IsMemberOf 100) ms → members_of (object_text ms) ≡ Some ms
 members_joined ms all = members_taken (object_text ms) ms (object_has ms all)
 
+-- An object of value texts is one with a bracket more.
 pub object_value : (d : ℕ) (ms : List (List ℕ × List ℕ)) → All (IsMemberOf d) ms → IsValueText (suc d) (object_text ms)
 object_value d ms all = record { within = inr (Object, record { inner = joined (map member_text ms); pieces = map member_piece ms; inside = list_value Object d (joined (map member_text ms)) (map member_piece ms) (members_inside d ms all); whole = refl }) }

@@ -9,6 +9,8 @@ pub mod ViableLaws
 pub mod TakenLaws
 pub mod TakenStrings
 pub mod TakenNumbers
+pub mod PassLaws
+pub mod FrontLaws
 pub mod TakenLists
 pub mod SplitLaws
 pub mod CutLaws

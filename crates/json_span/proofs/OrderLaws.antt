@@ -22,8 +22,10 @@ values_from (p ∷ ps) place at le =
     let n = piece_length p in
     (omega arith, values_from ps (at + length p.before + length p.name + length p.middle + length p.value) (at + length (piece_text p) + 1) (omega arith))
 
+-- The spans of an object's members ascend.
 pub members_ascend : (text : List ℕ) (ms : List Member) → IsObject text ms → AscendFrom 0 (spans_of ms)
 members_ascend text ms (front, pieces, s, e) = subst (λ (x : List Member). AscendFrom 0 (spans_of x)) (sym e) (members_from pieces 0 (length front + 1) (omega arith))
 
+-- The spans of an array's elements ascend.
 pub elements_ascend : (text : List ℕ) (spans : List Span) → IsArray text spans → AscendFrom 0 spans
 elements_ascend text spans (ms, (front, pieces, s, e), f) = subst (AscendFrom 0) (sym f) (subst (λ (x : List Member). AscendFrom 0 (map (λ (m : Member). m.value) x)) (sym e) (values_from pieces 0 (length front + 1) (omega arith)))

@@ -5,7 +5,7 @@ use Rattle.std.proofs.lemmas.List.{append-nil}
 use Rattle.std.specs.Option.{option_map}
 use Rattle.json_span.specs.Machine.{◌>>=◌, State, step, start, run, read, split_of, within, marked, finished, also, is_done, no_marks}
 use Rattle.json_span.specs.Stops.{StopsAt}
-use Rattle.json_span.proofs.BasicLaws.{bind_twice}
+use Rattle.json_span.proofs.BasicLaws.{bind_twice, map_none}
 use Rattle.json_span.specs.declared.Member.{Member}
 use Rattle.json_span.specs.declared.state.Kind.{Kind}
 use Rattle.json_span.specs.declared.marks.Marks.{Marks}
@@ -19,7 +19,7 @@ pub record HasRead (P : Type 0) (f : Member → P) (k : Kind) (text : List ℕ) 
 
 -- ---- states
 
-pub run_last : (front : List ℕ) (b : ℕ) (s : State) → run s (front ++ b ∷ []) ≡ (run s front >>= λ t. step t.at t.kinds t.room b)
+run_last : (front : List ℕ) (b : ℕ) (s : State) → run s (front ++ b ∷ []) ≡ (run s front >>= λ t. step t.at t.kinds t.room b)
 unfolding run
 run_last [] b s = once (step s.at s.kinds s.room b)
   where
@@ -46,7 +46,8 @@ gained_rest P f met None (Some ms) = refl
 gained_rest P f met (Some m) None = refl
 gained_rest P f met (Some m) (Some ms) = ap (λ (x : List P). Some x) (sym (append_assoc met (f m ∷ []) (map f ms)))
 
-read_on : (n : ℕ) (s t : State) (m : Marks) (b : ℕ) (bs : List ℕ) → step s.at s.kinds s.room b ≡ Some t
+-- What is read at a byte, where a step is taken.
+pub read_on : (n : ℕ) (s t : State) (m : Marks) (b : ℕ) (bs : List ℕ) → step s.at s.kinds s.room b ≡ Some t
     → read n s m (b ∷ bs) ≡ option_map (also (finished (n - length (b ∷ bs)) (n - length bs) (within s.at s.kinds) (within t.at t.kinds) m)) (read n t (marked (n - length (b ∷ bs)) (n - length bs) (within s.at s.kinds) (within t.at t.kinds) m) bs)
 unfolding read
 read_on n s t m b bs e = rw e refl
@@ -55,6 +56,7 @@ read_stuck : (n : ℕ) (s : State) (m : Marks) (b : ℕ) (bs : List ℕ) → ste
 unfolding read
 read_stuck n s m b bs e = rw e refl
 
+-- Before a text nothing is read.
 pub has_begun : (P : Type 0) (f : Member → P) (k : Kind) (text : List ℕ) → HasRead P f k text 0 [] (start k) no_marks
 unfolding run split_of
 has_begun P f k text = record { begun = omega arith; reads = whole (read (length text) (start k) no_marks text); taken = refl }
@@ -88,6 +90,7 @@ has_next P f k text place met s t m lt has e begun =
       taken = run_next text place (start k) s lt has.taken ∙ e;
     }
 
+-- One byte further one byte more is read.
 pub has_gone_on : (P : Type 0) (f : Member → P) (k : Kind) (text : List ℕ) (place : ℕ) (met met2 : List P) (s t : State) (m m2 : Marks) (before after : Within) (o : Option Member)
     → place < length text
     → HasRead P f k text place met s m
@@ -108,17 +111,14 @@ has_gone_on P f k text place met met2 s t m m2 before after o lt has e eb ea eo 
 
 -- ---- the ends
 
-none_map : {X Y : Type 0} (g : X → Y) (o : Option X) → option_map g o ≡ None → o ≡ None
-none_map g None e = refl
-none_map g (Some x) e = absurd cc
-
+-- Where a step is refused the machine stops.
 pub has_stopped : (P : Type 0) (f : Member → P) (k : Kind) (text : List ℕ) (place : ℕ) (met : List P) (s : State) (m : Marks) → place < length text → HasRead P f k text place met s m → None ≡ step s.at s.kinds s.room (get_or text place 0) → StopsAt k text place
 has_stopped P f k text place met s m lt has e =
     let b = get_or text place 0 in
     let stuck : read (length text) s m (drop place text) ≡ None = ap (read (length text) s m) (drop-cons text place 0 lt) ∙ read_stuck (length text) s m b (drop (suc place) text) (sym e) in
     record {
       within = omega arith;
-      no_split = none_map (map f) (split_of k text) (sym has.reads ∙ ap (λ (o : Option (List Member)). option_map (λ x. met ++ map f x) o) stuck);
+      no_split = map_none (map f) (split_of k text) (sym has.reads ∙ ap (λ (o : Option (List Member)). option_map (λ x. met ++ map f x) o) stuck);
       state = s;
       taken = has.taken;
       stuck = λ _. run_next text place (start k) s lt has.taken ∙ sym e;
@@ -134,13 +134,15 @@ ended P f k text met s m done has e = ap (λ (o : Option (List Member)). option_
 at_end : (P : Type 0) (f : Member → P) (k : Kind) (text : List ℕ) (place : ℕ) (met : List P) (s : State) (m : Marks) → length text ≤ place → place ≤ length text → HasRead P f k text place met s m → HasRead P f k text (length text) met s m
 at_end P f k text place met s m le ge has = let e : place ≡ length text = omega arith in subst (λ (x : ℕ). HasRead P f k text x met s m) e has
 
+-- At the end of a whole list its parts are those that were met.
 pub has_found : (P : Type 0) (f : Member → P) (k : Kind) (text : List ℕ) (place : ℕ) (met : List P) (s : State) (m : Marks) → length text ≤ place → place ≤ length text → HasRead P f k text place met s m → true ≡ is_done s.at s.kinds → option_map (map f) (split_of k text) ≡ Some met
 has_found P f k text place met s m le ge has e = sym (ended P f k text met s m true (at_end P f k text place met s m le ge has) (sym e)) ∙ ap (λ (x : List P). Some x) (append-nil met)
 
+-- At the end of a list that is open there is no split.
 pub has_failed : (P : Type 0) (f : Member → P) (k : Kind) (text : List ℕ) (place : ℕ) (met : List P) (s : State) (m : Marks) → length text ≤ place → place ≤ length text → HasRead P f k text place met s m → false ≡ is_done s.at s.kinds → StopsAt k text (length text)
 has_failed P f k text place met s m le ge has e = let h = at_end P f k text place met s m le ge has in record {
   within = omega arith;
-  no_split = none_map (map f) (split_of k text) (sym (ended P f k text met s m false h (sym e)));
+  no_split = map_none (map f) (split_of k text) (sym (ended P f k text met s m false h (sym e)));
   state = s;
   taken = h.taken;
   stuck = λ lt. absurd (omega arith);

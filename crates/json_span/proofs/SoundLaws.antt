@@ -14,16 +14,17 @@ use Rattle.json_span.specs.declared.state.LiteralAt.{LiteralAt}
 use Rattle.json_span.specs.declared.state.LiteralAt.TheVariants.{Rue, Ue, Alse, Lse, Se, E, Ull, Ll, L}
 use Rattle.json_span.specs.declared.state.At.{At}
 use Rattle.json_span.specs.declared.state.At.TheVariants.{Begin, Fresh, Part, Colon, Value, After, Text, Number, Literal}
-use Rattle.json_span.proofs.BasicLaws.{bind_some, some_is, if_some, chosen}
+use Rattle.std.proofs.lemmas.Option.{cond_some}
+use Rattle.json_span.proofs.BasicLaws.{bind_some, some_is, chosen}
 use Rattle.json_span.proofs.StringLaws.{step_completes, ends_plain}
 use Rattle.json_span.proofs.Completions.{Afters, Values, Parts, Freshes, Spaced, Then, Byte, NumRest, letters_of, Colons, Closing, Opens, Completes}
 use Rattle.json_span.proofs.NumberLaws.{num_ended, num_sound}
 
-pub comma_grouped : (after before name middle a after2 c w : List ℕ)
+comma_grouped : (after before name middle a after2 c w : List ℕ)
     → (after ++ 44 ∷ before) ++ (name ++ (middle ++ (a ++ (after2 ++ (c ++ w))))) ≡ after ++ ((44 ∷ (before ++ (name ++ (middle ++ (a ++ after2)))) ++ c) ++ w)
 comma_grouped after before name middle a after2 c w = simp append_assoc
 
-pub after_comma : (d : ℕ) (k : Kind) (ks : List Kind) (after before u : List ℕ) → Each is_space after → Each is_space before → Parts d (k ∷ ks) u → Afters d (k ∷ ks) ((after ++ 44 ∷ before) ++ u)
+after_comma : (d : ℕ) (k : Kind) (ks : List Kind) (after before u : List ℕ) → Each is_space after → Each is_space before → Parts d (k ∷ ks) u → Afters d (k ∷ ks) ((after ++ 44 ∷ before) ++ u)
 after_comma d k ks after before u sa sb (name, middle, w, named, (a, x, is, (after2, ps, v, sa2, each, rest, e3), e2), e1) =
     let p : Piece = record { before = before; name = name; middle = middle; value = a; after = after2 } in (
       after,
@@ -35,14 +36,14 @@ after_comma d k ks after before u sa sb (name, middle, w, named, (a, x, is, (aft
       ap (λ (t : List ℕ). (after ++ 44 ∷ before) ++ t) (e1 ∙ ap (λ (t : List ℕ). name ++ (middle ++ t)) (e2 ∙ ap (λ (t : List ℕ). a ++ t) e3)) ∙ comma_grouped after before name middle a after2 (commas ps) (close_of k ∷ v),
     )
 
-pub after_close : (d : ℕ) (k : Kind) (ks : List Kind) (after u : List ℕ) → Each is_space after → Afters (suc d) ks u → Afters d (k ∷ ks) ((after ++ close_of k ∷ []) ++ u)
+after_close : (d : ℕ) (k : Kind) (ks : List Kind) (after u : List ℕ) → Each is_space after → Afters (suc d) ks u → Afters d (k ∷ ks) ((after ++ close_of k ∷ []) ++ u)
 after_close d k ks after u sa is = (after, [], u, sa, tt, is, append_assoc after (close_of k ∷ []) u)
 
-pub open_grouped : (b before name middle a after c v : List ℕ) (o e : ℕ)
+open_grouped : (b before name middle a after c v : List ℕ) (o e : ℕ)
     → (o ∷ before) ++ (name ++ (middle ++ (a ++ (after ++ (c ++ e ∷ v))))) ≡ (o ∷ ((before ++ (name ++ (middle ++ (a ++ after)))) ++ c) ++ e ∷ []) ++ v
 open_grouped b before name middle a after c v o e = simp append_assoc
 
-pub value_open : (d : ℕ) (k : Kind) (ks : List Kind) (before u : List ℕ) → Each is_space before → Freshes d (k ∷ ks) u → Values (suc d) ks ((open_of k ∷ before) ++ u)
+value_open : (d : ℕ) (k : Kind) (ks : List Kind) (before u : List ℕ) → Each is_space before → Freshes d (k ∷ ks) u → Values (suc d) ks ((open_of k ∷ before) ++ u)
 value_open d k ks before u sb (inl (v, rest, e)) = (
   open_of k ∷ before ++ close_of k ∷ [],
   v,
@@ -66,58 +67,59 @@ scalar_value (suc d) a is = inl is
 
 -- ---- each step keeps what completes
 
-pub space_more : (P : List ℕ → Type 0) (b : ℕ) (u : List ℕ) → is_space b ≡ true → Spaced P u → Spaced P (b ∷ u)
+space_more : (P : List ℕ → Type 0) (b : ℕ) (u : List ℕ) → is_space b ≡ true → Spaced P u → Spaced P (b ∷ u)
 space_more P b u t s = record { sp = b ∷ s.sp; v = s.v; each = (t, s.each); is = s.is; whole = ap (λ (x : List ℕ). b ∷ x) s.whole }
 
+-- No white space needs to stand before a text.
 pub no_space : (P : List ℕ → Type 0) (u : List ℕ) → P u → Spaced P u
 no_space P u p = record { sp = []; v = u; each = tt; is = p; whole = refl }
 
-pub goes : (at : At) (ks : List Kind) (room : ℕ) (s : State) (u : List ℕ) → go_to at ks room ≡ Some s → Completes s.at s.room s.kinds u → Completes at room ks u
+goes : (at : At) (ks : List Kind) (room : ℕ) (s : State) (u : List ℕ) → go_to at ks room ≡ Some s → Completes s.at s.room s.kinds u → Completes at room ks u
 goes at ks room s u e c = subst (λ (w : State). Completes w.at w.room w.kinds u) (sym (some_is (record { at = at; kinds = ks; room = room }) s e)) c
 
 -- ---- each step is sound
 
-pub after_space : (d : ℕ) (ks : List Kind) (b : ℕ) (u : List ℕ) → is_space b ≡ true → Afters d ks u → Afters d ks (b ∷ u)
+after_space : (d : ℕ) (ks : List Kind) (b : ℕ) (u : List ℕ) → is_space b ≡ true → Afters d ks u → Afters d ks (b ∷ u)
 after_space d [] b u t each = (t, each)
 after_space d (k ∷ ks) b u t (before, ps, v, sa, each, rest, e) = (b ∷ before, ps, v, (t, sa), each, rest, ap (λ (x : List ℕ). b ∷ x) e)
 
-pub spaced_comma : (d : ℕ) (k : Kind) (ks : List Kind) (u : List ℕ) → Spaced (Parts d (k ∷ ks)) u → Afters d (k ∷ ks) (44 ∷ u)
+spaced_comma : (d : ℕ) (k : Kind) (ks : List Kind) (u : List ℕ) → Spaced (Parts d (k ∷ ks)) u → Afters d (k ∷ ks) (44 ∷ u)
 spaced_comma d k ks u s = subst (λ (x : List ℕ). Afters d (k ∷ ks) (44 ∷ x)) (sym s.whole) (after_comma d k ks [] s.sp s.v tt s.each s.is)
 
-pub after_sound : (ks : List Kind) (d b : ℕ) (s : State) (u : List ℕ) → after_step ks d b ≡ Some s → Completes s.at s.room s.kinds u → Afters d ks (b ∷ u)
+after_sound : (ks : List Kind) (d b : ℕ) (s : State) (u : List ℕ) → after_step ks d b ≡ Some s → Completes s.at s.room s.kinds u → Afters d ks (b ∷ u)
 unfolding after_step
-after_sound [] d b s u e c = (let i = if_some (is_space b) (record { at = After; kinds = []; room = d }) s e in after_space d [] b u i.0 (subst (λ (w : State). Completes w.at w.room w.kinds u) (sym i.1) c))
+after_sound [] d b s u e c = (let i = cond_some (is_space b) (record { at = After; kinds = []; room = d }) s e in after_space d [] b u i.0 (subst (λ (w : State). Completes w.at w.room w.kinds u) (sym i.1) c))
 after_sound (k ∷ ks) d b s u e c = elim (chosen (is_space b) (go_to After (k ∷ ks) d) _ (Some s) e) [
   | inl h ↦ after_space d (k ∷ ks) b u h.0 (goes After (k ∷ ks) d s u h.1 c)
   | inr h ↦ elim (chosen (eqb b 44) (go_to Part (k ∷ ks) d) _ (Some s) h.1) [
     | inl i ↦ (let at : b ≡ 44 = eqb-true b 44 i.0 in subst (λ (x : ℕ). Afters d (k ∷ ks) (x ∷ u)) (sym at) (spaced_comma d k ks u (goes Part (k ∷ ks) d s u i.1 c)))
-    | inr i ↦ (let j = if_some (eqb b (close_of k)) (record { at = After; kinds = ks; room = suc d }) s i.1 in let at : b ≡ close_of k = eqb-true b (close_of k) j.0 in
+    | inr i ↦ (let j = cond_some (eqb b (close_of k)) (record { at = After; kinds = ks; room = suc d }) s i.1 in let at : b ≡ close_of k = eqb-true b (close_of k) j.0 in
         subst (λ (x : ℕ). Afters d (k ∷ ks) (x ∷ u)) (sym at) (after_close d k ks [] u tt (subst (λ (w : State). Completes w.at w.room w.kinds u) (sym j.1) c)))
   ]
 ]
 
-pub push_sound : (k : Kind) (ks : List Kind) (d : ℕ) (s : State) (u : List ℕ) → push k ks d ≡ Some s → Completes s.at s.room s.kinds u → Values d ks (open_of k ∷ u)
+push_sound : (k : Kind) (ks : List Kind) (d : ℕ) (s : State) (u : List ℕ) → push k ks d ≡ Some s → Completes s.at s.room s.kinds u → Values d ks (open_of k ∷ u)
 unfolding push
 push_sound k ks zero s u e c = absurd cc
 push_sound k ks (suc d) s u e c =
     let f = goes Fresh (k ∷ ks) d s u e c in
     subst (λ (x : List ℕ). Values (suc d) ks (open_of k ∷ x)) (sym f.whole) (value_open d k ks f.sp f.v f.each f.is)
 
-pub number_made : (sign integer x : List ℕ) → Optional is_minus sign → Integer integer → (r : Then Fraction Exponent x) → IsNumber (sign ++ (integer ++ x))
+number_made : (sign integer x : List ℕ) → Optional is_minus sign → Integer integer → (r : Then Fraction Exponent x) → IsNumber (sign ++ (integer ++ x))
 number_made sign integer x s w r = record { sign = sign; integer = integer; fraction = r.x; exponent = r.v; is_sign = s; is_integer = w; is_fraction = r.first; is_exponent = r.then; whole = ap (λ (y : List ℕ). sign ++ (integer ++ y)) r.whole }
 
 -- a scalar in front of what follows it
-pub scalar_then : (d : ℕ) (ks : List Kind) (b : ℕ) (x v u : List ℕ) → Scalar (b ∷ x) → Afters d ks v → u ≡ x ++ v → Values d ks (b ∷ u)
+scalar_then : (d : ℕ) (ks : List Kind) (b : ℕ) (x v u : List ℕ) → Scalar (b ∷ x) → Afters d ks v → u ≡ x ++ v → Values d ks (b ∷ u)
 scalar_then d ks b x v u is then whole = (b ∷ x, v, scalar_value d (b ∷ x) is, then, ap (λ (y : List ℕ). b ∷ y) whole)
 
-pub letters_then : (d : ℕ) (ks : List Kind) (b : ℕ) (l : LiteralAt) (u : List ℕ) → Scalar (b ∷ letters_of l) → Completes (Literal l) d ks u → Values d ks (b ∷ u)
+letters_then : (d : ℕ) (ks : List Kind) (b : ℕ) (l : LiteralAt) (u : List ℕ) → Scalar (b ∷ letters_of l) → Completes (Literal l) d ks u → Values d ks (b ∷ u)
 letters_then d ks b l u is c = scalar_then d ks b (letters_of l) c.v u is c.then (c.whole ∙ ap (λ (y : List ℕ). y ++ c.v) c.first)
 
-pub at_byte : (P : List ℕ → Type 0) (b a : ℕ) (u : List ℕ) → eqb b a ≡ true → P (a ∷ u) → P (b ∷ u)
+at_byte : (P : List ℕ → Type 0) (b a : ℕ) (u : List ℕ) → eqb b a ≡ true → P (a ∷ u) → P (b ∷ u)
 at_byte P b a u e p = subst (λ (x : ℕ). P (x ∷ u)) (sym (eqb-true b a e)) p
 
 -- a scalar whose first byte leads to a state
-pub begun : (at : At) (d : ℕ) (ks : List Kind) (b : ℕ) (u : List ℕ) → scalar_begin b ≡ Some at → Completes at d ks u → Values d ks (b ∷ u)
+begun : (at : At) (d : ℕ) (ks : List Kind) (b : ℕ) (u : List ℕ) → scalar_begin b ≡ Some at → Completes at d ks u → Values d ks (b ∷ u)
 unfolding scalar_begin
 begun at d ks b u e c = elim (chosen (eqb b 34) (Some (Text Item Plain)) _ (Some at) e) [
   | inl h ↦ at_byte (Values d ks) b 34 u h.0 (let q : Completes (Text Item Plain) d ks u = subst (λ (x : At). Completes x d ks u) (sym (some_is (Text Item Plain) at h.1)) c in
@@ -134,7 +136,7 @@ begun at d ks b u e c = elim (chosen (eqb b 34) (Some (Text Item Plain)) _ (Some
           | inl m ↦ at_byte (Values d ks) b 102 u m.0 (letters_then d ks 102 Alse u false_text (subst (λ (x : At). Completes x d ks u) (sym (some_is (Literal Alse) at m.1)) c))
           | inr m ↦ elim (chosen (eqb b 110) (Some (Literal Ull)) _ (Some at) m.1) [
             | inl n ↦ at_byte (Values d ks) b 110 u n.0 (letters_then d ks 110 Ull u null_text (subst (λ (x : At). Completes x d ks u) (sym (some_is (Literal Ull) at n.1)) c))
-            | inr n ↦ (let k = if_some (is_digit b) (Number InInteger) at n.1 in let q : Completes (Number InInteger) d ks u = subst (λ (x : At). Completes x d ks u) (sym k.1) c in
+            | inr n ↦ (let k = cond_some (is_digit b) (Number InInteger) at n.1 in let q : Completes (Number InInteger) d ks u = subst (λ (x : At). Completes x d ks u) (sym k.1) c in
                 scalar_then d ks b q.x q.v u (number_text (subst (λ (y : List ℕ). IsNumber (b ∷ y)) (sym q.first.whole) (number_made [] (b ∷ q.first.x) q.first.v absent (no_zero_first k.0 (λ same. absurd (let f = j.0 in cc)) q.first.first) q.first.then))) q.then q.whole)
           ]
         ]
@@ -143,10 +145,10 @@ begun at d ks b u e c = elim (chosen (eqb b 34) (Some (Text Item Plain)) _ (Some
   ]
 ]
 
-pub scalar_sound : (ks : List Kind) (d b : ℕ) (s : State) (u : List ℕ) → (scalar_begin b >>= λ at. go_to at ks d) ≡ Some s → Completes s.at s.room s.kinds u → Values d ks (b ∷ u)
+scalar_sound : (ks : List Kind) (d b : ℕ) (s : State) (u : List ℕ) → (scalar_begin b >>= λ at. go_to at ks d) ≡ Some s → Completes s.at s.room s.kinds u → Values d ks (b ∷ u)
 scalar_sound ks d b s u e c = let t = bind_some (scalar_begin b) (λ at. go_to at ks d) s e in begun t.0 d ks b u t.1 (goes t.0 ks d s u t.2 c)
 
-pub value_sound : (ks : List Kind) (d b : ℕ) (s : State) (u : List ℕ) → value_begin ks d b ≡ Some s → Completes s.at s.room s.kinds u → Values d ks (b ∷ u)
+value_sound : (ks : List Kind) (d b : ℕ) (s : State) (u : List ℕ) → value_begin ks d b ≡ Some s → Completes s.at s.room s.kinds u → Values d ks (b ∷ u)
 unfolding value_begin
 value_sound ks d b s u e c = elim (chosen (eqb b 91) (push Array ks d) _ (Some s) e) [
   | inl h ↦ at_byte (Values d ks) b 91 u h.0 (push_sound Array ks d s u h.1 c)
@@ -156,7 +158,7 @@ value_sound ks d b s u e c = elim (chosen (eqb b 91) (push Array ks d) _ (Some s
   ]
 ]
 
-pub colon_made : (d : ℕ) (ks : List Kind) (u : List ℕ) → Colons d ks u → (middle w : List ℕ) × IsColon middle × Values d ks w × (u ≡ middle ++ w)
+colon_made : (d : ℕ) (ks : List Kind) (u : List ℕ) → Colons d ks u → (middle w : List ℕ) × IsColon middle × Values d ks w × (u ≡ middle ++ w)
 colon_made d ks u c =
     let b = c.is in
     let t = b.then in (
@@ -167,12 +169,12 @@ colon_made d ks u c =
       c.whole ∙ ap (λ (y : List ℕ). c.sp ++ y) (b.whole ∙ ap (λ (y : List ℕ). 58 ∷ y) t.whole) ∙ sym (append_assoc c.sp (58 ∷ t.sp) t.v),
     )
 
-pub part_sound : (ks : List Kind) (d b : ℕ) (s : State) (u : List ℕ) → part_begin ks d b ≡ Some s → Completes s.at s.room s.kinds u → Parts d ks (b ∷ u)
+part_sound : (ks : List Kind) (d b : ℕ) (s : State) (u : List ℕ) → part_begin ks d b ≡ Some s → Completes s.at s.room s.kinds u → Parts d ks (b ∷ u)
 unfolding part_begin
 part_sound [] d b s u e c = absurd cc
 part_sound (Array ∷ ks) d b s u e c = ([], [], b ∷ u, (refl, refl), value_sound (Array ∷ ks) d b s u e c, refl)
 part_sound (Object ∷ ks) d b s u e c =
-    let i = if_some (eqb b 34) (record { at = Text Key Plain; kinds = Object ∷ ks; room = d }) s e in
+    let i = cond_some (eqb b 34) (record { at = Text Key Plain; kinds = Object ∷ ks; room = d }) s e in
     let q : Completes (Text Key Plain) d (Object ∷ ks) u = subst (λ (w : State). Completes w.at w.room w.kinds u) (sym i.1) c in
     let m = colon_made d (Object ∷ ks) q.then.v q.then.then in
     at_byte (Parts d (Object ∷ ks)) b 34 u i.0 (
@@ -184,7 +186,7 @@ part_sound (Object ∷ ks) d b s u e c =
       ap (λ (y : List ℕ). 34 ∷ y) (q.whole ∙ ap (λ (y : List ℕ). q.x ++ y) (q.then.whole ∙ ap (λ (y : List ℕ). 34 ∷ y) m.4) ∙ sym (append_assoc q.x (34 ∷ []) (m.0 ++ m.1))),
     )
 
-pub fresh_sound : (ks : List Kind) (d b : ℕ) (s : State) (u : List ℕ) → fresh_step ks d b ≡ Some s → Completes s.at s.room s.kinds u → Freshes d ks (b ∷ u)
+fresh_sound : (ks : List Kind) (d b : ℕ) (s : State) (u : List ℕ) → fresh_step ks d b ≡ Some s → Completes s.at s.room s.kinds u → Freshes d ks (b ∷ u)
 unfolding fresh_step
 fresh_sound [] d b s u e c = absurd cc
 fresh_sound (k ∷ ks) d b s u e c = elim (chosen (eqb b (close_of k)) (go_to After ks (suc d)) _ (Some s) e) [
@@ -192,7 +194,7 @@ fresh_sound (k ∷ ks) d b s u e c = elim (chosen (eqb b (close_of k)) (go_to Af
   | inr h ↦ inr (part_sound (k ∷ ks) d b s u h.1 c)
 ]
 
-pub number_goes_sound : (n : NumberAt) (ks : List Kind) (d b : ℕ) (o : Option NumberAt) (s : State) (u : List ℕ) → number_step n b ≡ o → number_goes n ks d b o ≡ Some s → Completes s.at s.room s.kinds u → Then (NumRest n) (Afters d ks) (b ∷ u)
+number_goes_sound : (n : NumberAt) (ks : List Kind) (d b : ℕ) (o : Option NumberAt) (s : State) (u : List ℕ) → number_step n b ≡ o → number_goes n ks d b o ≡ Some s → Completes s.at s.room s.kinds u → Then (NumRest n) (Afters d ks) (b ∷ u)
 number_goes_sound n ks d b (Some m) s u at e c = (let q = goes (Number m) ks d s u e c in record { x = b ∷ q.x; v = q.v; first = num_sound n m b q.x at q.first; then = q.then; whole = ap (λ (y : List ℕ). b ∷ y) q.whole })
 number_goes_sound n ks d b None s u at e c = elim (chosen (may_end n) (after_step ks d b) None (Some s) e) [
   | inl h ↦ record { x = []; v = b ∷ u; first = num_ended n h.0; then = after_sound ks d b s u h.1 c; whole = refl }
@@ -204,7 +206,7 @@ abbrev letters_behind : Option LiteralAt → List ℕ
 letters_behind None = []
 letters_behind (Some l) = letters_of l
 
-pub letters_are : (l : LiteralAt) → letters_of l ≡ letter l ∷ letters_behind (next_letters l)
+letters_are : (l : LiteralAt) → letters_of l ≡ letter l ∷ letters_behind (next_letters l)
 letters_are Rue = refl
 letters_are Ue = refl
 letters_are Alse = refl
@@ -219,14 +221,14 @@ letters_gone : (o : Option LiteralAt) (ks : List Kind) (d : ℕ) (s : State) (u 
 letters_gone None ks d s u e c = record { x = []; v = u; first = refl; then = goes After ks d s u e c; whole = refl }
 letters_gone (Some l) ks d s u e c = goes (Literal l) ks d s u e c
 
-pub literal_sound : (l : LiteralAt) (ks : List Kind) (d b : ℕ) (s : State) (u : List ℕ) → literal_step l ks d b ≡ Some s → Completes s.at s.room s.kinds u → Completes (Literal l) d ks (b ∷ u)
+literal_sound : (l : LiteralAt) (ks : List Kind) (d b : ℕ) (s : State) (u : List ℕ) → literal_step l ks d b ≡ Some s → Completes s.at s.room s.kinds u → Completes (Literal l) d ks (b ∷ u)
 literal_sound l ks d b s u e c = elim (chosen (eqb b (letter l)) (literal_goes (next_letters l) ks d) None (Some s) e) [
   | inl h ↦ (let q = letters_gone (next_letters l) ks d s u h.1 c in
       record { x = letter l ∷ q.x; v = q.v; first = ap (λ (z : List ℕ). letter l ∷ z) q.first ∙ sym (letters_are l); then = q.then; whole = ap (λ (z : ℕ). z ∷ u) (eqb-true b (letter l) h.0) ∙ ap (λ (z : List ℕ). letter l ∷ z) q.whole })
   | inr h ↦ absurd cc
 ]
 
-pub closing_goes : (role : Role) (d : ℕ) (ks : List Kind) (s : State) (u : List ℕ) → go_to (behind role) ks d ≡ Some s → Completes s.at s.room s.kinds u → Closing role d ks u
+closing_goes : (role : Role) (d : ℕ) (ks : List Kind) (s : State) (u : List ℕ) → go_to (behind role) ks d ≡ Some s → Completes s.at s.room s.kinds u → Closing role d ks u
 closing_goes Key d ks s u e c = goes Colon ks d s u e c
 closing_goes Item d ks s u e c = goes After ks d s u e c
 
@@ -249,7 +251,7 @@ unfolding begin_step
 begin_sound Fresh ks d b s u e c = fresh_sound ks d b s u e c
 begin_sound Part ks d b s u e c = part_sound ks d b s u e c
 begin_sound Value ks d b s u e c = value_sound ks d b s u e c
-begin_sound Colon ks d b s u e c = let i = if_some (eqb b 58) (record { at = Value; kinds = ks; room = d }) s e in
+begin_sound Colon ks d b s u e c = let i = cond_some (eqb b 58) (record { at = Value; kinds = ks; room = d }) s e in
     record { v = u; then = subst (λ (w : State). Completes w.at w.room w.kinds u) (sym i.1) c; whole = ap (λ (z : ℕ). z ∷ u) (eqb-true b 58 i.0) }
 begin_sound (Begin k) ks d b s u e c = elim (chosen (eqb b (open_of k)) (push k ks d) None (Some s) e) [
   | inl h ↦ at_byte (Opens k d ks) b (open_of k) u h.0 (open_sound k ks d s u h.1 c)
@@ -260,6 +262,7 @@ begin_sound (Text role a) ks d b s u e c = absurd cc
 begin_sound (Number n) ks d b s u e c = absurd cc
 begin_sound (Literal l) ks d b s u e c = absurd cc
 
+-- What completes a text behind a byte completes it before the byte.
 pub step_sound : (at : At) (ks : List Kind) (d b : ℕ) (s : State) (u : List ℕ) → step at ks d b ≡ Some s → Completes s.at s.room s.kinds u → Completes at d ks (b ∷ u)
 unfolding step
 step_sound Fresh ks d b s u e c = elim (chosen (is_space b) (go_to Fresh ks d) _ (Some s) e) [

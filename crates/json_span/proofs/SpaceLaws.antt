@@ -71,11 +71,13 @@ same_answer (Some x) q f g = sym (f x refl)
 same_answer None None f g = refl
 same_answer None (Some x) f g = g x refl
 
+-- White space at the ends of an object changes no member.
 pub members_spaced : (a b text : List ℕ) → Each is_space a → Each is_space b → members_of (a ++ (text ++ b)) ≡ members_of text
 members_spaced a b text ea eb = same_answer (members_of (a ++ (text ++ b))) (members_of text)
     (λ parts e. let h = members_found (a ++ (text ++ b)) parts e in let l = less Object a b text h.0 h.1 ea eb h.2 in members_taken text parts (l.0, h.1, l.1, h.3))
     (λ parts e. let h = members_found text parts e in members_taken (a ++ (text ++ b)) parts (a ++ h.0, h.1, spaced Object a b text h.0 h.1 ea eb h.2, h.3))
 
+-- White space at the ends of an array changes no element.
 pub elements_spaced : (a b text : List ℕ) → Each is_space a → Each is_space b → elements_of (a ++ (text ++ b)) ≡ elements_of text
 elements_spaced a b text ea eb = same_answer (elements_of (a ++ (text ++ b))) (elements_of text)
     (λ parts e. let h = elements_found (a ++ (text ++ b)) parts e in let l = less Array a b text h.0 h.1 ea eb h.2 in elements_taken text parts (l.0, h.1, l.1, h.3))

@@ -12,7 +12,7 @@ use Rattle.json_span.specs.declared.marks.Marks.{Marks}
 use Rattle.json_span.specs.declared.state.Kind.{Kind}
 use Rattle.json_span.specs.declared.state.Kind.TheVariants.{Array, Object}
 use Rattle.json_span.specs.declared.state.At.TheVariants.{Begin, Fresh, After}
-use Rattle.json_span.proofs.BasicLaws.{bind_some, some_is, bind_twice}
+use Rattle.json_span.proofs.BasicLaws.{bind_some, some_is, bind_twice, map_some}
 use Rattle.json_span.proofs.TakenLaws.{Takes, S, place_of, takes_on, takes_spaces, after_self, begin_self}
 use Rattle.json_span.proofs.TakenLists.{value_starts, piece_marks, placed, top_inside}
 use Rattle.json_span.proofs.ViableLaws.{viable, run_split}
@@ -105,10 +105,6 @@ split_taken k text ms (front, pieces, s, e) = splits_taken k text front pieces s
 
 -- ---- what is read to its end has a split
 
-map_some : (o : Option (List Member)) (f : List Member → List Member) (y : List Member) → option_map f o ≡ Some y → (x : List Member) × (o ≡ Some x)
-map_some None f y e = absurd cc
-map_some (Some x) f y e = (x, refl)
-
 -- the first step of a reading to the end, and what the rest gives
 record FirstStep (n : ℕ) (s : State) (b : ℕ) (bs : List ℕ) : Type 0 where
   t : State
@@ -125,7 +121,7 @@ first_step n b bs s m out e =
     let w = within s.at s.kinds in
     let t = bind_some (step s.at s.kinds s.room b) (λ x. option_map (also (finished p q w (within x.at x.kinds) m)) (read n x (marked p q w (within x.at x.kinds) m) bs)) out e in
     let v = within t.0.at t.0.kinds in
-    let more = map_some (read n t.0 (marked p q w v m) bs) (also (finished p q w v m)) out t.2 in
+    let more = map_some (also (finished p q w v m)) (read n t.0 (marked p q w v m) bs) out t.2 in
     record { t = t.0; m = marked p q w v m; rest = more.0; is = t.1; reads = more.1 }
 
 run_on : (s t u : State) (b : ℕ) (bs : List ℕ) → step s.at s.kinds s.room b ≡ Some t → run t bs ≡ Some u → run s (b ∷ bs) ≡ Some u
@@ -182,5 +178,6 @@ refused k text place s = record {
   longest = λ lt front. no_front k (take (place + 1) text) (s.stuck lt) front;
 }
 
+-- An array has at most one split.
 pub array_one : (text : List ℕ) (a b : List Span) → IsArray text a → IsArray text b → a ≡ b
 array_one text a b (ma, sa, ea) (mb, sb, eb) = ea ∙ ap (map (λ (m : Member). m.value)) (split_one Array text ma mb sa sb) ∙ sym eb

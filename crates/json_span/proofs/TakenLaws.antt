@@ -18,6 +18,7 @@ use Rattle.json_span.specs.declared.state.At.TheVariants.{Begin, Fresh, Part, Co
 pub record Takes (n : ℕ) (s : State) (m : Marks) (u : List ℕ) (out : List Member) : Type 0 where
   pub is : read n s m u ≡ Some out
 
+-- a state by its parts
 abbrev pub S : At → List Kind → ℕ → State
 S at ks d = record { at = at; kinds = ks; room = d }
 
@@ -27,6 +28,7 @@ place_of n u = n - length u
 
 -- ---- one byte
 
+-- What is read from a state is what is read behind one more byte.
 pub step_read : (n : ℕ) (s t : State) (m : Marks) (b : ℕ) (u : List ℕ) → step s.at s.kinds s.room b ≡ Some t
     → read n s m (b ∷ u) ≡ option_map (also (finished (place_of n (b ∷ u)) (place_of n u) (within s.at s.kinds) (within t.at t.kinds) m)) (read n t (marked (place_of n (b ∷ u)) (place_of n u) (within s.at s.kinds) (within t.at t.kinds) m) u)
 unfolding read
@@ -138,33 +140,41 @@ takes_end n at ks0 ks d d2 b m u out e w a =
 
 -- ---- white space
 
+-- White space is passed where a state stays at it.
 pub takes_spaces : (n : ℕ) (at : At) (ks : List Kind) (d : ℕ) → ((b : ℕ) → is_space b ≡ true → step at ks d b ≡ go_to at ks d) → (sp v : List ℕ) (m : Marks) (out : List Member) → Each is_space sp → Takes n (S at ks d) m v out → Takes n (S at ks d) m (sp ++ v) out
 takes_spaces n at ks d self [] v m out each a = a
 takes_spaces n at ks d self (b ∷ bs) v m out each a = takes_on n at ks d b (S at ks d) m (bs ++ v) out (self b each.0) refl (takes_spaces n at ks d self bs v m out each.1 a)
 
+-- White space changes nothing where it may stand.
 pub spaced_self : (at : At) (ks : List Kind) (d b : ℕ) → is_space b ≡ true → spaced_step at ks d b ≡ go_to at ks d
 spaced_self at ks d b t = rw t refl
 
+-- White space behind an opening bracket changes nothing.
 pub fresh_self : (ks : List Kind) (d b : ℕ) → is_space b ≡ true → step Fresh ks d b ≡ go_to Fresh ks d
 unfolding step
 fresh_self ks d b t = spaced_self Fresh ks d b t
 
+-- White space before a part changes nothing.
 pub part_self : (ks : List Kind) (d b : ℕ) → is_space b ≡ true → step Part ks d b ≡ go_to Part ks d
 unfolding step
 part_self ks d b t = spaced_self Part ks d b t
 
+-- White space before a value changes nothing.
 pub value_self : (ks : List Kind) (d b : ℕ) → is_space b ≡ true → step Value ks d b ≡ go_to Value ks d
 unfolding step
 value_self ks d b t = spaced_self Value ks d b t
 
+-- White space before a colon changes nothing.
 pub colon_self : (ks : List Kind) (d b : ℕ) → is_space b ≡ true → step Colon ks d b ≡ go_to Colon ks d
 unfolding step
 colon_self ks d b t = spaced_self Colon ks d b t
 
+-- White space behind a value changes nothing.
 pub after_self : (ks : List Kind) (d b : ℕ) → is_space b ≡ true → step After ks d b ≡ go_to After ks d
 unfolding step after_step
 after_self ks d b t = rw t refl
 
+-- White space before the outermost bracket changes nothing.
 pub begin_self : (k : Kind) (d b : ℕ) → is_space b ≡ true → step (Begin k) [] d b ≡ go_to (Begin k) [] d
 unfolding step
 begin_self k d b t = spaced_self (Begin k) [] d b t

@@ -211,7 +211,7 @@ takes_colon n ks d m middle u out c s =
     (takes_on n Colon ks d 58 (S Value ks d) m (c.after ++ u) out (colon_on ks d) refl (takes_spaces n Value ks d (value_self ks d) c.after u m out c.is_after (takes_value n ks d m u out s))))
 
 -- the marks where a part's value has begun: where its name began and ended, and where the value began
-abbrev pub part_marks : Kind → List Kind → ℕ → ℕ → ℕ → Marks → Marks
+abbrev part_marks : Kind → List Kind → ℕ → ℕ → ℕ → Marks → Marks
 part_marks Array ks p q r m = begun ks r m
 part_marks Object ks p q r m = begun ks r (after_name ks q (begun ks p m))
 
@@ -327,6 +327,7 @@ list_start n d ih Object a is l ks m v out acc =
     moved n (l ∷ ks) (suc d) m (a ++ v) (123 ∷ (is.inner ++ 125 ∷ v)) (ended (l ∷ ks) m (place_of n v) out) (ap (λ (x : List ℕ). x ++ v) is.whole ∙ ap (λ (x : List ℕ). 123 ∷ x) (append_assoc is.inner (125 ∷ []) v))
     (record { b = 123; bs = is.inner ++ 125 ∷ v; at = refl; no_space = refl; no_array = refl; no_object = refl; t = S Fresh (Object ∷ l ∷ ks) d; is = list_begins Object (l ∷ ks) d; part = in_value refl; acc = deep_inside n d ih Object l ks v m out acc is.inner is.pieces is.inside })
 
+-- A value text is passed from its first byte on.
 pub value_starts : (n d : ℕ) → ValueStarts n d
 value_starts n zero a is k ks m v out tail acc = scalar_start n (k ∷ ks) zero m a v out is tail acc
 value_starts n (suc d) a (inl is) k ks m v out tail acc = scalar_start n (k ∷ ks) (suc d) m a v out is tail acc
@@ -351,6 +352,7 @@ top_tail n d ih k v acc (p ∷ ps) sp each all =
     (takes_on n After (k ∷ []) d 44 (S Part (k ∷ []) d) no_marks ((piece_text p ++ commas ps) ++ close_of k ∷ v) (placed n k (p ∷ ps) (close_of k ∷ v)) (after_goes_on k [] d) refl
     (takes_piece n Part opening_part d ih k [] p ps v no_marks (placed n k ps (close_of k ∷ v)) all.0 (top_tail n d ih k v acc ps p.after all.0.after all.1)))
 
+-- What stands between the outermost brackets is read to its pieces.
 pub top_inside : (n d : ℕ) → ValueStarts n d → (k : Kind) (v : List ℕ) → Takes n (S After [] (suc d)) no_marks v []
     → (inner : List ℕ) (ps : List Piece) → Inside k (ValueWithin d) inner ps → Takes n (S Fresh (k ∷ []) d) no_marks (inner ++ close_of k ∷ v) (placed n k ps (close_of k ∷ v))
 top_inside n d ih k v acc inner [] is =

@@ -15,7 +15,8 @@ use Rattle.json_span.specs.declared.state.NumberAt.{NumberAt}
 use Rattle.json_span.specs.declared.state.NumberAt.TheVariants.{AfterMinus, AfterZero, InInteger, AfterPoint, InFraction, AfterE, AfterSign, InExponent}
 use Rattle.json_span.specs.declared.state.At.{At}
 use Rattle.json_span.specs.declared.state.At.TheVariants.{Part, After, Number}
-use Rattle.json_span.proofs.BasicLaws.{some_is, if_some, chosen, not_true}
+use Rattle.std.proofs.lemmas.Option.{cond_some}
+use Rattle.json_span.proofs.BasicLaws.{some_is, chosen, not_true}
 use Rattle.json_span.proofs.TakenLaws.{Takes, S, place_of, step_read, takes_event, takes_on, settled, ended}
 
 -- ---- what follows a number
@@ -55,12 +56,12 @@ num_stops InExponent c e p q r = rw p refl
 -- behind a value of the outermost list no byte leads into a part
 after_outside : (ks : List Kind) (d b : ℕ) (t : State) → is_deep ks ≡ false → after_step ks d b ≡ Some t → within t.at t.kinds ≡ Outside
 unfolding after_step
-after_outside [] d b t flat e = let i = if_some (is_space b) (S After [] d) t e in sym (ap (λ (x : State). within x.at x.kinds) i.1)
+after_outside [] d b t flat e = let i = cond_some (is_space b) (S After [] d) t e in sym (ap (λ (x : State). within x.at x.kinds) i.1)
 after_outside (k ∷ []) d b t flat e = elim (chosen (is_space b) (go_to After (k ∷ []) d) _ (Some t) e) [
   | inl h ↦ sym (ap (λ (x : State). within x.at x.kinds) (some_is (S After (k ∷ []) d) t h.1))
   | inr h ↦ elim (chosen (eqb b 44) (go_to Part (k ∷ []) d) _ (Some t) h.1) [
     | inl i ↦ sym (ap (λ (x : State). within x.at x.kinds) (some_is (S Part (k ∷ []) d) t i.1))
-    | inr i ↦ (let j = if_some (eqb b (close_of k)) (S After [] (suc d)) t i.1 in sym (ap (λ (x : State). within x.at x.kinds) j.1))
+    | inr i ↦ (let j = cond_some (eqb b (close_of k)) (S After [] (suc d)) t i.1 in sym (ap (λ (x : State). within x.at x.kinds) j.1))
   ]
 ]
 after_outside (k ∷ l ∷ ks) d b t flat e = absurd cc
@@ -80,7 +81,8 @@ on_of n at ks d m b u out a = go (step at ks d b) refl a.is
     go None e r = absurd cc
     go (Some t) e r = record { t = t; is = e; reads = r }
 
-whole_of : (o : Option (List Member)) → option_map (also None) o ≡ o
+-- Nothing in front of parts leaves them.
+pub whole_of : (o : Option (List Member)) → option_map (also None) o ≡ o
 whole_of None = refl
 whole_of (Some x) = refl
 
@@ -215,9 +217,11 @@ takes_fraction n num ks d m out e dot go x y v (point_digits {t} ds) p here = ta
         takes_on n (Number AfterPoint) ks d b (S (Number InFraction) ks d) m (u ++ (y ++ v)) out (num_on AfterPoint InFraction ks d b (dot_digit b is)) refl
         (takes_digits n InFraction ks d m out frac_self u (y ++ v) each (takes_exponent n InFraction ks d m out refl frac_power y v p here))
 
+-- What follows a number's zero is passed.
 pub takes_zero : (n : ℕ) (ks : List Kind) (d : ℕ) (m : Marks) (out : List Member) (f e v : List ℕ) → Fraction f → Exponent e → EndsHere n ks d m v out → Takes n (S (Number AfterZero) ks d) m (f ++ (e ++ v)) out
 takes_zero n ks d m out f e v fr po here = takes_fraction n AfterZero ks d m out refl zero_dot zero_power f e v fr po here
 
+-- The rest of a number's integer is passed.
 pub takes_integer : (n : ℕ) (ks : List Kind) (d : ℕ) (m : Marks) (out : List Member) (x f e v : List ℕ) → Each is_digit x → Fraction f → Exponent e → EndsHere n ks d m v out → Takes n (S (Number InInteger) ks d) m (x ++ (f ++ (e ++ v))) out
 takes_integer n ks d m out x f e v each fr po here = takes_digits n InInteger ks d m out int_self x (f ++ (e ++ v)) each (takes_fraction n InInteger ks d m out refl int_dot int_power f e v fr po here)
 
@@ -229,6 +233,7 @@ minus_digit : (b : ℕ) → is_digit b ≡ true → eqb b 48 ≡ false → numbe
 unfolding number_step
 minus_digit b t z = rw (z, t) refl
 
+-- What follows a number's minus is passed.
 pub takes_minus : (n : ℕ) (ks : List Kind) (d : ℕ) (m : Marks) (out : List Member) (i f e v : List ℕ) → Integer i → Fraction f → Exponent e → EndsHere n ks d m v out → Takes n (S (Number AfterMinus) ks d) m (i ++ (f ++ (e ++ v))) out
 takes_minus n ks d m out i f e v zero_digit fr po here = takes_on n (Number AfterMinus) ks d 48 (S (Number AfterZero) ks d) m (f ++ (e ++ v)) out (num_on AfterMinus AfterZero ks d 48 minus_zero) refl (takes_zero n ks d m out f e v fr po here)
 takes_minus n ks d m out i f e v (no_zero_first {b} {t} is ne each) fr po here =

@@ -63,6 +63,7 @@ u_on : string_step Escaped 117 ≡ Some Four
 unfolding string_step
 u_on = refl
 
+-- The characters of a string are passed.
 pub takes_chars : (n : ℕ) (role : Role) (ks : List Kind) (d : ℕ) (x v : List ℕ) (m : Marks) (out : List Member) → Chars x → Takes n (S (Text role Plain) ks d) m (34 ∷ v) out → Takes n (S (Text role Plain) ks d) m (x ++ 34 ∷ v) out
 takes_chars n role ks d x v m out no_chars acc = acc
 takes_chars n role ks d x v m out (plain_char {b} {t} is more) acc = takes_char n role Plain Plain ks d b m (t ++ 34 ∷ v) out (plain_test b is).0 (plain_step b is) (takes_chars n role ks d t v m out more acc)
@@ -83,6 +84,7 @@ quote_on : (role : Role) (ks : List Kind) (d : ℕ) → step (Text role Plain) k
 unfolding step
 quote_on role ks d = refl
 
+-- A value is one at each depth.
 pub both_value : (deep : Bool) → cond deep InValue InValue ≡ InValue
 both_value true = refl
 both_value false = refl
@@ -109,8 +111,10 @@ literal_on : (l : LiteralAt) (ks : List Kind) (d : ℕ) → step (Literal l) ks 
 unfolding step
 literal_on l ks d = let e = same_eqb (letter l) in rw e refl
 
+-- A letter of a literal is passed.
 pub takes_letter : (n : ℕ) (l l2 : LiteralAt) (ks : List Kind) (d : ℕ) (m : Marks) (u : List ℕ) (out : List Member) → next_letters l ≡ Some l2 → Takes n (S (Literal l2) ks d) m u out → Takes n (S (Literal l) ks d) m (letter l ∷ u) out
 takes_letter n l l2 ks d m u out e a = takes_on n (Literal l) ks d (letter l) (S (Literal l2) ks d) m u out (literal_on l ks d ∙ ap (λ (o : Option LiteralAt). literal_goes o ks d) e) refl a
 
+-- The last letter of a literal is passed.
 pub takes_last : (n : ℕ) (l : LiteralAt) (ks : List Kind) (d : ℕ) (m : Marks) (v : List ℕ) (out : List Member) → next_letters l ≡ None → Takes n (S After ks d) (settled ks m) v out → Takes n (S (Literal l) ks d) m (letter l ∷ v) (ended ks m (place_of n v) out)
 takes_last n l ks d m v out e a = takes_end n (Literal l) ks ks d d (letter l) m v out (literal_on l ks d ∙ ap (λ (o : Option LiteralAt). literal_goes o ks d) e) (both_value (is_deep ks)) a

@@ -109,8 +109,10 @@ elements_split text front [] u s = All-nil IsUtf8
 elements_split text front (p ∷ ps) u s = elements_walk text (93 ∷ s.last) u (close_head Array s.last) ps p (front ++ 91 ∷ []) s.inside.0 s.inside.1
     (s.whole ∙ ap (λ (x : List ℕ). (front ++ 91 ∷ x) ++ 93 ∷ s.last) s.inside.2 ∙ opened_grouped front (piece_text p ++ commas ps) (93 ∷ s.last) 91)
 
+-- The members of a UTF-8 text are UTF-8.
 pub members_utf8 : (text : List ℕ) (parts : List (List ℕ × List ℕ)) → IsUtf8 text → members_of text ≡ Some parts → All BothUtf8 parts
 members_utf8 text parts u e = let h = members_found text parts e in subst (All BothUtf8) (sym h.3) (members_split text h.0 h.1 u h.2)
 
+-- The elements of a UTF-8 text are UTF-8.
 pub elements_utf8 : (text : List ℕ) (parts : List (List ℕ)) → IsUtf8 text → elements_of text ≡ Some parts → All IsUtf8 parts
 elements_utf8 text parts u e = let h = elements_found text parts e in subst (All IsUtf8) (sym h.3) (elements_split text h.0 h.1 u h.2)

@@ -14,15 +14,19 @@ within_scalar : (d : ℕ) (t : List ℕ) → Scalar t → ValueWithin d t
 within_scalar zero t is = is
 within_scalar (suc d) t is = inl is
 
+-- A scalar is a value text of each depth.
 pub scalar_is : (d : ℕ) (t : List ℕ) → Scalar t → IsValueText d t
 scalar_is d t is = record { within = within_scalar d t is }
 
+-- A string is a value text of each depth.
 pub string_is : (d : ℕ) (t : List ℕ) → IsString t → IsValueText d t
 string_is d t is = scalar_is d t (string_text is)
 
+-- Characters between quotes are a string.
 pub quoted_is : (inner : List ℕ) → Chars inner → IsString (34 ∷ inner ++ 34 ∷ [])
 quoted_is inner is = record { inner = inner; chars = is; whole = refl }
 
+-- Characters behind characters are characters.
 pub chars_joined : (a b : List ℕ) → Chars a → Chars b → Chars (a ++ b)
 chars_joined a b no_chars more = more
 chars_joined a b (plain_char {t} e is) more = plain_char e (chars_joined t b is more)
@@ -72,6 +76,7 @@ whole_decimal (suc n) lt =
 integer_number : (t : List ℕ) → Integer t → IsNumber t
 integer_number t is = record { sign = []; integer = t; fraction = []; exponent = []; is_sign = absent; is_integer = is; is_fraction = no_fraction; is_exponent = no_exponent; whole = sym (append-nil t) }
 
+-- A decimal is a value text of each depth.
 pub decimal_value : (d n : ℕ) → n < 2 ^ 64 → IsValueText d (decimal n)
 decimal_value d n lt = scalar_is d (decimal n) (number_text (integer_number (decimal n) (whole_decimal n lt)))
 
@@ -81,6 +86,7 @@ pieces_deeper : (k : Kind) (V W : List ℕ → Type 0) → ((t : List ℕ) → V
 pieces_deeper k V W f [] all = tt
 pieces_deeper k V W f (p ∷ ps) all = (record { before = all.0.before; named = all.0.named; value = f p.value all.0.value; after = all.0.after }, pieces_deeper k V W f ps all.1)
 
+-- What stands between brackets stands there for weaker values too.
 pub inside_deeper : (k : Kind) (V W : List ℕ → Type 0) → ((t : List ℕ) → V t → W t) → (inner : List ℕ) (ps : List Piece) → Inside k V inner ps → Inside k W inner ps
 inside_deeper k V W f inner [] is = is
 inside_deeper k V W f inner (p ∷ ps) is = let w = pieces_deeper k V W f (p ∷ ps) (is.0, is.1) in (w.0, w.1, is.2)
@@ -94,5 +100,6 @@ within_more : (n d : ℕ) (t : List ℕ) → ValueWithin d t → ValueWithin (n 
 within_more zero d t is = let e : 0 + d ≡ d = omega arith in subst (λ (x : ℕ). ValueWithin x t) (sym e) is
 within_more (suc n) d t is = let e : suc n + d ≡ suc (n + d) = omega arith in subst (λ (x : ℕ). ValueWithin x t) (sym e) (within_deeper (n + d) t (within_more n d t is))
 
+-- A value text of a depth is one of each depth above it.
 pub deeper : (d e : ℕ) (t : List ℕ) → d ≤ e → IsValueText d t → IsValueText e t
 deeper d e t le is = let s : e - d + d ≡ e = omega arith in record { within = subst (λ (x : ℕ). ValueWithin x t) s (within_more (e - d) d t is.within) }

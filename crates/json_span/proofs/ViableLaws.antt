@@ -25,28 +25,28 @@ use Rattle.json_span.proofs.SoundLaws.{no_space, scalar_value, step_sound}
 
 -- ---- a state can be completed
 
-pub close_all : (d : ℕ) (ks : List Kind) → (u : List ℕ) × Afters d ks u
+close_all : (d : ℕ) (ks : List Kind) → (u : List ℕ) × Afters d ks u
 close_all d [] = ([], tt)
 close_all d (k ∷ ks) = let c = close_all (suc d) ks in (close_of k ∷ c.0, ([], [], c.0, tt, tt, c.1, refl))
 
-pub some_value : (d : ℕ) (ks : List Kind) → (u : List ℕ) × Values d ks u
+some_value : (d : ℕ) (ks : List Kind) → (u : List ℕ) × Values d ks u
 some_value d ks = let c = close_all d ks in (codes "null" ++ c.0, (codes "null", c.0, scalar_value d (codes "null") null_text, c.1, refl))
 
-pub some_name : IsString (34 ∷ 34 ∷ [])
+some_name : IsString (34 ∷ 34 ∷ [])
 some_name = record { inner = []; chars = no_chars; whole = refl }
 
-pub some_part : (d : ℕ) (k : Kind) (ks : List Kind) → (u : List ℕ) × Parts d (k ∷ ks) u
+some_part : (d : ℕ) (k : Kind) (ks : List Kind) → (u : List ℕ) × Parts d (k ∷ ks) u
 some_part d Array ks = let v = some_value d (Array ∷ ks) in (v.0, ([], [], v.0, (refl, refl), v.1, refl))
 some_part d Object ks = let v = some_value d (Object ∷ ks) in (34 ∷ 34 ∷ 58 ∷ v.0, (34 ∷ 34 ∷ [], 58 ∷ [], v.0, (some_name, record { before = []; after = []; is_before = tt; is_after = tt; whole = refl }), v.1, refl))
 
-pub some_colon : (d : ℕ) (ks : List Kind) → (u : List ℕ) × Colons d ks u
+some_colon : (d : ℕ) (ks : List Kind) → (u : List ℕ) × Colons d ks u
 some_colon d ks = let v = some_value d ks in (58 ∷ v.0, no_space (Byte 58 (Spaced (Values d ks))) (58 ∷ v.0) (record { v = v.0; then = no_space (Values d ks) v.0 v.1; whole = refl }))
 
-pub some_closing : (role : Role) (d : ℕ) (ks : List Kind) → (u : List ℕ) × Closing role d ks u
+some_closing : (role : Role) (d : ℕ) (ks : List Kind) → (u : List ℕ) × Closing role d ks u
 some_closing Key d ks = some_colon d ks
 some_closing Item d ks = close_all d ks
 
-pub some_chars : (c : StringAt) → (u : List ℕ) × InString c u
+some_chars : (c : StringAt) → (u : List ℕ) × InString c u
 some_chars Plain = ([], no_chars)
 some_chars Escaped = (34 ∷ [], escaped_char refl no_chars)
 some_chars Four = (48 ∷ 48 ∷ 48 ∷ 48 ∷ [], (refl, (refl, (refl, (refl, no_chars)))))
@@ -54,10 +54,10 @@ some_chars Three = (48 ∷ 48 ∷ 48 ∷ [], (refl, (refl, (refl, no_chars))))
 some_chars Two = (48 ∷ 48 ∷ [], (refl, (refl, no_chars)))
 some_chars One = (48 ∷ [], (refl, no_chars))
 
-pub ends_now : Then Fraction Exponent []
+ends_now : Then Fraction Exponent []
 ends_now = record { x = []; v = []; first = no_fraction; then = no_exponent; whole = refl }
 
-pub some_num : (n : NumberAt) → (u : List ℕ) × NumRest n u
+some_num : (n : NumberAt) → (u : List ℕ) × NumRest n u
 some_num AfterMinus = (48 ∷ [], record { x = 48 ∷ []; v = []; first = zero_digit; then = ends_now; whole = refl })
 some_num AfterZero = ([], num_ended AfterZero refl)
 some_num InInteger = ([], num_ended InInteger refl)
@@ -74,7 +74,7 @@ Sits Part d [] = ⊥
 Sits (Begin k) zero ks = ⊥
 Sits _ d ks = Unit {0}
 
-pub can_complete : (at : At) (d : ℕ) (ks : List Kind) → Sits at d ks → (u : List ℕ) × Completes at d ks u
+can_complete : (at : At) (d : ℕ) (ks : List Kind) → Sits at d ks → (u : List ℕ) × Completes at d ks u
 unfolding Sits
 can_complete Fresh d [] sits = absurd sits
 can_complete Fresh d (k ∷ ks) sits = let p = some_part d k ks in (p.0, no_space (Freshes d (k ∷ ks)) p.0 (inr p.1))
@@ -100,11 +100,11 @@ AllSome P (Some s) = P s
 abbrev pub SitsIn : State → Type 0
 SitsIn s = Sits s.at s.room s.kinds
 
-pub either : (P : State → Type 0) (b : Bool) (x y : Option State) → AllSome P x → AllSome P y → AllSome P (cond b x y)
+either : (P : State → Type 0) (b : Bool) (x y : Option State) → AllSome P x → AllSome P y → AllSome P (cond b x y)
 either P true x y p q = p
 either P false x y p q = q
 
-pub pushed : (k : Kind) (ks : List Kind) (d : ℕ) → AllSome SitsIn (push k ks d)
+pushed : (k : Kind) (ks : List Kind) (d : ℕ) → AllSome SitsIn (push k ks d)
 unfolding push Sits
 pushed k ks zero = tt
 pushed k ks (suc d) = tt
@@ -126,27 +126,27 @@ began_sits : (ks : List Kind) (d : ℕ) (o : Option At) → SitsAnywhere o → A
 began_sits ks d None sits = tt
 began_sits ks d (Some at) sits = sits d ks
 
-pub value_sits : (ks : List Kind) (d b : ℕ) → AllSome SitsIn (value_begin ks d b)
+value_sits : (ks : List Kind) (d b : ℕ) → AllSome SitsIn (value_begin ks d b)
 unfolding value_begin
 value_sits ks d b = either SitsIn (eqb b 91) _ _ (pushed Array ks d) (either SitsIn (eqb b 123) _ _ (pushed Object ks d) (began_sits ks d (scalar_begin b) (scalar_sits b)))
 
-pub part_sits : (ks : List Kind) (d b : ℕ) → AllSome SitsIn (part_begin ks d b)
+part_sits : (ks : List Kind) (d b : ℕ) → AllSome SitsIn (part_begin ks d b)
 unfolding part_begin Sits
 part_sits [] d b = tt
 part_sits (Array ∷ ks) d b = value_sits (Array ∷ ks) d b
 part_sits (Object ∷ ks) d b = either SitsIn (eqb b 34) _ _ tt tt
 
-pub fresh_sits : (ks : List Kind) (d b : ℕ) → AllSome SitsIn (fresh_step ks d b)
+fresh_sits : (ks : List Kind) (d b : ℕ) → AllSome SitsIn (fresh_step ks d b)
 unfolding fresh_step Sits
 fresh_sits [] d b = tt
 fresh_sits (k ∷ ks) d b = either SitsIn (eqb b (close_of k)) _ _ tt (part_sits (k ∷ ks) d b)
 
-pub after_sits : (ks : List Kind) (d b : ℕ) → AllSome SitsIn (after_step ks d b)
+after_sits : (ks : List Kind) (d b : ℕ) → AllSome SitsIn (after_step ks d b)
 unfolding after_step Sits
 after_sits [] d b = either SitsIn (is_space b) _ _ tt tt
 after_sits (k ∷ ks) d b = either SitsIn (is_space b) _ _ tt (either SitsIn (eqb b 44) _ _ tt (either SitsIn (eqb b (close_of k)) _ _ tt tt))
 
-pub num_sits : (n : NumberAt) (ks : List Kind) (d b : ℕ) (o : Option NumberAt) → AllSome SitsIn (number_goes n ks d b o)
+num_sits : (n : NumberAt) (ks : List Kind) (d b : ℕ) (o : Option NumberAt) → AllSome SitsIn (number_goes n ks d b o)
 unfolding Sits
 num_sits n ks d b (Some m) = tt
 num_sits n ks d b None = either SitsIn (may_end n) _ _ (after_sits ks d b) tt
@@ -156,17 +156,17 @@ unfolding Sits
 letters_sit None ks d = tt
 letters_sit (Some l) ks d = tt
 
-pub char_sits : (role : Role) (ks : List Kind) (d : ℕ) (o : Option StringAt) → AllSome SitsIn (o >>= λ c. go_to (Text role c) ks d)
+char_sits : (role : Role) (ks : List Kind) (d : ℕ) (o : Option StringAt) → AllSome SitsIn (o >>= λ c. go_to (Text role c) ks d)
 unfolding Sits
 char_sits role ks d None = tt
 char_sits role ks d (Some c) = tt
 
-pub closed_sits : (role : Role) (ks : List Kind) (d : ℕ) → Sits (behind role) d ks
+closed_sits : (role : Role) (ks : List Kind) (d : ℕ) → Sits (behind role) d ks
 unfolding Sits
 closed_sits Key ks d = tt
 closed_sits Item ks d = tt
 
-pub step_sits : (at : At) (ks : List Kind) (d b : ℕ) → Sits at d ks → AllSome SitsIn (step at ks d b)
+step_sits : (at : At) (ks : List Kind) (d b : ℕ) → Sits at d ks → AllSome SitsIn (step at ks d b)
 unfolding step begin_step Sits
 step_sits Fresh ks d b sits = either SitsIn (is_space b) _ _ sits (fresh_sits ks d b)
 step_sits Part ks d b sits = either SitsIn (is_space b) _ _ sits (part_sits ks d b)
@@ -186,10 +186,10 @@ pub record Viable (s : State) (front : List ℕ) : Type 0 where
   pub more : List ℕ
   pub is : Completes s.at s.room s.kinds (front ++ more)
 
-pub sits_some : (o : Option State) (t : State) → o ≡ Some t → AllSome SitsIn o → SitsIn t
+sits_some : (o : Option State) (t : State) → o ≡ Some t → AllSome SitsIn o → SitsIn t
 sits_some o t e a = subst (λ (x : Option State). AllSome SitsIn x) e a
 
-pub run_viable : (front : List ℕ) (s t : State) → SitsIn s → run s front ≡ Some t → Viable s front
+run_viable : (front : List ℕ) (s t : State) → SitsIn s → run s front ≡ Some t → Viable s front
 unfolding run
 run_viable [] s t sits e = let c = can_complete s.at s.room s.kinds sits in record { more = c.0; is = c.1 }
 run_viable (b ∷ bs) s t sits e =

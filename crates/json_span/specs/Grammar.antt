@@ -1,6 +1,7 @@
 -- The texts of JSON after RFC 8259, and how an array or an object splits into its parts.
 use Rattle.std.specs.Prelude.{◌≡◌, ◌≢◌, ℕ, ◌+◌, zero, suc, Bool, true, List, [], ◌∷◌, ◌++◌, length, codes, ◌==◌, ◌||◌, ◌&&◌, nat_lt, not, ◌⊎◌, map, ◌≤◌, ◌<◌, take, drop}
 use Rattle.std.specs.List.{AllByRecursion}
+use Rattle.json_span.specs.declared.nest.TheConstants.{MOST_BRACKETS}
 use Rattle.json_span.specs.declared.Span.{Span}
 use Rattle.json_span.specs.declared.Member.{Member}
 use Rattle.json_span.specs.declared.state.Kind.{Kind}
@@ -175,9 +176,9 @@ ValueWithin (suc d) text = Scalar text ⊎ ((k : Kind) × IsList k (ValueWithin 
 pub record IsValueText (depth : ℕ) (text : List ℕ) : Type 0 where
   pub within : ValueWithin depth text
 
--- a value text that may be a part: at most 100 brackets are open at one place
+-- a value text that may be a part: not too many brackets are open at one place
 abbrev pub IsPartText : List ℕ → Type 0
-IsPartText text = IsValueText 100 text
+IsPartText text = IsValueText MOST_BRACKETS text
 
 -- ---- splits
 

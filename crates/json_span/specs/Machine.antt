@@ -1,8 +1,9 @@
 -- Reading a text byte by byte, as functions on lists. No part of the grammar: the laws in proofs/ tie the two.
-use Rattle.std.specs.Prelude.{ℕ, ◌-◌, Bool, true, false, List, [], ◌∷◌, Option, Some, None, ◌==◌, if◌then◌else◌, length}
+use Rattle.std.specs.Prelude.{ℕ, ◌+◌, ◌-◌, Bool, true, false, List, [], ◌∷◌, Option, Some, None, ◌==◌, if◌then◌else◌, length}
 use Rattle.std.specs.Option.{option_map}
 use Rattle.json_span.specs.Grammar.{is_space, is_digit, is_hex, is_plain, is_escape, is_sign, is_exponent_letter, open_of, close_of}
 use Rattle.json_span.specs.Nest.{opened, closed, innermost, is_deep}
+use Rattle.json_span.specs.declared.nest.TheConstants.{MOST_BRACKETS}
 use Rattle.json_span.specs.declared.Span.{Span}
 use Rattle.json_span.specs.declared.Member.{Member}
 use Rattle.json_span.specs.declared.state.Kind.{Kind}
@@ -231,7 +232,7 @@ is_done _ _ = false
 
 -- the state before a text, and how many brackets it may have open
 abbrev pub start : Kind → State
-start k = record { at = Begin k; kinds = []; room = 101 }
+start k = record { at = Begin k; kinds = []; room = MOST_BRACKETS + 1 }
 
 -- the state behind a text
 unfoldable pub run : State → List ℕ → Option State

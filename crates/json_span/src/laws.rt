@@ -1,6 +1,6 @@
 //! Laws of the definitions that the contracts of the calls cite. No call of them does anything.
 
-ghost use Rattle.std.specs.Prelude.{◌≡◌, ◌++◌, ◌∷◌, [], ◌<◌, ◌≤◌, ◌^◌, ℕ, suc, List, Some, All, codes};
+ghost use Rattle.std.specs.Prelude.{◌≡◌, ◌+◌, ◌++◌, ◌∷◌, [], ◌<◌, ◌≤◌, ◌^◌, ℕ, suc, List, Some, All, codes};
 ghost use Rattle.std.specs.Fmt.{decimal};
 ghost use Rattle.std.specs.Str.{IsUtf8};
 ghost use Rattle.json_span.specs.Grammar.{Each, is_space, Chars, IsString, IsNumber, IsValueText, IsPartText, IsObject, IsArray};
@@ -9,6 +9,8 @@ ghost use Rattle.json_span.specs.Order.{AscendFrom, spans_of};
 ghost use Rattle.json_span.specs.Parts.{members_of, elements_of, HasMembers, HasElements};
 ghost use Rattle.json_span.specs.declared.Member.{Member as MemberValue};
 ghost use Rattle.json_span.specs.declared.Span.{Span as SpanValue};
+
+use crate::nest::MOST_BRACKETS;
 
 /// A text has at most one split.
 pub fn one_split()
@@ -29,8 +31,8 @@ pub fn spans_ascend()
 /// `members_of` and `elements_of` are the parts of a text by the grammar, where it has a split, and
 /// nothing elsewhere.
 pub fn parts_by_grammar()
-    ensures members { (text : List ℕ) (parts : List (List ℕ × List ℕ)) → members_of text ≡ Some parts
-        → HasMembers text parts }
+    ensures members { (text : List ℕ) (parts : List (List ℕ × List ℕ))
+        → members_of text ≡ Some parts → HasMembers text parts }
     ensures members_all { (text : List ℕ) (parts : List (List ℕ × List ℕ)) → HasMembers text parts
         → members_of text ≡ Some parts }
     ensures elements { (text : List ℕ) (parts : List (List ℕ)) → elements_of text ≡ Some parts
@@ -70,7 +72,7 @@ pub fn lists_are_values()
 pub fn joined_splits()
     ensures arrays { (parts : List (List ℕ)) → All IsPartText parts
         → elements_of (array_text parts) ≡ Some parts }
-    ensures objects { (parts : List (List ℕ × List ℕ)) → All (IsMemberOf 100) parts
+    ensures objects { (parts : List (List ℕ × List ℕ)) → All (IsMemberOf MOST_BRACKETS) parts
         → members_of (object_text parts) ≡ Some parts }
 {}
 
@@ -82,15 +84,18 @@ pub fn spaces_change_nothing()
         → elements_of (before ++ (text ++ behind)) ≡ elements_of text }
 {}
 
-/// A value text that begins with a bracket splits again, where at most 101 brackets are open.
+/// A value text that begins with a bracket splits again, where at most one bracket more is open than in a part.
 pub fn lists_split()
-    ensures objects { (depth : ℕ) (rest : List ℕ) → depth ≤ 101 → IsValueText depth (123 ∷ rest)
+    ensures objects { (depth : ℕ) (rest : List ℕ) → depth ≤ MOST_BRACKETS + 1
+        → IsValueText depth (123 ∷ rest)
         → (parts : List (List ℕ × List ℕ)) × (members_of (123 ∷ rest) ≡ Some parts) }
-    ensures arrays { (depth : ℕ) (rest : List ℕ) → depth ≤ 101 → IsValueText depth (91 ∷ rest)
+    ensures arrays { (depth : ℕ) (rest : List ℕ) → depth ≤ MOST_BRACKETS + 1
+        → IsValueText depth (91 ∷ rest)
         → (parts : List (List ℕ)) × (elements_of (91 ∷ rest) ≡ Some parts) }
 {}
 
-/// The parts of a value text have one bracket fewer open, and any part has at most 100.
+/// The parts of a value text have one bracket fewer open, and any part has at most
+/// `MOST_BRACKETS`.
 pub fn parts_are_shallower()
     ensures members { (depth : ℕ) (text : List ℕ) (parts : List (List ℕ × List ℕ))
         → IsValueText (suc depth) text → members_of text ≡ Some parts
@@ -99,7 +104,7 @@ pub fn parts_are_shallower()
         → IsValueText (suc depth) text → elements_of text ≡ Some parts
         → All (IsValueText depth) parts }
     ensures members_limit { (text : List ℕ) (parts : List (List ℕ × List ℕ))
-        → members_of text ≡ Some parts → All (IsMemberOf 100) parts }
+        → members_of text ≡ Some parts → All (IsMemberOf MOST_BRACKETS) parts }
     ensures elements_limit { (text : List ℕ) (parts : List (List ℕ))
         → elements_of text ≡ Some parts → All IsPartText parts }
 {}

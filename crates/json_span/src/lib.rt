@@ -5,6 +5,7 @@ ghost use Rattle.std.specs.Prelude.{◌≡◌, ◌+◌, ◌≤◌, length, take,
 ghost use Rattle.json_span.specs.Grammar.{LiesIn, cut_of};
 
 mod bytes;
+mod front;
 mod laws;
 mod machine;
 mod marks;
@@ -16,6 +17,7 @@ pub use laws::{
     joined_splits, lists_are_values, lists_split, one_split, parts_are_shallower, parts_are_utf8,
     parts_by_grammar, scalars_are_values, spaces_change_nothing, spans_ascend, strings_are_joined,
 };
+pub use nest::MOST_BRACKETS;
 pub use split::{elements, members};
 use std::alloc::{AllocError, AllocFailed};
 

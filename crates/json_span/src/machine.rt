@@ -1,12 +1,13 @@
 //! Reading a text of JSON byte by byte (RFC 8259).
 
-ghost use Rattle.std.specs.Prelude.{◌≡◌, List, ℕ};
-ghost use Rattle.std.specs.Option.{option_map};
+ghost use Rattle.std.specs.Prelude.{◌≡◌, ◌≤◌, List, ℕ, length, take};
 ghost use Rattle.json_span.specs.Grammar.{open_of, close_of};
-ghost use Rattle.json_span.specs.Steps.{state_of};
+ghost use Rattle.json_span.specs.Steps.{state_of, stepped, gone_to, AllStay};
+ghost use Rattle.json_span.specs.declared.state.Kind.{Kind as KindValue};
 ghost use Rattle.json_span.specs.Machine.{start, push, value_begin, part_begin, fresh_step, after_step, step, text_step, literal_step, begin_step, is_done, within, number_goes};
 
 use crate::bytes::{digit, escape, exponent_letter, hex, plain, sign, space};
+use crate::front::{digit_front, plain_front, space_front};
 use crate::marks::Within;
 use crate::nest::Nest;
 use crate::state::{At, Kind, LiteralAt, NumberAt, Role, StringAt};
@@ -233,170 +234,31 @@ fn scalar_begin(b: u8) -> Option<At>
     }
 }
 
-/// The state behind a bracket that opens a list.
-#[tactic(auto, unfolding(crate::specs::Machine::push))]
-fn open_list(kind: Kind, nest: Nest) -> Option<Machine>
-    ensures { option_map state_of result ≡ push kind nest.0 nest.1 }
+/// What comes behind a byte of a string.
+fn in_text(role: Role, at: StringAt, b: u8) -> Option<At>
+    ensures { (kinds : List KindValue) (room : ℕ)
+        → gone_to result kinds room ≡ text_step role at kinds room b }
 {
-    let nest = nest.opened(kind)?;
-    Some(Machine {
-        at: At::Fresh,
-        nest,
-    })
-}
-
-/// The state behind a bracket that closes the innermost list.
-fn close_list(nest: Nest) -> Option<Machine>
-    ensures { option_map state_of result ≡ Rattle.json_span.specs.Machine.close_list nest.0 nest.1 }
-{
-    let nest = nest.closed()?;
-    Some(Machine {
-        at: At::After,
-        nest,
-    })
-}
-
-/// The state behind the first byte of a value.
-#[tactic(auto, unfolding(crate::specs::Machine::value_begin))]
-fn value_begin(nest: Nest, b: u8) -> Option<Machine>
-    ensures { option_map state_of result ≡ value_begin nest.0 nest.1 b }
-{
-    match b {
-        b'[' => open_list(Kind::Array, nest),
-        b'{' => open_list(Kind::Object, nest),
-        _ => {
-            let at = scalar_begin(b)?;
-            Some(Machine { at, nest })
-        }
+    if ends_string(at, b) {
+        return Some(behind(role));
+    }
+    match string_step(at, b) {
+        Some(next) => Some(At::Text(role, next)),
+        None => None,
     }
 }
 
-/// The state behind the first byte of a part.
-#[tactic(auto, unfolding(crate::specs::Machine::part_begin))]
-fn part_begin(nest: Nest, b: u8) -> Option<Machine>
-    ensures { option_map state_of result ≡ part_begin nest.0 nest.1 b }
-{
-    match nest.innermost()? {
-        Kind::Array => value_begin(nest, b),
-        Kind::Object => {
-            if b != b'"' {
-                return None;
-            }
-            Some(Machine {
-                at: At::Text(Role::Key, StringAt::Plain),
-                nest,
-            })
-        }
-    }
-}
-
-/// The state behind the first byte of a list that is no white space.
-#[tactic(auto, unfolding(crate::specs::Machine::fresh_step))]
-fn fresh_step(nest: Nest, b: u8) -> Option<Machine>
-    ensures { option_map state_of result ≡ fresh_step nest.0 nest.1 b }
-{
-    let kind = nest.innermost()?;
-    if b == closing(kind) {
-        close_list(nest)
-    } else {
-        part_begin(nest, b)
-    }
-}
-
-/// The state behind a byte that follows a value.
-#[tactic(auto, unfolding(crate::specs::Machine::after_step))]
-fn after_step(nest: Nest, b: u8) -> Option<Machine>
-    ensures { option_map state_of result ≡ after_step nest.0 nest.1 b }
-{
-    if space(b) {
-        return Some(Machine {
-            at: At::After,
-            nest,
-        });
-    }
-    let kind = nest.innermost()?;
-    if b == b',' {
-        Some(Machine { at: At::Part, nest })
-    } else if b == closing(kind) {
-        close_list(nest)
-    } else {
-        None
-    }
-}
-
-/// The state behind a byte that follows a number's first.
-fn in_number(at: NumberAt, nest: Nest, b: u8) -> Option<Machine>
-    ensures { option_map state_of result
-        ≡ number_goes at nest.0 nest.1 b (Rattle.json_span.specs.Machine.number_step at b) }
-{
-    match number_step(at, b) {
-        Some(next) => Some(Machine {
-            at: At::Number(next),
-            nest,
-        }),
-        None => {
-            if may_end(at) {
-                after_step(nest, b)
-            } else {
-                None
-            }
-        }
-    }
-}
-
-/// The state behind a byte of a string.
-fn in_text(role: Role, at: StringAt, nest: Nest, b: u8) -> Option<Machine>
-    ensures { option_map state_of result ≡ text_step role at nest.0 nest.1 b }
-{
-    let at = if ends_string(at, b) {
-        behind(role)
-    } else {
-        At::Text(role, string_step(at, b)?)
-    };
-    Some(Machine { at, nest })
-}
-
-/// The state behind a letter of a literal.
-fn in_literal(at: LiteralAt, nest: Nest, b: u8) -> Option<Machine>
-    ensures { option_map state_of result ≡ literal_step at nest.0 nest.1 b }
+/// What comes behind a letter of a literal.
+fn in_literal(at: LiteralAt, b: u8) -> Option<At>
+    ensures { (kinds : List KindValue) (room : ℕ)
+        → gone_to result kinds room ≡ literal_step at kinds room b }
 {
     if b != letter(at) {
         return None;
     }
-    let at = match next_letters(at) {
-        Some(next) => At::Literal(next),
-        None => At::After,
-    };
-    Some(Machine { at, nest })
-}
-
-/// The state behind a byte that is no white space, before a part or a list.
-#[tactic(auto, unfolding(crate::specs::Machine::begin_step))]
-fn begin_step(at: At, nest: Nest, b: u8) -> Option<Machine>
-    ensures { option_map state_of result ≡ begin_step at nest.0 nest.1 b }
-{
-    match at {
-        At::Begin(kind) => {
-            if b == opening(kind) {
-                open_list(kind, nest)
-            } else {
-                None
-            }
-        }
-        At::Fresh => fresh_step(nest, b),
-        At::Part => part_begin(nest, b),
-        At::Colon => {
-            if b == b':' {
-                Some(Machine {
-                    at: At::Value,
-                    nest,
-                })
-            } else {
-                None
-            }
-        }
-        At::Value => value_begin(nest, b),
-        _ => None,
+    match next_letters(at) {
+        Some(next) => Some(At::Literal(next)),
+        None => Some(At::After),
     }
 }
 
@@ -411,24 +273,199 @@ impl Machine {
         }
     }
 
-    /// The state behind one more byte, where some text with a split goes on with it.
-    #[tactic(auto, unfolding(crate::specs::Machine::step))]
-    pub fn step(self, b: u8) -> Option<Machine>
-        ensures { option_map state_of result ≡ step self.at self.nest.0 self.nest.1 b }
+    /// Goes where the text goes on, with the same brackets open.
+    fn go(&mut self, at: Option<At>) -> bool
+        ensures { stepped result self.new
+            ≡ gone_to at self.old.nest.0 self.old.nest.1 }
     {
-        let Machine { at, nest } = self;
         match at {
-            At::After => after_step(nest, b),
-            At::Text(role, string) => in_text(role, string, nest, b),
-            At::Number(number) => in_number(number, nest, b),
-            At::Literal(literal) => in_literal(literal, nest, b),
-            _ => {
-                if space(b) {
-                    Some(Machine { at, nest })
+            Some(at) => {
+                self.at = at;
+                true
+            }
+            None => false,
+        }
+    }
+
+    /// Behind a bracket that opens a list.
+    #[tactic(auto, unfolding(crate::specs::Machine::push))]
+    fn open_list(&mut self, kind: Kind) -> bool
+        ensures { stepped result self.new ≡ push kind self.old.nest.0 self.old.nest.1 }
+    {
+        if !self.nest.open(kind) {
+            return false;
+        }
+        self.at = At::Fresh;
+        true
+    }
+
+    /// Behind a bracket that closes the innermost list.
+    fn close_list(&mut self) -> bool
+        ensures { stepped result self.new
+            ≡ Rattle.json_span.specs.Machine.close_list self.old.nest.0 self.old.nest.1 }
+    {
+        if !self.nest.close() {
+            return false;
+        }
+        self.at = At::After;
+        true
+    }
+
+    /// Behind the first byte of a value.
+    #[tactic(auto, unfolding(crate::specs::Machine::value_begin))]
+    fn value_begin(&mut self, b: u8) -> bool
+        ensures { stepped result self.new ≡ value_begin self.old.nest.0 self.old.nest.1 b }
+    {
+        match b {
+            b'[' => self.open_list(Kind::Array),
+            b'{' => self.open_list(Kind::Object),
+            _ => self.go(scalar_begin(b)),
+        }
+    }
+
+    /// Behind the first byte of a part.
+    #[tactic(auto, unfolding(crate::specs::Machine::part_begin))]
+    fn part_begin(&mut self, b: u8) -> bool
+        ensures { stepped result self.new ≡ part_begin self.old.nest.0 self.old.nest.1 b }
+    {
+        match self.nest.innermost() {
+            None => false,
+            Some(Kind::Array) => self.value_begin(b),
+            Some(Kind::Object) => {
+                if b != b'"' {
+                    return false;
+                }
+                self.at = At::Text(Role::Key, StringAt::Plain);
+                true
+            }
+        }
+    }
+
+    /// Behind the first byte of a list that is no white space.
+    #[tactic(auto, unfolding(crate::specs::Machine::fresh_step))]
+    fn fresh_step(&mut self, b: u8) -> bool
+        ensures { stepped result self.new ≡ fresh_step self.old.nest.0 self.old.nest.1 b }
+    {
+        match self.nest.innermost() {
+            None => false,
+            Some(kind) => {
+                if b == closing(kind) {
+                    self.close_list()
                 } else {
-                    begin_step(at, nest, b)
+                    self.part_begin(b)
                 }
             }
+        }
+    }
+
+    /// Behind a byte that follows a value.
+    #[tactic(auto, unfolding(crate::specs::Machine::after_step))]
+    fn after_step(&mut self, b: u8) -> bool
+        ensures { stepped result self.new ≡ after_step self.old.nest.0 self.old.nest.1 b }
+    {
+        if space(b) {
+            self.at = At::After;
+            return true;
+        }
+        match self.nest.innermost() {
+            None => false,
+            Some(kind) => {
+                if b == b',' {
+                    self.at = At::Part;
+                    true
+                } else if b == closing(kind) {
+                    self.close_list()
+                } else {
+                    false
+                }
+            }
+        }
+    }
+
+    /// Behind a byte that follows a number's first.
+    fn in_number(&mut self, at: NumberAt, b: u8) -> bool
+        ensures { stepped result self.new
+            ≡ number_goes at self.old.nest.0 self.old.nest.1 b
+            (Rattle.json_span.specs.Machine.number_step at b) }
+    {
+        match number_step(at, b) {
+            Some(next) => {
+                self.at = At::Number(next);
+                true
+            }
+            None => {
+                if may_end(at) {
+                    self.after_step(b)
+                } else {
+                    false
+                }
+            }
+        }
+    }
+
+    /// Behind a byte that is no white space, before a part or a list.
+    #[tactic(auto, unfolding(crate::specs::Machine::begin_step))]
+    fn begin_step(&mut self, at: At, b: u8) -> bool
+        ensures { stepped result self.new ≡ begin_step at self.old.nest.0 self.old.nest.1 b }
+    {
+        match at {
+            At::Begin(kind) => {
+                if b == opening(kind) {
+                    self.open_list(kind)
+                } else {
+                    false
+                }
+            }
+            At::Fresh => self.fresh_step(b),
+            At::Part => self.part_begin(b),
+            At::Colon => {
+                if b == b':' {
+                    self.at = At::Value;
+                    true
+                } else {
+                    false
+                }
+            }
+            At::Value => self.value_begin(b),
+            _ => false,
+        }
+    }
+
+    /// One byte further, where some text with a split goes on with it. Where none does, nothing is said
+    /// of the machine.
+    #[tactic(auto, unfolding(crate::specs::Machine::step))]
+    pub fn step(&mut self, b: u8) -> bool
+        ensures { stepped result self.new ≡ step self.old.at self.old.nest.0 self.old.nest.1 b }
+    {
+        let at = self.at;
+        match at {
+            At::After => self.after_step(b),
+            At::Text(role, string) => self.go(in_text(role, string, b)),
+            At::Number(number) => self.in_number(number, b),
+            At::Literal(literal) => self.go(in_literal(literal, b)),
+            _ => {
+                if space(b) {
+                    true
+                } else {
+                    self.begin_step(at, b)
+                }
+            }
+        }
+    }
+
+    /// How many bytes at the front of a text leave the state as it is: the inside of a string, digits,
+    /// white space.
+    pub fn passed(&self, text: &[u8]) -> usize
+        ensures within { result ≤ length text.now }
+        ensures same { AllStay (state_of self.now) (take result text.now) }
+    {
+        match self.at {
+            At::Text(_, StringAt::Plain) => plain_front(text),
+            At::Number(NumberAt::InInteger) => digit_front(text),
+            At::Number(NumberAt::InFraction) => digit_front(text),
+            At::Number(NumberAt::InExponent) => digit_front(text),
+            At::Text(_, _) | At::Number(_) | At::Literal(_) => 0,
+            _ => space_front(text),
         }
     }
 

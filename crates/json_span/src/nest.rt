@@ -1,13 +1,18 @@
 //! The brackets that are open, as bits in one word.
 
-ghost use Rattle.std.specs.Prelude.{◌≡◌, List, [], Some, Option};
+ghost use Rattle.std.specs.Prelude.{◌≡◌, List, [], Some, None, Option, if◌then◌else◌};
 ghost use Rattle.json_span.specs.Nest.{opened, closed, innermost, is_deep, bit_of};
 
 use crate::state::Kind;
 use std::marker::Model;
 
-/// The brackets that are open at a place of a text, at most 101: the outermost, and 100 within one
-/// of its parts. A contract sees their kinds, the innermost first, and how many more may be opened.
+/// The most brackets that may be open at one place of a part of a text.
+pub const MOST_BRACKETS: u8 = 100;
+
+// The most that may be open at one place of a text: the outermost, and those within one of its parts.
+const ROOM: u8 = MOST_BRACKETS + 1;
+
+/// The brackets that are open at a place of a text: the outermost, and those within one of its parts. A contract sees their kinds, the innermost first, and how many more may be opened.
 #[derive(Drop)]
 pub struct Nest {
     bits: u128,
@@ -18,12 +23,13 @@ impl Model for Nest {
     ghost use Rattle.std.specs.Prelude.{◌≤◌, ◌<◌, ◌^◌, ◌-◌, List, ℕ};
     ghost use Rattle.json_span.specs.declared.state.Kind.{Kind};
     ghost use Rattle.json_span.specs.Nest.{kinds_of};
+    ghost use Rattle.json_span.specs.declared.nest.TheConstants.{ROOM};
 
     ghost Value = { List Kind × ℕ };
 
-    ghost view = { λ n. (kinds_of (101 - n.room) n.bits, n.room) };
+    ghost view = { λ n. (kinds_of (ROOM - n.room) n.bits, n.room) };
 
-    ghost invariant = { λ n. (n.room ≤ 101) × (n.bits < 2 ^ (101 - n.room)) };
+    ghost invariant = { λ n. (n.room ≤ ROOM) × (n.bits < 2 ^ (ROOM - n.room)) };
 }
 
 /// The bit of a kind.
@@ -50,44 +56,51 @@ fn lowest(bits: u128) -> Kind
 impl Nest {
     /// No bracket is open.
     pub fn new() -> Nest
-        ensures { result ≡ ([], 101) }
+        ensures { result ≡ ([], ROOM) }
     {
-        Nest { bits: 0, room: 101 }
+        Nest {
+            bits: 0,
+            room: ROOM,
+        }
     }
 
-    /// The brackets with one more, where there is room.
-    pub fn opened(self, kind: Kind) -> Option<Nest>
-        ensures { result ≡ opened kind self.0 self.1 }
+    /// Opens one more, where there is room.
+    pub fn open(&mut self, kind: Kind) -> bool
+        ensures { (if result then Some self.new else None) ≡ opened kind self.old.0 self.old.1 }
     {
-        let Nest { bits, room } = self;
+        let bits = self.bits;
+        let room = self.room;
         if room == 0 {
-            return None;
+            return false;
         }
-        Some(Nest {
+        *self = Nest {
             bits: 2 * bits + bit(kind),
             room: room - 1,
-        })
+        };
+        true
     }
 
-    /// The brackets without the innermost, where there is one.
-    pub fn closed(self) -> Option<Nest>
-        ensures { result ≡ closed self.0 self.1 }
+    /// Closes the innermost, where there is one.
+    pub fn close(&mut self) -> bool
+        ensures { (if result then Some self.new else None) ≡ closed self.old.0 self.old.1 }
     {
-        let Nest { bits, room } = self;
-        if room == 101 {
-            return None;
+        let bits = self.bits;
+        let room = self.room;
+        if room == ROOM {
+            return false;
         }
-        Some(Nest {
+        *self = Nest {
             bits: bits / 2,
             room: room + 1,
-        })
+        };
+        true
     }
 
     /// The kind of the innermost bracket.
     pub fn innermost(&self) -> Option<Kind>
         ensures { result ≡ innermost self.now.0 }
     {
-        if self.room == 101 {
+        if self.room == ROOM {
             None
         } else {
             Some(lowest(self.bits))
@@ -98,6 +111,6 @@ impl Nest {
     pub fn is_deep(&self) -> bool
         ensures { result ≡ is_deep self.now.0 }
     {
-        self.room < 100
+        self.room < MOST_BRACKETS
     }
 }

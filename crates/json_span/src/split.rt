@@ -50,17 +50,19 @@ fn split<P: Kept>(alloc: Global, kind: Kind, text: &[u8]) -> Result<Vec<P>, Span
     let mut parts = Vec::new(alloc);
     let mut machine = Machine::new(kind);
     let mut marks = Marks::new();
-    for (place, b) in text.iter().enumerate() {
+    let mut place = machine.passed(text);
+    'bytes: while place < text.len() {
         let before = machine.within();
-        let Some(next) = machine.step(*b) else {
+        if !machine.step(text[place]) {
             return Err(SpanFault::NotSplit(place));
-        };
-        let after = next.within();
+        }
+        let after = machine.within();
         if let Some(member) = marks.finished(place, before, after) {
             parts.push(P::keep(member))?;
         }
         marks = marks.marked(place, before, after);
-        machine = next;
+        place += 1;
+        place += machine.passed(&text[place..]);
     }
     if machine.is_done() {
         Ok(parts)
@@ -71,7 +73,7 @@ fn split<P: Kept>(alloc: Global, kind: Kind, text: &[u8]) -> Result<Vec<P>, Span
 
 /// Where the members of an object's text lie, in their order: each name with its quotes, each value
 /// with no white space at its ends. The text is an object of RFC 8259 with white space round it; each
-/// value has at most 100 brackets that are open at one place. Bytes of a string need not be UTF-8.
+/// value has at most `MOST_BRACKETS` brackets that are open at one place. Bytes of a string need not be UTF-8.
 /// Any other text is `NotSplit`, with the length of its longest front with which such a text begins.
 /// The time is linear in the text, and memory is taken for the list of spans alone.
 pub fn members(alloc: Global, text: &[u8]) -> Result<Vec<Member>, SpanFault>
@@ -79,14 +81,15 @@ pub fn members(alloc: Global, text: &[u8]) -> Result<Vec<Member>, SpanFault>
     ensures only { (all : List MemberValue) → IsObject text.now all
         → MatchResult result (λ v. v.items ≡ all) (λ e. e ≡ Memory) }
     ensures cuts { IfOk result (λ v. All (CutsMember text.now) v.items) }
-    ensures parts { IfOk result (λ v. members_of text.now ≡ Some (map (member_of text.now) v.items)) }
+    ensures parts { IfOk result
+        (λ v. members_of text.now ≡ Some (map (member_of text.now) v.items)) }
     ensures refused { IfErr result (RefusesMembers text.now) }
 {
     split(alloc, Kind::Object, text)
 }
 
 /// Where the elements of an array's text lie, in their order, with no white space at their ends. The
-/// text is an array of RFC 8259 with white space round it; each element has at most 100 brackets that
+/// text is an array of RFC 8259 with white space round it; each element has at most `MOST_BRACKETS` brackets that
 /// are open at one place. Bytes of a string need not be UTF-8. Any other text is `NotSplit`, with the
 /// length of its longest front with which such a text begins. The time is linear in the text, and
 /// memory is taken for the list of spans alone.
