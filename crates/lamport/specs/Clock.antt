@@ -1,13 +1,14 @@
--- The clock rule, as functions on numbers (Lamport, "Time, clocks, and the ordering of events in a distributed system").
--- The cap of a clock file, 2^62, and that of a jump, 1,000,000, are this project's.
-use Rattle.std.specs.Prelude.{ℕ, ◌+◌, ◌^◌, min, max, List, Option, Some, None}
+-- The clock rule, as functions on numbers (Lamport, "Time, clocks, and the ordering of events in a
+-- distributed system"). The cap of a clock file and that of a jump are this project's.
+use Rattle.std.specs.Prelude.{ℕ, ◌+◌, min, max, List, Option, Some, None}
 use Rattle.gb_text.specs.Decimal.{decimal_of}
 use Rattle.gb_text.specs.LineEnd.{line_of}
+use Rattle.lamport.specs.declared.clock.TheConstants.{CAP, JUMP}
 
 -- a number that was read, up to the cap; 0 where none was
 abbrev pub number_of : Option ℕ → ℕ
 number_of None = 0
-number_of (Some n) = min n (2 ^ 62)
+number_of (Some n) = min n CAP
 
 -- what the text of a clock file reads as
 abbrev pub clock_of : List ℕ → ℕ
@@ -15,15 +16,15 @@ clock_of text = number_of (decimal_of (line_of text))
 
 -- a clock that has seen an edit clock
 abbrev pub seen_by : ℕ → ℕ → ℕ
-seen_by clock edit = max clock (min edit (2 ^ 62))
+seen_by clock edit = max clock (min edit CAP)
 
 -- the clock of a new root
 abbrev pub root_time_of : ℕ → ℕ
-root_time_of clock = min (clock + 1) (2 ^ 62)
+root_time_of clock = min (clock + 1) CAP
 
 -- the clock of an edit on a head
 abbrev pub edit_time_of : ℕ → ℕ → ℕ
-edit_time_of clock head = min (max clock head + 1) (head + 1000000)
+edit_time_of clock head = min (max clock head + 1) (head + JUMP)
 
 -- the clock of a commit that joins two heads
 abbrev pub merge_time_of : ℕ → ℕ → ℕ → ℕ

@@ -19,13 +19,14 @@ pub struct Clock {
 }
 
 impl Model for Clock {
-    ghost use Rattle.std.specs.Prelude.{ℕ, ◌≤◌, ◌^◌};
+    ghost use Rattle.std.specs.Prelude.{ℕ, ◌≤◌};
+    ghost use Rattle.lamport.specs.declared.clock.TheConstants.{CAP};
 
     ghost Value = { ℕ };
 
     ghost view = { λ c. c.number };
 
-    ghost invariant = { λ c. c.number ≤ 2 ^ 62 };
+    ghost invariant = { λ c. c.number ≤ CAP };
 
     ghost inverse = { λ n. record { number = n } };
 }

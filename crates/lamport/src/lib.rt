@@ -5,7 +5,7 @@ mod clock;
 mod laws;
 
 pub use clock::{CAP, Clock, ClockFull, JUMP};
-pub use laws::seen_in_any_order;
+pub use laws::{clocks_read_back, seen_in_any_order};
 
 #[cfg(test)]
 mod tests;
