@@ -1,66 +1,91 @@
 -- How a list of writes grows, and what holds at each of its moments.
-use Rattle.std.proofs.Common.{◌≡◌, Bool, IsTrue, List, [], ◌∷◌, ◌++◌, length, sym, ◌∙◌, ap, subst, inl, inr, append_assoc, arith, length-append, refl, ℕ, ◌-◌, ◌≤◌, take, drop, reverse}
+use Rattle.std.proofs.Common.{◌≡◌, ◌⊎◌, Bool, IsTrue, List, [], ◌∷◌, ◌++◌, length, sym, ◌∙◌, ap, subst, inl, inr, append_assoc, arith, length-append, refl, ℕ, ◌-◌, ◌≤◌, take, drop, reverse}
 use Rattle.std.proofs.lemmas.List.{append_cancel_right, drop-append-le, take-append-drop, reverse-append}
 use Rattle.std.proofs.Math.Seq.{drop-append_seam}
+use Rattle.gb_text.proofs.PathLemmas.{append_cases}
 use Rattle.gb_store.specs.declared.store.Change.{Change}
 use Rattle.gb_store.specs.Files.{History, Files, files_of, written}
-use Rattle.gb_store.specs.Moments.{MaybeWrote, EachWrite, Wrote, WroteIf, WroteSome, IsMoment, AllMoments, first_writes}
+use Rattle.gb_store.specs.Moments.{MaybeWrote, at_moment, EachWrite, WroteBy, Wrote, WroteIf, AllowsFromEarlier, AllowsFromLater, WroteSome, IsMoment, AllMoments, first_writes}
 
-module _ (May : Files → Change → Type 0) where
+module _ (Rule : History → List Change → Change → Type 0) where
   -- writes after writes
-  pub EachWrite-append : (old early late : List Change) → EachWrite May old early → EachWrite May (early ++ old) late → EachWrite May old (late ++ early)
-  EachWrite-append old early [] first then = first
-  EachWrite-append old early (change ∷ late) first then =
-      (EachWrite-append old early late first then.0, subst (λ (ws : History). May (files_of ws) change) (sym (append_assoc late early old)) then.1)
+  pub EachWrite-append : (old early late : List Change) → AllowsFromEarlier Rule → EachWrite Rule old early → EachWrite Rule (early ++ old) late → EachWrite Rule old (late ++ early)
+  EachWrite-append old early [] from first then = first
+  EachWrite-append old early (change ∷ late) from first then = (EachWrite-append old early late from first then.0, from old early late change then.1)
 
   -- the earlier of some writes
-  pub EachWrite-early : (old early late : List Change) → EachWrite May old (late ++ early) → EachWrite May old early
+  pub EachWrite-early : (old early late : List Change) → EachWrite Rule old (late ++ early) → EachWrite Rule old early
   EachWrite-early old early [] each = each
   EachWrite-early old early (change ∷ late) each = EachWrite-early old early late each.0
 
   -- the later of some writes
-  pub EachWrite-late : (old early late : List Change) → EachWrite May old (late ++ early) → EachWrite May (early ++ old) late
-  EachWrite-late old early [] each = tt
-  EachWrite-late old early (change ∷ late) each =
-      (EachWrite-late old early late each.0, subst (λ (ws : History). May (files_of ws) change) (append_assoc late early old) each.1)
+  pub EachWrite-late : (old early late : List Change) → AllowsFromLater Rule → EachWrite Rule old (late ++ early) → EachWrite Rule (early ++ old) late
+  EachWrite-late old early [] from each = tt
+  EachWrite-late old early (change ∷ late) from each = (EachWrite-late old early late from each.0, from old early late change each.1)
 
   -- what each allowed write keeps holds in the end
-  pub EachWrite-keeps : (Good : Files → Type 0) → ((ws : History) (change : Change) → Good (files_of ws) → May (files_of ws) change → Good (files_of (change ∷ ws)))
-      → (old writes : List Change) → Good (files_of old) → EachWrite May old writes → Good (files_of (writes ++ old))
-  EachWrite-keeps Good keeps old [] good each = good
-  EachWrite-keeps Good keeps old (change ∷ writes) good each = keeps (writes ++ old) change (EachWrite-keeps Good keeps old writes good each.0) each.1
+  pub EachWrite-keeps : (Good : Files → Type 0) (old : History) → ((earlier : List Change) (change : Change) → Good (files_of (earlier ++ old)) → Rule old earlier change → Good (written (files_of (earlier ++ old)) change))
+      → (writes : List Change) → Good (files_of old) → EachWrite Rule old writes → Good (files_of (writes ++ old))
+  EachWrite-keeps Good old keeps [] good each = good
+  EachWrite-keeps Good old keeps (change ∷ writes) good each = keeps writes change (EachWrite-keeps Good old keeps writes good each.0) each.1
 
   -- a wider rule allows it too
-  pub EachWrite-wider : (Might : Files → Change → Type 0) → ((files : Files) (change : Change) → May files change → Might files change)
-      → (old writes : List Change) → EachWrite May old writes → EachWrite Might old writes
-  EachWrite-wider Might wider old [] each = tt
-  EachWrite-wider Might wider old (change ∷ writes) each = (EachWrite-wider Might wider old writes each.0, wider (files_of (writes ++ old)) change each.1)
+  pub EachWrite-wider : (Wide : History → List Change → Change → Type 0) (old : History) → ((earlier : List Change) (change : Change) → Rule old earlier change → Wide old earlier change)
+      → (writes : List Change) → EachWrite Rule old writes → EachWrite Wide old writes
+  EachWrite-wider Wide old wider [] each = tt
+  EachWrite-wider Wide old wider (change ∷ writes) each = (EachWrite-wider Wide old wider writes each.0, wider writes change each.1)
+
+-- no write
+pub WroteBy-none : (Rule : History → List Change → Change → Type 0) (old new : History) → new ≡ old → WroteBy Rule old new
+WroteBy-none Rule old new same = record { writes = []; grew = same; each = tt }
+
+-- one write that is allowed, made or not
+pub WroteBy-one : (Rule : History → List Change → Change → Type 0) (change : Change) (old new : History) → Rule old [] change → MaybeWrote change old new → WroteBy Rule old new
+WroteBy-one Rule change old new may (inl same) = record { writes = []; grew = same; each = tt }
+WroteBy-one Rule change old new may (inr made) = record { writes = change ∷ []; grew = made; each = (tt, may) }
+
+-- one call after another
+pub WroteBy-then : (Rule : History → List Change → Change → Type 0) (old mid new : History) → AllowsFromEarlier Rule → WroteBy Rule old mid → WroteBy Rule mid new → WroteBy Rule old new
+WroteBy-then Rule old mid new from first then = record {
+  writes = then.writes ++ first.writes;
+  grew = then.grew ∙ ap (λ (h : History). then.writes ++ h) first.grew ∙ sym (append_assoc then.writes first.writes old);
+  each = EachWrite-append Rule old first.writes then.writes from first.each (subst (λ (h : History). EachWrite Rule h then.writes) first.grew then.each);
+}
+
+-- what is allowed may be said more widely
+pub WroteBy-wider : (Rule Wide : History → List Change → Change → Type 0) (old new : History) → ((earlier : List Change) (change : Change) → Rule old earlier change → Wide old earlier change)
+    → WroteBy Rule old new → WroteBy Wide old new
+WroteBy-wider Rule Wide old new wider wrote = record {
+  writes = wrote.writes;
+  grew = wrote.grew;
+  each = EachWrite-wider Rule Wide old wider wrote.writes wrote.each;
+}
+
+-- ---- rules by the files alone
+
+-- such a rule does not see where the call began
+pub at_moment-from_earlier : (May : Files → Change → Type 0) → AllowsFromEarlier (at_moment May)
+at_moment-from_earlier May = λ old early late change may. subst (λ (ws : History). May (files_of ws) change) (sym (append_assoc late early old)) may
+
+pub at_moment-from_later : (May : Files → Change → Type 0) → AllowsFromLater (at_moment May)
+at_moment-from_later May = λ old early late change may. subst (λ (ws : History). May (files_of ws) change) (append_assoc late early old) may
 
 -- no write
 pub Wrote-none : (May : Files → Change → Type 0) (old new : History) → new ≡ old → Wrote May old new
-Wrote-none May old new same = record { writes = []; grew = same; each = tt }
+Wrote-none May old new same = WroteBy-none (at_moment May) old new same
 
 -- one write that is allowed, made or not
 pub Wrote-one : (May : Files → Change → Type 0) (change : Change) (old new : History) → May (files_of old) change → MaybeWrote change old new → Wrote May old new
-Wrote-one May change old new may (inl same) = record { writes = []; grew = same; each = tt }
-Wrote-one May change old new may (inr made) = record { writes = change ∷ []; grew = made; each = (tt, may) }
+Wrote-one May change old new may maybe = WroteBy-one (at_moment May) change old new may maybe
 
 -- one call after another
 pub Wrote-then : (May : Files → Change → Type 0) (old mid new : History) → Wrote May old mid → Wrote May mid new → Wrote May old new
-Wrote-then May old mid new first then = record {
-  writes = then.writes ++ first.writes;
-  grew = then.grew ∙ ap (λ (h : History). then.writes ++ h) first.grew ∙ sym (append_assoc then.writes first.writes old);
-  each = EachWrite-append May old first.writes then.writes first.each (subst (λ (h : History). EachWrite May h then.writes) first.grew then.each);
-}
+Wrote-then May old mid new first then = WroteBy-then (at_moment May) old mid new (at_moment-from_earlier May) first then
 
 -- what is allowed may be said more widely
 pub Wrote-wider : (May Might : Files → Change → Type 0) (old new : History) → ((files : Files) (change : Change) → May files change → Might files change)
     → Wrote May old new → Wrote Might old new
-Wrote-wider May Might old new wider wrote = record {
-  writes = wrote.writes;
-  grew = wrote.grew;
-  each = EachWrite-wider May Might wider old wrote.writes wrote.each;
-}
+Wrote-wider May Might old new wider wrote = WroteBy-wider (at_moment May) (at_moment Might) old new (λ earlier. wider (files_of (earlier ++ old))) wrote
 
 -- no write, in a store that may tell its content
 pub WroteIf_none : (tells : Bool) (May : Files → Change → Type 0) (old new : History) → (IsTrue tells → new ≡ old) → WroteIf tells May old new
@@ -77,39 +102,92 @@ WroteIf_then tells May old mid new first then = record { wrote = λ t. Wrote-the
 
 -- ---- moments
 
+-- the writes of a call are those before a moment and those after it
+parted : (Rule : History → List Change → Change → Type 0) (old new moment : History) (wrote : WroteBy Rule old new) (at : IsMoment old new moment) → wrote.writes ≡ at.later ++ at.done
+parted Rule old new moment wrote at =
+    append_cancel_right wrote.writes (at.later ++ at.done) old
+    (sym wrote.grew ∙ at.after ∙ ap (λ (h : History). at.later ++ h) at.before ∙ sym (append_assoc at.later at.done old))
+
 -- the writes before a moment
-pub Wrote-before : (May : Files → Change → Type 0) (old new moment : History) → Wrote May old new → IsMoment old new moment → Wrote May old moment
-Wrote-before May old new moment wrote at =
-    let whole : wrote.writes ++ old ≡ (at.later ++ at.done) ++ old = sym wrote.grew ∙ at.after ∙ ap (λ (h : History). at.later ++ h) at.before ∙ sym (append_assoc at.later at.done old) in
-    let writes : wrote.writes ≡ at.later ++ at.done = append_cancel_right wrote.writes (at.later ++ at.done) old whole in
-    record {
-      writes = at.done;
-      grew = at.before;
-      each = EachWrite-early May old at.done at.later (subst (λ (ws : List Change). EachWrite May old ws) writes wrote.each);
-    }
+pub WroteBy-before : (Rule : History → List Change → Change → Type 0) (old new moment : History) → WroteBy Rule old new → IsMoment old new moment → WroteBy Rule old moment
+WroteBy-before Rule old new moment wrote at = record {
+  writes = at.done;
+  grew = at.before;
+  each = EachWrite-early Rule old at.done at.later (subst (λ (ws : List Change). EachWrite Rule old ws) (parted Rule old new moment wrote at) wrote.each);
+}
 
 -- the writes after a moment
-pub Wrote-after : (May : Files → Change → Type 0) (old new moment : History) → Wrote May old new → IsMoment old new moment → Wrote May moment new
-Wrote-after May old new moment wrote at =
-    let whole : wrote.writes ++ old ≡ (at.later ++ at.done) ++ old = sym wrote.grew ∙ at.after ∙ ap (λ (h : History). at.later ++ h) at.before ∙ sym (append_assoc at.later at.done old) in
-    let writes : wrote.writes ≡ at.later ++ at.done = append_cancel_right wrote.writes (at.later ++ at.done) old whole in
-    record {
-      writes = at.later;
-      grew = at.after;
-      each = subst (λ (h : History). EachWrite May h at.later) (sym at.before)
-          (EachWrite-late May old at.done at.later (subst (λ (ws : List Change). EachWrite May old ws) writes wrote.each));
-    }
+pub WroteBy-after : (Rule : History → List Change → Change → Type 0) (old new moment : History) → AllowsFromLater Rule → WroteBy Rule old new → IsMoment old new moment → WroteBy Rule moment new
+WroteBy-after Rule old new moment from wrote at = record {
+  writes = at.later;
+  grew = at.after;
+  each = subst (λ (h : History). EachWrite Rule h at.later) (sym at.before)
+      (EachWrite-late Rule old at.done at.later from (subst (λ (ws : List Change). EachWrite Rule old ws) (parted Rule old new moment wrote at) wrote.each));
+}
 
 -- what each allowed write keeps holds at each moment
+pub AllMoments-from_WroteBy : (Rule : History → List Change → Change → Type 0) (Good : Files → Type 0) (old new : History)
+    → ((earlier : List Change) (change : Change) → Good (files_of (earlier ++ old)) → Rule old earlier change → Good (written (files_of (earlier ++ old)) change))
+    → Good (files_of old) → WroteBy Rule old new → AllMoments Good old new
+AllMoments-from_WroteBy Rule Good old new keeps good wrote = record {
+  grew = record { later = wrote.writes; done = []; before = refl; after = wrote.grew };
+  each = λ moment at.
+      let first = WroteBy-before Rule old new moment wrote at in
+      subst (λ (h : History). Good (files_of h)) (sym first.grew) (EachWrite-keeps Rule Good old keeps first.writes good first.each);
+}
+
+-- the same of a rule by the files alone
 pub AllMoments-from_Wrote : (May : Files → Change → Type 0) (Good : Files → Type 0)
     → ((files : Files) (change : Change) → Good files → May files change → Good (written files change))
     → (old new : History) → Good (files_of old) → Wrote May old new → AllMoments Good old new
-AllMoments-from_Wrote May Good keeps old new good wrote = record {
-  grew = record { later = wrote.writes; done = []; before = refl; after = wrote.grew };
-  each = λ moment at.
-      let first = Wrote-before May old new moment wrote at in
-      subst (λ (h : History). Good (files_of h)) (sym first.grew)
-      (EachWrite-keeps May Good (λ (ws : History) (change : Change). keeps (files_of ws) change) old first.writes good first.each);
+AllMoments-from_Wrote May Good keeps old new good wrote =
+    AllMoments-from_WroteBy (at_moment May) Good old new (λ earlier. keeps (files_of (earlier ++ old))) good wrote
+
+-- a moment of a moment
+pub IsMoment-of_first : (old mid new moment : History) → IsMoment old mid moment → IsMoment mid new mid → IsMoment old new moment
+IsMoment-of_first old mid new moment at then = record {
+  later = then.later ++ at.later;
+  done = at.done;
+  before = at.before;
+  after = then.after ∙ ap (λ (h : History). then.later ++ h) at.after ∙ sym (append_assoc then.later at.later moment);
+}
+
+pub IsMoment-of_second : (old mid new moment : History) → IsMoment old mid old → IsMoment mid new moment → IsMoment old new moment
+IsMoment-of_second old mid new moment first at = record {
+  later = at.later;
+  done = at.done ++ first.later;
+  before = at.before ∙ ap (λ (h : History). at.done ++ h) first.after ∙ sym (append_assoc at.done first.later old);
+  after = at.after;
+}
+
+-- a moment of two calls, one after the other, is one of the first or of the second
+pub IsMoment-cases : (old mid new moment : History) → IsMoment old mid old → IsMoment mid new mid → IsMoment old new moment → IsMoment old mid moment ⊎ IsMoment mid new moment
+IsMoment-cases old mid new moment first then at =
+    let whole : (at.later ++ at.done) ++ old ≡ (then.later ++ first.later) ++ old =
+    append_assoc at.later at.done old ∙ ap (λ (h : History). at.later ++ h) (sym at.before) ∙ sym at.after ∙ then.after
+    ∙ ap (λ (h : History). then.later ++ h) first.after ∙ sym (append_assoc then.later first.later old) in
+    each (append_cases at.later then.later at.done first.later (append_cancel_right (at.later ++ at.done) (then.later ++ first.later) old whole))
+  where
+    each : ((rest : List Change) × (then.later ≡ at.later ++ rest) × (at.done ≡ rest ++ first.later)) ⊎ ((rest : List Change) × (at.later ≡ then.later ++ rest) × (first.later ≡ rest ++ at.done))
+        → IsMoment old mid moment ⊎ IsMoment mid new moment
+    each (inl in_second) = inr (record {
+      later = at.later;
+      done = in_second.0;
+      before = at.before ∙ ap (λ (h : History). h ++ old) in_second.2 ∙ append_assoc in_second.0 first.later old ∙ ap (λ (h : History). in_second.0 ++ h) (sym first.after);
+      after = at.after;
+    })
+    each (inr in_first) = inl (record {
+      later = in_first.0;
+      done = at.done;
+      before = at.before;
+      after = first.after ∙ ap (λ (h : History). h ++ old) in_first.2 ∙ append_assoc in_first.0 at.done old ∙ ap (λ (h : History). in_first.0 ++ h) (sym at.before);
+    })
+
+-- what holds at each moment of two calls, one after the other
+pub AllMoments-then : (Good : Files → Type 0) (old mid new : History) → AllMoments Good old mid → AllMoments Good mid new → AllMoments Good old new
+AllMoments-then Good old mid new first then = record {
+  grew = IsMoment-of_first old mid new old first.grew then.grew;
+  each = λ moment at. elim (IsMoment-cases old mid new moment first.grew then.grew at) [ inl early ↦ first.each moment early | inr late ↦ then.each moment late ];
 }
 
 -- a cut is a moment
@@ -150,3 +228,14 @@ WroteSome-back (change ∷ rest) old new (x ∷ done) later e grew =
     let tail : rest ≡ done ++ later = cc in
     inr (WroteSome-back rest (change ∷ old) new done later tail
     (grew ∙ ap (λ (ws : List Change). ws ++ old) (reverse-append (x ∷ []) done) ∙ append_assoc (reverse done) (x ∷ []) old ∙ ap (λ (c : Change). reverse done ++ c ∷ old) (sym same)))
+
+-- some first ones of writes that the rule allows
+pub WroteBy-some : (Rule : History → List Change → Change → Type 0) (writes : List Change) (old new : History) → EachWrite Rule old (reverse writes) → WroteSome writes old new → WroteBy Rule old new
+WroteBy-some Rule writes old new each some =
+    let front = WroteSome-there writes old new some in
+    let parts : reverse writes ≡ reverse front.1 ++ reverse front.0 = ap reverse front.2 ∙ reverse-append front.0 front.1 in
+    record {
+      writes = reverse front.0;
+      grew = front.3;
+      each = EachWrite-early Rule old (reverse front.0) (reverse front.1) (subst (λ (ws : List Change). EachWrite Rule old ws) parts each);
+    }

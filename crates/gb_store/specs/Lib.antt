@@ -8,3 +8,4 @@ pub mod Moments
 pub mod ObjectPath
 pub mod ObjectTail
 pub mod WriteSink
+pub mod Writing

@@ -1,6 +1,6 @@
 //! Laws of files, of the writes of a call and of paths, each the contract of a function that does
 //! nothing.
-ghost use Rattle.std.specs.Prelude.{◌≡◌, ◌≢◌, ◌↔◌, ◌≤◌, ◌++◌, ◌∷◌, ℕ, List, length, reverse, Some, None, Bool, IsTrue};
+ghost use Rattle.std.specs.Prelude.{◌≡◌, ◌≢◌, ◌↔◌, ◌⊎◌, ◌≤◌, ◌++◌, ◌∷◌, ℕ, List, length, reverse, Some, None, Bool, IsTrue};
 ghost use Rattle.gb_text.specs.Digits.{IsName};
 ghost use Rattle.gb_text.specs.Folder.{joined};
 ghost use Rattle.gb_text.specs.declared.id.Name.{Name};
@@ -11,7 +11,7 @@ ghost use Rattle.gb_store.specs.Moments.{AllMoments, IsMoment, Wrote, WroteSome,
 ghost use Rattle.gb_store.specs.ObjectPath.{IsObjectPath, is_object_path, object_place};
 ghost use Rattle.gb_store.specs.declared.store.Change.{Change};
 
-use crate::Store;
+use crate::{Sink, Store};
 
 /// A rule of writes, for the laws that hold of each.
 pub trait Rule {
@@ -114,6 +114,22 @@ pub fn faults_compose<S: Store>()
     ensures { (failed : Bool) (old mid new : S) → KeepsFaults S.never_fails S.faults ⊥ old mid
         → KeepsFaults S.never_fails S.faults (IsTrue failed) mid new
         → KeepsFaults S.never_fails S.faults (IsTrue failed) old new }
+{}
+
+/// The same of the faults of a sink.
+pub fn sink_faults_compose<K: Sink>()
+    ensures { (failed : Bool) (old mid new : K) → KeepsFaults K.never_fails K.faults ⊥ old mid
+        → KeepsFaults K.never_fails K.faults (IsTrue failed) mid new
+        → KeepsFaults K.never_fails K.faults (IsTrue failed) old new }
+{}
+
+/// The moments of two calls, one after the other, are those of the first and those of the second,
+/// so what holds at each of both holds at each of the whole.
+pub fn moments_compose<P: Property>()
+    ensures split { (old mid new moment : History) → IsMoment old mid old → IsMoment mid new mid
+        → IsMoment old new moment ↔ (IsMoment old mid moment ⊎ IsMoment mid new moment) }
+    ensures whole { (old mid new : History) → AllMoments P.holds old mid
+        → AllMoments P.holds mid new → AllMoments P.holds old new }
 {}
 
 /// A path is that of an object exactly where it is a front that ends a part, `objects/`, two

@@ -2,7 +2,9 @@
 //! memory.
 #![tactic(auto)]
 
+mod call_laws;
 mod fault;
+mod frame_laws;
 mod laws;
 mod mem_index;
 mod mem_sink;
@@ -11,12 +13,22 @@ mod object_path;
 mod sink;
 mod store;
 mod write_sink;
+mod writes;
 
+pub use call_laws::{
+    CallRule, each_part_is_allowed_by, first_writes_are_allowed, kept_at_each_moment_by,
+    wrote_by_composes, wrote_by_weakens, wrote_nothing_by, wrote_one_by,
+};
 pub use fault::{SinkFault, StoreFault};
+pub use frame_laws::{
+    names_have_their_own_paths, other_writes_leave_objects, writes_leave_folders_apart,
+    writes_leave_other_places,
+};
 pub use laws::{
     Property, Rule, counts_rise_in_part, cuts_are_moments, each_part_is_allowed, faults_compose,
-    kept_at_each_moment, object_paths_by_form, objects_have_object_paths, some_are_the_first,
-    writes_change_their_path, wrote_composes, wrote_nothing, wrote_one, wrote_weakens,
+    kept_at_each_moment, moments_compose, object_paths_by_form, objects_have_object_paths,
+    sink_faults_compose, some_are_the_first, writes_change_their_path, wrote_composes,
+    wrote_nothing, wrote_one, wrote_weakens,
 };
 pub use mem_sink::MemSink;
 pub use mem_store::{Fail, MemStore};
@@ -24,6 +36,7 @@ pub use object_path::is_object_path;
 pub use sink::{Sink, write_whole};
 pub use store::{Change, Content, Store};
 pub use write_sink::WriteSink;
+pub use writes::write_all;
 
 #[cfg(test)]
 mod tests;

@@ -223,3 +223,35 @@ fn writers_that_fail_are_told(rt: HostRuntime) -> Result<(), Failure> {
     writes(&mut sink, alloc, b"")?;
     Ok(())
 }
+
+// Takes one write, fails at the next, and takes all after it.
+#[derive(Drop)]
+struct Faltering {
+    calls: u64,
+}
+
+impl io::Write for Faltering {
+    fn write(&mut self, buf: &[u8]) -> io::Result<usize> {
+        self.calls = self.calls.saturating_add(1);
+        if self.calls == 2 {
+            return Err(io::Error::from(io::ErrorKind::StorageFull));
+        }
+        Ok(buf.len())
+    }
+
+    fn flush(&mut self) -> io::Result<()> {
+        Ok(())
+    }
+}
+
+// The contract of a writer does not tell its errors, so only this shows that the sink asks once and no more.
+#[test]
+fn a_writer_that_fails_is_not_asked_again(rt: HostRuntime) -> Result<(), Failure> {
+    let alloc = rt.alloc();
+    let mut writer = Faltering { calls: 0 };
+    let mut sink = WriteSink::new(&mut writer);
+    assert!(rt; matches!(sink.write(alloc, b"a"), Ok(1)));
+    assert!(rt; matches!(sink.write(alloc, b"b"), Err(SinkFault::Failed)));
+    assert_eq!(rt; writer.calls, 2);
+    Ok(())
+}
