@@ -1,6 +1,7 @@
 pub mod CutLaws
 pub mod LineLaws
 pub mod RepeatLaws
+pub mod NameLaws
 pub mod ReadLaws
 pub mod CommitLaws
 pub mod DistinctLaws

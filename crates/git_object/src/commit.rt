@@ -33,7 +33,8 @@ impl Commit {
     pub fn read(alloc: Global, content: &[u8]) -> Result<Option<Commit>, Memory>
         ensures value { IfOk result (λ commit. commit ≡ commit_of content.now) }
         ensures found { IfOk result (λ commit. IfSome commit (λ c. IsCommitText content.now c)) }
-        ensures only { (c : CommitValue) → IsCommitText content.now c → IfOk result (λ commit. commit ≡ Some c) }
+        ensures only { (c : CommitValue) → IsCommitText content.now c
+            → IfOk result (λ commit. commit ≡ Some c) }
         ensures good { IfOk result (λ commit. IfSome commit (λ c. HasGoodTexts c)) }
     {
         Commit::parse(alloc, content)
@@ -172,7 +173,8 @@ fn next_parent(bytes: &[u8]) -> Option<(Option<Name>, &[u8])>
 }
 
 fn append_parents(text: &mut Vec<u8>, parents: &[Name]) -> Result<(), AllocError>
-    ensures text { OnOk result (text.new.items ≡ text.old.items ++ flat_map parent_line parents.now) }
+    ensures text { OnOk result
+        (text.new.items ≡ text.old.items ++ flat_map parent_line parents.now) }
     ensures names { OnOk result (AllByRecursion IsName parents.now) }
 {
     for parent in parents {
@@ -182,7 +184,8 @@ fn append_parents(text: &mut Vec<u8>, parents: &[Name]) -> Result<(), AllocError
 }
 
 fn append_name(text: &mut Vec<u8>, word: &[u8], name: &Name) -> Result<(), AllocError>
-    ensures text { OnOk result (text.new.items ≡ text.old.items ++ ended (word.now ++ encode_lower name.now.bytes)) }
+    ensures text { OnOk result
+        (text.new.items ≡ text.old.items ++ ended (word.now ++ encode_lower name.now.bytes)) }
     ensures name { OnOk result (IsName name.now) }
 {
     append_line(text, word, &name.text())

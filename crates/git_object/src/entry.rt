@@ -66,7 +66,8 @@ fn first_entry(alloc: Global, bytes: &[u8]) -> Result<Option<(Entry, &[u8])>, Me
 // The parts of the first entry, and what follows it.
 #[tactic(auto, unfolding(crate::specs::Reading::entry_at))]
 fn split_entry(bytes: &[u8]) -> Option<(Mode, &[u8], Name, &[u8])>
-    ensures { option_map (λ x. (record { mode = x.0; name = x.1.now; object = x.2 }, x.3.now)) result ≡ entry_at bytes.now }
+    ensures { option_map (λ x. (record { mode = x.0; name = x.1.now; object = x.2 }, x.3.now))
+        result ≡ entry_at bytes.now }
 {
     let (digits, rest) = cut(bytes, b' ')?;
     let mode = mode_of(digits)?;

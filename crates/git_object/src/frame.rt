@@ -33,9 +33,11 @@ impl<'a> Frame<'a> {
     /// length in plain decimal, a zero byte, the content. None exactly where the text has another
     /// form. What the content is isn't looked at. Takes no memory.
     pub fn read(text: &'a [u8]) -> Option<Frame<'a>>
-        ensures value { option_map (λ frame. (frame.kind, frame.content.now)) result ≡ frame_of text.now }
+        ensures value { option_map (λ frame. (frame.kind, frame.content.now)) result
+            ≡ frame_of text.now }
         ensures found { IfSome result (λ frame. text.now ≡ framed frame.kind frame.content.now) }
-        ensures only { (kind : KindValue) (content : List ℕ) → text.now ≡ framed kind content → MatchOption result ⊥ (λ frame. (frame.kind ≡ kind) × (frame.content.now ≡ content)) }
+        ensures only { (kind : KindValue) (content : List ℕ) → text.now ≡ framed kind content
+            → MatchOption result ⊥ (λ frame. (frame.kind ≡ kind) × (frame.content.now ≡ content)) }
     {
         let (kind, content) = split(text)?;
         Some(Frame { kind, content })

@@ -13,7 +13,8 @@ pub use commit::Commit;
 pub use entry::{Entry, Mode};
 pub use frame::{Frame, Kind, frame_text, name_of, name_of_text};
 pub use laws::{
-    each_text_has_one_value, each_value_has_one_text, frames_read_through, values_are_exact,
+    each_text_has_one_value, each_value_has_one_text, frames_read_through, hashed_texts_have_names,
+    values_are_exact,
 };
 pub use object::Object;
 pub use tree::Tree;

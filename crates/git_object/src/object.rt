@@ -25,7 +25,8 @@ impl Object {
     pub fn read(alloc: Global, text: &[u8]) -> Result<Option<Object>, Memory>
         ensures value { IfOk result (λ object. object ≡ object_of text.now) }
         ensures found { IfOk result (λ object. IfSome object (λ o. IsObjectText text.now o)) }
-        ensures only { (o : ObjectValue) → IsObjectText text.now o → IfOk result (λ object. object ≡ Some o) }
+        ensures only { (o : ObjectValue) → IsObjectText text.now o
+            → IfOk result (λ object. object ≡ Some o) }
     {
         Object::parse(alloc, text)
     }
@@ -44,8 +45,10 @@ impl Object {
     /// where no object of the kind has this content; each content is that of a blob.
     pub fn of(alloc: Global, kind: Kind, content: &[u8]) -> Result<Option<Object>, Memory>
         ensures value { IfOk result (λ object. object ≡ object_with kind content.now) }
-        ensures found { IfOk result (λ object. IfSome object (λ o. (kind ≡ kind_of o) × IsContent content.now o)) }
-        ensures only { (o : ObjectValue) → kind ≡ kind_of o → IsContent content.now o → IfOk result (λ object. object ≡ Some o) }
+        ensures found { IfOk result
+            (λ object. IfSome object (λ o. (kind ≡ kind_of o) × IsContent content.now o)) }
+        ensures only { (o : ObjectValue) → kind ≡ kind_of o → IsContent content.now o
+            → IfOk result (λ object. object ≡ Some o) }
     {
         Object::parse_content(alloc, kind, content)
     }

@@ -26,7 +26,8 @@ impl Tree {
     pub fn read(alloc: Global, content: &[u8]) -> Result<Option<Tree>, Memory>
         ensures value { IfOk result (λ tree. tree ≡ tree_of content.now) }
         ensures found { IfOk result (λ tree. IfSome tree (λ t. IsTreeText content.now t)) }
-        ensures only { (t : TreeValue) → IsTreeText content.now t → IfOk result (λ tree. tree ≡ Some t) }
+        ensures only { (t : TreeValue) → IsTreeText content.now t
+            → IfOk result (λ tree. tree ≡ Some t) }
         ensures good { IfOk result (λ tree. IfSome tree (λ t. HasGoodNames t)) }
     {
         Tree::parse(alloc, content)
@@ -36,8 +37,10 @@ impl Tree {
     /// ended in a slash. The tree may stand in any order; `Tree::read` gives it back in this one.
     pub fn write(&self, alloc: Global) -> Result<Bytes, Memory>
         requires { HasGoodNames self.now }
-        ensures text { IfOk result (λ text. (sorted : TreeValue) × IsSortedForm self.now sorted × IsTreeText text sorted) }
-        ensures reads_back { IfOk result (λ text. (sorted : TreeValue) × IsSortedForm self.now sorted × (tree_of text ≡ Some sorted)) }
+        ensures text { IfOk result (λ text. (sorted : TreeValue) × IsSortedForm self.now sorted
+            × IsTreeText text sorted) }
+        ensures reads_back { IfOk result (λ text. (sorted : TreeValue)
+            × IsSortedForm self.now sorted × (tree_of text ≡ Some sorted)) }
     {
         let sorted = in_order(alloc, self.entries.as_slice())?;
         let mut text = Vec::new(alloc);
@@ -103,7 +106,8 @@ fn are_distinct(alloc: Global, entries: &[Entry]) -> Result<bool, AllocError>
 }
 
 fn names_of(alloc: Global, entries: &[Entry]) -> Result<Vec<&[u8]>, AllocError>
-    ensures { IfOk result (λ names. map (λ name. name.now) names.items ≡ map (λ e. e.name) entries.now) }
+    ensures { IfOk result
+        (λ names. map (λ name. name.now) names.items ≡ map (λ e. e.name) entries.now) }
 {
     let mut names = Vec::new(alloc);
     for entry in entries {
@@ -130,8 +134,11 @@ fn have_entry_names(entries: &[Entry]) -> bool
 }
 
 fn append_entries(text: &mut Vec<u8>, entries: &[&Entry]) -> Result<(), AllocError>
-    ensures text { OnOk result (text.new.items ≡ text.old.items ++ flat_map entry_text (map (λ entry. entry.now) entries.now)) }
-    ensures objects { OnOk result (All (λ e. IsName e.object) (map (λ entry. entry.now) entries.now)) }
+    ensures text { OnOk result
+        (text.new.items
+        ≡ text.old.items ++ flat_map entry_text (map (λ entry. entry.now) entries.now)) }
+    ensures objects { OnOk result
+        (All (λ e. IsName e.object) (map (λ entry. entry.now) entries.now)) }
 {
     for entry in entries {
         append_entry(text, entry)?;
@@ -140,8 +147,11 @@ fn append_entries(text: &mut Vec<u8>, entries: &[&Entry]) -> Result<(), AllocErr
 }
 
 fn in_order(alloc: Global, entries: &[Entry]) -> Result<Vec<&Entry>, AllocError>
-    ensures permutation { IfOk result (λ sorted. IsPermutation entries.now (map (λ entry. entry.now) sorted.items)) }
-    ensures order { IfOk result (λ sorted. IsSortedByKey sort_key (slice_cmp nat_cmp) (map (λ entry. entry.now) sorted.items)) }
+    ensures permutation { IfOk result
+        (λ sorted. IsPermutation entries.now (map (λ entry. entry.now) sorted.items)) }
+    ensures order { IfOk result
+        (λ sorted. IsSortedByKey sort_key (slice_cmp nat_cmp)
+        (map (λ entry. entry.now) sorted.items)) }
 {
     let mut sorted = references(alloc, entries)?;
     sorted.sort_by(|a, b| key_order(a, b))?;
