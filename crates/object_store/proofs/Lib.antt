@@ -1,3 +1,5 @@
+pub mod FaultLemmas
+pub mod GrowthLemmas
 pub mod HeldLemmas
 pub mod PathLemmas
 pub mod PutLemmas

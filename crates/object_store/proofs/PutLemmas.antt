@@ -1,8 +1,6 @@
 -- What stands under a name after a put.
-use Rattle.std.proofs.Common.{◌≡◌, ℕ, ◌≤◌, Bool, IsTrue, List, ◌∷◌, length, Option, Some, None, option_and_then, refl, sym, ◌∙◌, ap, subst, arith}
+use Rattle.std.proofs.Common.{◌≡◌, ℕ, ◌≤◌, Bool, true, false, IsTrue, List, ◌∷◌, length, Some, None, Result, Ok, Err, IfOk, option_and_then, refl, sym, ◌∙◌, ap, subst, arith}
 use Rattle.std.proofs.lemmas.Grind.{common_steps}
-use Rattle.std.proofs.lemmas.Slice.Eq.{bytes_eq-Decides}
-use Rattle.sha1.specs.Sha1.{sha1}
 use Rattle.gb_text.specs.Folder.{joined}
 use Rattle.gb_store.specs.Files.{History, Put, file_at, files_of}
 use Rattle.gb_store.specs.Moments.{MaybeWrote, WroteIf}
@@ -11,23 +9,26 @@ use Rattle.gb_store.proofs.MomentLemmas.{WroteIf_one}
 use Rattle.gb_store.specs.ObjectPath.{object_place}
 use Rattle.gb_store.proofs.FileLemmas.{file_at-same}
 use Rattle.git_object.specs.declared.frame.Kind.{Kind}
-use Rattle.git_object.specs.Grammar.{framed, object_name}
+use Rattle.git_object.specs.Grammar.{framed, kind_of, object_name}
 use Rattle.git_object.specs.Reading.{object_of, object_with}
 use Rattle.git_object.proofs.ObjectLaws.{framed_reads}
-use Rattle.object_store.specs.Held.{Objects, object_at, objects_in, named}
-use Rattle.object_store.specs.Puts.{HasObject, PutsObject, object_write, text_name}
+use Rattle.std.specs.Prelude.{nat_le}
+use Rattle.object_store.specs.declared.fault.PutFault.{PutFault}
+use Rattle.object_store.proofs.HeldLemmas.{named-own}
+use Rattle.object_store.specs.Held.{Objects, object_at, objects_in, named, text_at}
+use Rattle.object_store.specs.Texts.{HasObject, HasObjectText, IsShort, text_name}
+use Rattle.object_store.specs.declared.read.TheConstants.{MOST_BYTES}
+use Rattle.gb_text.specs.declared.id.Name.{Name}
+use Rattle.object_store.specs.Puts.{PutsObject, StandsAnswers, object_write}
 
--- a text of at most 4,194,304 bytes is named by its SHA-1
-named-own : (text : List ℕ) → length text ≤ 4194304 → named (object_name text) text ≡ Some text
-named-own text within = grind (arith, common_steps, bytes_eq-Decides (sha1 text) (sha1 text))
+-- a short text that stands under its own name is the object text there
+pub text_at-own : (objects : Objects) (text : List ℕ) → objects (object_name text) ≡ Some text → length text ≤ MOST_BYTES → text_at objects (object_name text) ≡ Some text
+text_at-own objects text stands within = ap (option_and_then (named (object_name text))) stands ∙ named-own (object_name text) text within refl
 
--- what stands under its own name is held
-pub object_at-framed : (objects : Objects) (kind : Kind) (content : List ℕ) → objects (text_name kind content) ≡ Some (framed kind content)
-    → length (framed kind content) ≤ 4194304 → object_at objects (text_name kind content) ≡ object_with kind content
-object_at-framed objects kind content stands within =
-    ap (λ (o : Option (List ℕ)). option_and_then object_of (option_and_then (named (text_name kind content)) o)) stands
-    ∙ ap (option_and_then object_of) (named-own (framed kind content) within)
-    ∙ framed_reads kind content
+-- the object of a text that stands under its name
+pub object_at-framed : (objects : Objects) (kind : Kind) (content : List ℕ) (name : Name) → text_at objects name ≡ Some (framed kind content)
+    → object_at objects name ≡ object_with kind content
+object_at-framed objects kind content name at = ap (option_and_then object_of) at ∙ framed_reads kind content
 
 -- an object that was just put stands
 pub objects_in-written : (folder text : List ℕ) (old : History) → objects_in (files_of (object_write folder text ∷ old)) folder (object_name text) ≡ Some text
@@ -35,7 +36,7 @@ objects_in-written folder text old = file_at-same (Put (joined folder (object_pl
 
 -- a put of an object text at the path of its name, where nothing stood
 pub wrote_object : (tells : Bool) (folder : List ℕ) (kind : Kind) (content path text : List ℕ) (old mid new : History) → HasObject kind content
-    → path ≡ joined folder (object_place (text_name kind content)) → text ≡ framed kind content → length text ≤ 4194304
+    → path ≡ joined folder (object_place (text_name kind content)) → text ≡ framed kind content → length text ≤ MOST_BYTES
     → (IsTrue tells → file_at old path ≡ None) → (IsTrue tells → mid ≡ old) → (IsTrue tells → MaybeWrote (Put path text) mid new)
     → WroteIf tells (PutsObject folder) old new
 wrote_object tells folder kind content path text old mid new has at is within free same wrote =
@@ -47,10 +48,41 @@ wrote_object tells folder kind content path text old mid new has at is within fr
       kind = kind;
       content = content;
       has = has;
-      within = subst (λ (x : List ℕ). length x ≤ 4194304) is within;
+      within = subst (λ (x : List ℕ). length x ≤ MOST_BYTES) is within;
       free = ap (file_at old) (sym at) ∙ free t;
       is = refl;
     })
     (λ t.
     subst (λ (h : History). MaybeWrote (object_write folder (framed kind content)) h new) (same t)
     (subst (λ (w : Change). MaybeWrote w mid new) write (wrote t)))
+
+-- what is said where a text does not stand
+pub stands_not : (folder text : List ℕ) (old : History) (b : Bool) → b ≡ false → StandsAnswers folder text old (Ok b) → objects_in (files_of old) folder (object_name text) ≡ None
+stands_not folder text old true e answers = absurd (cc)
+stands_not folder text old false e answers = answers
+
+-- what is said where it does
+pub stands_so : (folder text : List ℕ) (old : History) (b : Bool) → b ≡ true → StandsAnswers folder text old (Ok b) → objects_in (files_of old) folder (object_name text) ≡ Some text
+stands_so folder text old false e answers = absurd (cc)
+stands_so folder text old true e answers = answers
+
+-- a put of a text at the path of its name, where nothing stood
+pub wrote_text : (tells : Bool) (folder path bytes text : List ℕ) (name : Name) (old mid new : History) → HasObjectText text → name ≡ object_name text
+    → path ≡ joined folder (object_place name) → bytes ≡ text → IsShort text → (IsTrue tells → objects_in (files_of old) folder (object_name text) ≡ None)
+    → (IsTrue tells → mid ≡ old) → (IsTrue tells → MaybeWrote (Put path bytes) mid new) → WroteIf tells (PutsObject folder) old new
+wrote_text tells folder path bytes text name old mid new has is at same short free kept wrote =
+    let frames = has.is.frames in
+    let place : path ≡ joined folder (object_place (object_name text)) = at ∙ ap (λ (n : Name). joined folder (object_place n)) is in
+    wrote_object tells folder (kind_of has.object) has.is.content path bytes old mid new (record { object = has.object; is_kind = refl; is = has.is.is })
+    (place ∙ ap (λ (t : List ℕ). joined folder (object_place (object_name t))) frames) (same ∙ frames) (subst (λ (t : List ℕ). length t ≤ MOST_BYTES) (sym same) short)
+    (λ tells. ap (file_at old) place ∙ free tells) kept wrote
+
+-- the object of a text that was put
+pub IfOk-framed : (objects : Objects) (kind : Kind) (content text : List ℕ) (r : Result Name PutFault) → text ≡ framed kind content
+    → IfOk r (λ name. text_at objects name ≡ Some text) → IfOk r (λ name. object_at objects name ≡ object_with kind content)
+IfOk-framed objects kind content text (Ok name) is at = object_at-framed objects kind content name (at ∙ ap Some is)
+IfOk-framed objects kind content text (Err e) is at = tt
+
+-- a text that is tested short is
+pub is_short-IsShort : (text : List ℕ) (b : Bool) → b ≡ nat_le (length text) MOST_BYTES → b ≡ true → IsShort text
+is_short-IsShort text b is e = grind (arith, common_steps, sym is ∙ e)

@@ -41,6 +41,40 @@ impl From<StoreFault> for ObjFault {
     }
 }
 
+/// Why a name gave no object of the kind that was asked for. Each fault but the first two carries the
+/// name that was asked for.
+#[derive(Clone, Copy, Debug, PartialEq, Eq)]
+pub enum KindFault {
+    Memory,
+    /// The store failed.
+    Disk,
+    /// No file stands at the name's path.
+    Missing(Name),
+    /// The file is no object text with that name.
+    Damaged(Name),
+    /// The file has more than 4,194,304 bytes.
+    Large(Name),
+    /// The name holds an object of another kind.
+    OtherKind(Name),
+}
+
+impl From<ObjFault> for KindFault {
+    ghost use Rattle.std.specs.Prelude.{◌≡◌};
+    ghost use Rattle.object_store.specs.Faults.{kind_fault};
+
+    ghost from_gives = { λ fault e. e ≡ kind_fault fault };
+
+    fn from(fault: ObjFault) -> Self {
+        match fault {
+            ObjFault::Memory => KindFault::Memory,
+            ObjFault::Disk => KindFault::Disk,
+            ObjFault::Missing(name) => KindFault::Missing(name),
+            ObjFault::Damaged(name) => KindFault::Damaged(name),
+            ObjFault::Large(name) => KindFault::Large(name),
+        }
+    }
+}
+
 /// Why an object wasn't put.
 #[derive(Clone, Copy, Debug, PartialEq, Eq)]
 pub enum PutFault {

@@ -3,15 +3,23 @@
 
 mod fault;
 mod laws;
+mod object_text;
 mod path;
 mod read;
+mod typed;
 mod write;
 
-pub use fault::{ObjFault, PutFault};
-pub use laws::{a_name_holds_one_object, held_objects_are_read};
+pub use fault::{KindFault, ObjFault, PutFault};
+pub use laws::{
+    a_name_holds_a_kind_or_fails, a_name_holds_an_object_or_fails, a_name_holds_one_object,
+    additions_compose, an_object_has_at_most_4_mebibytes, distinct_names_have_distinct_paths,
+    held_objects_are_read, what_is_held_stays, writes_of_objects_only_add,
+};
+pub use object_text::ObjectText;
 pub use path::path_of;
-pub use read::{MOST_BYTES, Raw, get, get_raw};
-pub use write::put;
+pub use read::{MOST_BYTES, Raw, get, get_raw, judge, judge_raw};
+pub use typed::{get_blob, get_commit, get_tree};
+pub use write::{put, put_text, stands};
 
 #[cfg(test)]
 mod tests;
