@@ -44,7 +44,7 @@ find-none p (y ∷ ys) e x member = each (λ none later. find-none p ys none x l
     each rest (inl is) false h = ap p (sym is) ∙ h
     each rest (inr later) false h = rest (sym (ap (λ (c : Bool). cond c (Some y) (find p ys)) h) ∙ e) later
 
-any-none : {X : Type 0} (p : X → Bool) (xs : List X) → list_any p xs ≡ false → (x : X) → Contains xs x → p x ≡ false
+pub any-none : {X : Type 0} (p : X → Bool) (xs : List X) → list_any p xs ≡ false → (x : X) → Contains xs x → p x ≡ false
 any-none p [] e x member = absurd (omega (arith, member.1))
 any-none p (y ∷ ys) e x member =
     let parts : (p y ≡ false) × (list_any p ys ≡ false) = grind (arith, common_steps) in

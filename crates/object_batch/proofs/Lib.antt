@@ -1,7 +1,8 @@
 pub mod ClashLemmas
 pub mod CommitLemmas
+pub mod LeadLemmas
 pub mod MissingLemmas
-pub mod NameLemmas
 pub mod NeedLemmas
 pub mod OrderLemmas
 pub mod PutLemmas
+pub mod PlanLemmas

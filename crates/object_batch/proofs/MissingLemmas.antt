@@ -3,13 +3,12 @@ use Rattle.std.proofs.Common.{◌≡◌, ℕ, List, [], ◌∷◌, ◌++◌, Opt
 use Rattle.std.specs.Prelude.{is_some}
 use Rattle.std.proofs.lemmas.List.{reverse-append}
 use Rattle.gb_store.specs.Files.{History, files_of}
-use Rattle.gb_store.specs.Moments.{WroteSome}
 use Rattle.gb_store.specs.declared.store.Change.{Change}
 use Rattle.object_store.specs.Puts.{object_write}
 use Rattle.object_batch.specs.Batches.{ArePut, missing_writes}
 
 -- the missing writes, by what stands under the name of the first text
-abbrev writes_by : List ℕ → List ℕ → List (List ℕ) → History → Option (List ℕ) → List Change
+abbrev pub writes_by : List ℕ → List ℕ → List (List ℕ) → History → Option (List ℕ) → List Change
 writes_by folder text texts old stands =
     cond (is_some stands) (missing_writes folder texts (files_of old)) (object_write folder text ∷ missing_writes folder texts (files_of (object_write folder text ∷ old)))
 
@@ -26,18 +25,3 @@ all_written folder (text ∷ texts) old new (mid, inr wrote, later) =
     subst (λ (h : History). new ≡ reverse (missing_writes folder texts (files_of h)) ++ h) wrote.1 (all_written folder texts mid new later)
     ∙ sym (ap (λ (ws : List Change). ws ++ old) (reverse-append (write ∷ []) rest) ∙ append_assoc (reverse rest) (write ∷ []) old)
     ∙ ap (λ (o : Option (List ℕ)). reverse (writes_by folder text texts old o) ++ old) (sym wrote.0)
-
-wrote_none : (writes : List Change) (old new : History) → new ≡ old → WroteSome writes old new
-wrote_none [] old new same = same
-wrote_none (write ∷ later) old new same = inl same
-
--- texts of which the first were put
-pub some_written : (folder : List ℕ) (done later : List (List ℕ)) (old new : History) → ArePut folder done old new
-    → WroteSome (missing_writes folder (done ++ later) (files_of old)) old new
-some_written folder [] later old new put = wrote_none (missing_writes folder later (files_of old)) old new put
-some_written folder (text ∷ done) later old new (mid, inl same, put) =
-    subst (λ (o : Option (List ℕ)). WroteSome (writes_by folder text (done ++ later) old o) old new) (sym same.0)
-    (subst (λ (h : History). WroteSome (missing_writes folder (done ++ later) (files_of h)) h new) same.1 (some_written folder done later mid new put))
-some_written folder (text ∷ done) later old new (mid, inr wrote, put) =
-    subst (λ (o : Option (List ℕ)). WroteSome (writes_by folder text (done ++ later) old o) old new) (sym wrote.0)
-    (inr (subst (λ (h : History). WroteSome (missing_writes folder (done ++ later) (files_of h)) h new) wrote.1 (some_written folder done later mid new put)))

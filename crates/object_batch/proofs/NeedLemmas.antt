@@ -1,8 +1,7 @@
 -- Texts in need order are put after all that they name.
-use Rattle.std.proofs.Common.{◌≡◌, ℕ, Bool, true, false, cond, List, [], ◌∷◌, ◌++◌, All, Contains, Some, Result, Ok, Err, inl, inr, refl, sym, ◌∙◌, ap, subst}
+use Rattle.std.proofs.Common.{◌≡◌, ℕ, Bool, true, false, cond, List, [], ◌∷◌, ◌++◌, All, Contains, Some, reverse, inl, inr, refl, sym, ◌∙◌, ap, subst}
 use Rattle.std.specs.Str.{bytes_eq}
 use Rattle.std.proofs.lemmas.List.{append-nil}
-use Rattle.std.proofs.lemmas.List.Elements.{Contains-append_left}
 use Rattle.std.proofs.lemmas.Slice.Eq.{bytes_eq-Decides}
 use Rattle.gb_text.specs.declared.id.Name.{Name}
 use Rattle.gb_text.specs.Folder.{joined}
@@ -15,12 +14,12 @@ use Rattle.git_object.specs.declared.object.Object.{Object}
 use Rattle.git_object.specs.Grammar.{IsObjectText, object_name}
 use Rattle.object_store.specs.Held.{Objects, objects_in}
 use Rattle.object_store.specs.Puts.{IsPut, object_write}
-use Rattle.object_store.specs.declared.fault.PutFault.{PutFault}
-use Rattle.object_store.specs.declared.fault.PutFault.TheVariants as fault
 use Rattle.object_store.proofs.HeldLemmas.{object_at-held, object_at-is}
-use Rattle.object_batch.specs.Batches.{ArePut, BatchAnswers, IsShort, MayBePut, StoppedPut}
+use Rattle.object_batch.specs.Batches.{ArePut, MayBePut, missing_writes}
+use Rattle.object_store.specs.Texts.{IsShort}
 use Rattle.object_batch.specs.Needs.{AllHeld, InNeedOrder, IsHeldAs, PutsAfterNeeds, with_text}
 use Rattle.object_batch.proofs.ClashLemmas.{Contains-first, Contains-later}
+use Rattle.object_batch.proofs.PlanLemmas.{batch_put}
 use Rattle.object_batch.proofs.PutLemmas.{put_stands, stays_one}
 
 -- what stands among the first objects stands among the others
@@ -79,24 +78,9 @@ all_after folder texts (text ∷ done) later held old new short members order to
     (all_after folder texts done later (with_text held text) put.0 new short (λ t among. members t (Contains-later text done t among)) order.3
     (put_too folder text held old put.0 put.1 too) put.2)
 
--- what a put of texts writes that are in need order where they may be put, whatever it answers
-pub batch_needed : (folder : List ℕ) (texts : List (List ℕ)) (old new : History) (r : Result Unit PutFault) → BatchAnswers folder texts old new r
-    → (MayBePut folder texts old → InNeedOrder (objects_in (files_of old) folder) texts) → Wrote (PutsAfterNeeds folder texts) old new
-batch_needed folder texts old new r answers order = each r answers
-  where
-    first : (done later : List (List ℕ)) → texts ≡ done ++ later → MayBePut folder texts old → ArePut folder done old new → Wrote (PutsAfterNeeds folder texts) old new
-    first done later all may put =
-        all_after folder texts done later (objects_in (files_of old) folder) old new may.short
-        (λ text among. subst (λ (ts : List (List ℕ)). Contains ts text) (sym all) (Contains-append_left done later text among))
-        (subst (InNeedOrder (objects_in (files_of old) folder)) all (order may)) (λ name text stands. stands) put
-
-    stopped : StoppedPut folder texts old new → Wrote (PutsAfterNeeds folder texts) old new
-    stopped (inl same) = Wrote-none (PutsAfterNeeds folder texts) old new same
-    stopped (inr some) = first some.1.done some.1.later some.1.all some.0 some.1.put
-
-    each : (r : Result Unit PutFault) → BatchAnswers folder texts old new r → Wrote (PutsAfterNeeds folder texts) old new
-    each (Ok _) put = first texts [] (sym (append-nil texts)) put.0 put.1
-    each (Err (fault.Large count)) long = Wrote-none (PutsAfterNeeds folder texts) old new long.2
-    each (Err (fault.Taken name)) taken = Wrote-none (PutsAfterNeeds folder texts) old new taken.2
-    each (Err fault.Memory) some = stopped some
-    each (Err fault.Disk) some = stopped some
+-- what is written of texts that may be put and are in need order
+pub batch_needed : (folder : List ℕ) (texts : List (List ℕ)) (old : History) → MayBePut folder texts old → InNeedOrder (objects_in (files_of old) folder) texts
+    → Wrote (PutsAfterNeeds folder texts) old (reverse (missing_writes folder texts (files_of old)) ++ old)
+batch_needed folder texts old may order =
+    all_after folder texts texts [] (objects_in (files_of old) folder) old (reverse (missing_writes folder texts (files_of old)) ++ old) may.short (λ text among. among)
+    (subst (InNeedOrder (objects_in (files_of old) folder)) (sym (append-nil texts)) order) (λ name text stands. stands) (batch_put folder texts old may)

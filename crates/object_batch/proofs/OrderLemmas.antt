@@ -10,7 +10,8 @@ use Rattle.git_object.specs.declared.object.Object.{Object}
 use Rattle.git_object.specs.Grammar.{IsObjectText, kind_of, object_name}
 use Rattle.object_store.specs.Held.{Objects, objects_in}
 use Rattle.object_store.proofs.HeldLemmas.{object_at-held}
-use Rattle.object_batch.specs.Batches.{IsFree, IsShort, MayBePut}
+use Rattle.object_batch.specs.Batches.{IsFree, MayBePut}
+use Rattle.object_store.specs.Texts.{IsShort}
 use Rattle.object_batch.specs.Needs.{InNeedOrder, IsHeldAs, Names, with_text}
 use Rattle.object_batch.proofs.ClashLemmas.{Contains-cons_cases, Contains-first, Contains-later}
 use Rattle.object_batch.proofs.NeedLemmas.{StandToo, held_too}

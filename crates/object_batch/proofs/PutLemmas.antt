@@ -1,12 +1,9 @@
 -- What stands while texts are put.
-use Rattle.std.proofs.Common.{◌≡◌, ◌≢◌, ℕ, zero, suc, ◌≤◌, ◌<◌, ◌+◌, Bool, true, false, IsTrue, List, [], ◌∷◌, ◌++◌, length, take, drop, slice_index_or, All, Contains, Option, Some, None, Result, Ok, Err, OnOk, option_and_then, ◌⊎◌, inl, inr, refl, sym, ◌∙◌, ap, subst, arith}
+use Rattle.std.proofs.Common.{◌≡◌, ◌≢◌, ℕ, zero, suc, ◌<◌, ◌+◌, Bool, true, false, List, [], ◌∷◌, ◌++◌, length, take, slice_index_or, All, Contains, Option, Some, None, option_and_then, ◌⊎◌, inl, inr, refl, sym, ◌∙◌, ap, subst, arith}
 use Rattle.std.proofs.Math.Seq.{take-suc}
-use Rattle.std.proofs.lemmas.List.{take-append-drop}
 use Rattle.std.specs.Str.{bytes_eq}
-use Rattle.std.proofs.lemmas.Grind.{common_steps}
 use Rattle.std.proofs.lemmas.List.Elements.{All-contains_itself}
 use Rattle.std.proofs.lemmas.Slice.Eq.{bytes_eq-Decides}
-use Rattle.sha1.specs.Sha1.{sha1}
 use Rattle.gb_text.specs.declared.id.Name.{Name}
 use Rattle.gb_text.specs.Folder.{joined}
 use Rattle.gb_store.specs.Files.{History, file_at, files_of}
@@ -14,16 +11,14 @@ use Rattle.gb_store.specs.ObjectPath.{object_place}
 use Rattle.gb_store.proofs.FileLemmas.{file_at-other}
 use Rattle.git_object.specs.Grammar.{object_name}
 use Rattle.object_store.specs.Held.{named, objects_in, text_at}
-use Rattle.gb_store.specs.Files.{Put}
-use Rattle.gb_store.specs.Moments.{MaybeWrote, WroteIf}
-use Rattle.git_object.specs.Grammar.{kind_of}
-use Rattle.object_store.specs.Puts.{IsPut, IsTaken, PutsObject, TextAnswers, object_write}
-use Rattle.object_store.specs.declared.fault.PutFault.{PutFault}
-use Rattle.object_store.specs.declared.fault.PutFault.TheVariants as fault
-use Rattle.object_store.proofs.PutLemmas.{objects_in-written, wrote_object}
-use Rattle.object_batch.specs.Batches.{ArePut, BatchAnswers, CannotHave, HasObjectText, IsFree, IsShort, MayBePut, MissingAnswers, SomePut, StandsAnswers}
+use Rattle.object_store.specs.Texts.{IsShort}
+use Rattle.object_store.specs.Puts.{IsPut, IsTaken, object_write}
+use Rattle.object_store.proofs.PutLemmas.{objects_in-written}
+use Rattle.object_batch.specs.Batches.{ArePut, CannotHave, IsFree, MayBePut}
 use Rattle.object_batch.proofs.ClashLemmas.{Contains-cons_cases, Contains-first, Contains-later}
-use Rattle.object_batch.proofs.NameLemmas.{IsName-object_name, path_name}
+use Rattle.git_object.proofs.NameLaws.{IsName-object_name}
+use Rattle.object_store.proofs.HeldLemmas.{named-own}
+use Rattle.object_store.proofs.PathLemmas.{path_name}
 
 -- one text more
 pub ArePut-push : (folder : List ℕ) (texts : List (List ℕ)) (text : List ℕ) (old mid new : History) → ArePut folder texts old mid → IsPut folder text mid new → ArePut folder (texts ++ text ∷ []) old new
@@ -40,7 +35,7 @@ stays_one folder text old new path found (inr wrote) stands =
     differs : joined folder (object_place (object_name text)) ≢ path
     differs e = cc (sym wrote.0 ∙ ap (file_at old) e ∙ stands)
 
-stays : (folder : List ℕ) (texts : List (List ℕ)) (old new : History) (path found : List ℕ) → ArePut folder texts old new → file_at old path ≡ Some found → file_at new path ≡ Some found
+pub stays : (folder : List ℕ) (texts : List (List ℕ)) (old new : History) (path found : List ℕ) → ArePut folder texts old new → file_at old path ≡ Some found → file_at new path ≡ Some found
 stays folder [] old new path found put stands = ap (λ (h : History). file_at h path) put ∙ stands
 stays folder (text ∷ texts) old new path found put stands =
     stays folder texts put.0 new path found put.2 (stays_one folder text old put.0 path found put.1 stands)
@@ -61,19 +56,16 @@ all_stand folder (t ∷ ts) old new put text member = at (all_stand folder ts pu
         (stays folder ts put.0 new (joined folder (object_place (object_name t))) t put.2 (put_stands folder t old put.0 put.1))
     at rest (inr later) = rest later
 
-named-own : (text : List ℕ) → length text ≤ 4194304 → named (object_name text) text ≡ Some text
-named-own text within = grind (arith, common_steps, bytes_eq-Decides (sha1 text) (sha1 text))
-
 -- and is held
 pub all_held : (folder : List ℕ) (texts : List (List ℕ)) (old new : History) → All IsShort texts → ArePut folder texts old new
     → All (λ text. text_at (objects_in (files_of new) folder) (object_name text) ≡ Some text) texts
 all_held folder texts old new short put k d below =
     let text = slice_index_or texts k d in
-    ap (option_and_then (named (object_name text))) (all_stand folder texts old new put text (All-contains_itself texts k d below)) ∙ named-own text (short k d below)
+    ap (option_and_then (named (object_name text))) (all_stand folder texts old new put text (All-contains_itself texts k d below)) ∙ named-own (object_name text) text (short k d below) refl
 
 -- ---- what is free stays free for the text
 
-free_one : (folder other : List ℕ) (old new : History) (text : List ℕ) → IsPut folder other old new → (object_name other ≡ object_name text → other ≡ text)
+pub free_one : (folder other : List ℕ) (old new : History) (text : List ℕ) → IsPut folder other old new → (object_name other ≡ object_name text → other ≡ text)
     → IsFree folder old text → IsFree folder new text
 free_one folder other old new text (inl same) apart free = subst (λ (h : History). IsFree folder h text) (sym same.1) free
 free_one folder other old new text (inr wrote) apart free = at (bytes_eq one two) refl
@@ -161,23 +153,8 @@ put_apart folder texts old may one two first second same = decide (bytes_eq one 
 
 -- ---- a put of one text, and of the texts up to it
 
--- what is said where a text does not stand
-pub stands_not : (folder text : List ℕ) (old : History) (b : Bool) → b ≡ false → StandsAnswers folder text old (Ok b) → objects_in (files_of old) folder (object_name text) ≡ None
-stands_not folder text old true e answers = absurd (cc)
-stands_not folder text old false e answers = answers
-
--- a put of a text at the path of its name, where nothing stood
-pub wrote_text : (tells : Bool) (folder path bytes text : List ℕ) (name : Name) (old mid new : History) → HasObjectText text → name ≡ object_name text
-    → path ≡ joined folder (object_place name) → bytes ≡ text → IsShort text → (IsTrue tells → objects_in (files_of old) folder (object_name text) ≡ None)
-    → (IsTrue tells → mid ≡ old) → (IsTrue tells → MaybeWrote (Put path bytes) mid new) → WroteIf tells (PutsObject folder) old new
-wrote_text tells folder path bytes text name old mid new has is at same short free kept wrote =
-    let frames = has.is.frames in
-    let place : path ≡ joined folder (object_place (object_name text)) = at ∙ ap (λ (n : Name). joined folder (object_place n)) is in
-    wrote_object tells folder (kind_of has.object) has.is.content path bytes old mid new (record { object = has.object; is_kind = refl; is = has.is.is })
-    (place ∙ ap (λ (t : List ℕ). joined folder (object_place (object_name t))) frames) (same ∙ frames) (subst (λ (t : List ℕ). length t ≤ 4194304) (sym same) short)
-    (λ tells. ap (file_at old) place ∙ free tells) kept wrote
-
-Contains-take : (texts : List (List ℕ)) (i : ℕ) (text : List ℕ) → Contains (take i texts) text → Contains texts text
+-- one of the first is one of all
+pub Contains-take : (texts : List (List ℕ)) (i : ℕ) (text : List ℕ) → Contains (take i texts) text → Contains texts text
 Contains-take [] zero text member = member
 Contains-take [] (suc i) text member = member
 Contains-take (t ∷ ts) zero text member = absurd (omega (arith, member.1))
@@ -194,42 +171,3 @@ put_more folder texts i text old mid new below is put last =
     let step : i + 1 ≡ suc i = omega arith in
     let all : take (i + 1) texts ≡ take i texts ++ text ∷ [] = ap (λ (k : ℕ). take k texts) step ∙ take-suc texts i text below ∙ ap (λ (t : List ℕ). take i texts ++ t ∷ []) is in
     subst (λ (ts : List (List ℕ)). ArePut folder ts old new) (sym all) (ArePut-push folder (take i texts) text old mid new put last)
-
-first_put : (folder : List ℕ) (texts : List (List ℕ)) (i : ℕ) (old new : History) → ArePut folder (take i texts) old new → SomePut folder texts old new
-first_put folder texts i old new put = record { done = take i texts; later = drop i texts; all = sym (take-append-drop i texts); put = put }
-
--- where a put of one text stops, those before it were put
-pub stopped : (folder : List ℕ) (texts : List (List ℕ)) (i : ℕ) (text : List ℕ) (old mid new : History) (e : PutFault) → i < length texts → slice_index_or texts i text ≡ text
-    → IsShort text → MayBePut folder texts old → ArePut folder (take i texts) old mid → TextAnswers folder text mid new (Err e) → MissingAnswers folder texts old new (Err e)
-stopped folder texts i text old mid new fault.Memory below is short may put same =
-    first_put folder texts i old new (subst (ArePut folder (take i texts) old) (sym same) put)
-stopped folder texts i text old mid new fault.Disk below is short may put (inl same) =
-    first_put folder texts i old new (subst (ArePut folder (take i texts) old) (sym same) put)
-stopped folder texts i text old mid new fault.Disk below is short may put (inr wrote) =
-    first_put folder texts (i + 1) old new (put_more folder texts i text old mid new below is put (inr (wrote.1, wrote.2)))
-stopped folder texts i text old mid new (fault.Large count) below is short may put answers = absurd (omega (arith, answers.1))
-stopped folder texts i text old mid new (fault.Taken name) below is short may put answers =
-    let member : Contains texts text = (i, below, is) in
-    free_not_taken folder text mid
-    (free_kept folder (take i texts) old mid text put (λ other first same. put_apart folder texts old may other text (Contains-take texts i other first) member same)
-    (put_free folder texts old may text member)) answers.2
-
--- ---- the whole
-
--- a put of texts none of which is refused
-pub batch_answers : (folder : List ℕ) (texts : List (List ℕ)) (old mid new : History) (r : Result Unit PutFault) → mid ≡ old → MayBePut folder texts old
-    → (MayBePut folder texts mid → MissingAnswers folder texts mid new r) → BatchAnswers folder texts old new r
-batch_answers folder texts old mid new r same may missing =
-    each r (subst (λ (h : History). MissingAnswers folder texts h new r) same (missing (subst (MayBePut folder texts) (sym same) may)))
-  where
-    each : (r : Result Unit PutFault) → MissingAnswers folder texts old new r → BatchAnswers folder texts old new r
-    each (Ok _) put = (may, put)
-    each (Err fault.Memory) some = inr (may, some)
-    each (Err fault.Disk) some = inr (may, some)
-    each (Err (fault.Large count)) never = absurd never
-    each (Err (fault.Taken name)) never = absurd never
-
-pub batch_held : (folder : List ℕ) (texts : List (List ℕ)) (old new : History) (r : Result Unit PutFault) → BatchAnswers folder texts old new r
-    → OnOk r (All (λ text. text_at (objects_in (files_of new) folder) (object_name text) ≡ Some text) texts)
-batch_held folder texts old new (Ok _) answers = all_held folder texts old new answers.0.short answers.1
-batch_held folder texts old new (Err e) answers = tt

@@ -1,9 +1,19 @@
 //! Laws of putting several objects, each the contract of a function that does nothing.
-ghost use Rattle.std.specs.Prelude.{◌≡◌, ◌++◌, ℕ, List, reverse};
+ghost use Rattle.std.specs.Prelude.{◌≡◌, ◌++◌, ℕ, List, Contains, Some, None, reverse};
 ghost use Rattle.gb_text.specs.declared.id.Name.{Name};
 ghost use Rattle.gb_store.specs.Files.{History, files_of};
-ghost use Rattle.gb_store.specs.Moments.{WroteSome};
-ghost use Rattle.object_batch.specs.Batches.{ArePut, CannotHave, HasLong, MayBePut, SomePut, missing_writes};
+ghost use Rattle.gb_store.specs.Moments.{Wrote};
+ghost use Rattle.git_object.specs.declared.commit.Commit.{Commit as CommitValue};
+ghost use Rattle.git_object.specs.declared.entry.Entry.{Entry as EntryValue};
+ghost use Rattle.git_object.specs.declared.entry.Mode.TheVariants.{Plain, Exec, Link, Folder, Module};
+ghost use Rattle.git_object.specs.declared.frame.Kind.TheVariants as kinds;
+ghost use Rattle.git_object.specs.declared.object.Object.TheVariants.{Blob, Commit, Tree};
+ghost use Rattle.git_object.specs.declared.tree.Tree.{Tree as TreeValue};
+ghost use Rattle.object_store.specs.Growth.{OnlyGrew};
+ghost use Rattle.object_store.specs.Held.{Objects, objects_in};
+ghost use Rattle.object_store.specs.Typed.{HoldsAs, as_blob, as_commit, as_tree};
+ghost use Rattle.object_batch.specs.Batches.{AllStand, CannotHave, HasLong, MayBePut, missing_writes};
+ghost use Rattle.object_batch.specs.Needs.{AllHeld, InNeedOrder, IsHeldAs, IsWhole, LeadsTo, PutsAfterNeeds, Reference, kind_named};
 
 /// Texts that may be put are not refused: none of them is long, and each name can have its text.
 pub fn batches_are_put_or_refused()
@@ -13,11 +23,81 @@ pub fn batches_are_put_or_refused()
         → MayBePut folder texts old → CannotHave folder texts old name → ⊥ }
 {}
 
-/// What a put of several texts writes is the missing ones, in their order; where it stopped, the
-/// first of these.
-pub fn batches_write_what_is_missing()
-    ensures all { (folder : List ℕ) (texts : List (List ℕ)) (old new : History)
-        → ArePut folder texts old new → new ≡ reverse (missing_writes folder texts (files_of old)) ++ old }
-    ensures some { (folder : List ℕ) (texts : List (List ℕ)) (old new : History)
-        → SomePut folder texts old new → WroteSome (missing_writes folder texts (files_of old)) old new }
+/// After the missing ones of texts that may be put, each text is held under its name, and what stood
+/// before stands.
+pub fn batches_are_held()
+    ensures held { (folder : List ℕ) (texts : List (List ℕ)) (old : History)
+        → MayBePut folder texts old
+        → AllStand (objects_in (files_of (reverse (missing_writes folder texts
+        (files_of old)) ++ old)) folder)
+        texts }
+    ensures kept { (folder : List ℕ) (texts : List (List ℕ)) (old : History)
+        → MayBePut folder texts old
+        → OnlyGrew (objects_in (files_of old) folder)
+        (objects_in (files_of (reverse (missing_writes folder texts
+        (files_of old)) ++ old)) folder) }
+{}
+
+/// Where each text names only objects that are held or come before it, each of the missing ones is
+/// written after all that its object names is held, as of its kind.
+pub fn batches_come_after_their_needs()
+    ensures { (folder : List ℕ) (texts : List (List ℕ)) (old : History) → MayBePut folder texts old
+        → InNeedOrder (objects_in (files_of old) folder) texts
+        → Wrote (PutsAfterNeeds folder texts) old
+        (reverse (missing_writes folder texts (files_of old)) ++ old) }
+{}
+
+/// Where all is held that a commit names, its tree is a tree and each parent a commit; and these are
+/// all that it names. A blob names nothing.
+pub fn commits_need_their_tree_and_parents()
+    ensures tree { (held : Objects) (commit : CommitValue) → AllHeld held (Commit commit)
+        → HoldsAs as_tree held commit.tree }
+    ensures parent { (held : Objects) (commit : CommitValue) (parent : Name)
+        → AllHeld held (Commit commit) → Contains commit.parents parent
+        → HoldsAs as_commit held parent }
+    ensures only { (held : Objects) (commit : CommitValue) → HoldsAs as_tree held commit.tree
+        → ((parent : Name) → Contains commit.parents parent → HoldsAs as_commit held parent)
+        → AllHeld held (Commit commit) }
+    ensures blob { (held : Objects) (content : List ℕ) → AllHeld held (Blob content) }
+{}
+
+/// Where all is held that a tree names, each entry of a file or of a link is a blob and each folder a
+/// tree; and these are all that it names, since a module's commit is another repository's.
+pub fn trees_need_their_entries()
+    ensures plain { (held : Objects) (tree : TreeValue) (entry : EntryValue)
+        → AllHeld held (Tree tree) → Contains tree.entries entry → entry.mode ≡ Plain
+        → HoldsAs as_blob held entry.object }
+    ensures exec { (held : Objects) (tree : TreeValue) (entry : EntryValue)
+        → AllHeld held (Tree tree) → Contains tree.entries entry → entry.mode ≡ Exec
+        → HoldsAs as_blob held entry.object }
+    ensures link { (held : Objects) (tree : TreeValue) (entry : EntryValue)
+        → AllHeld held (Tree tree) → Contains tree.entries entry → entry.mode ≡ Link
+        → HoldsAs as_blob held entry.object }
+    ensures folder { (held : Objects) (tree : TreeValue) (entry : EntryValue)
+        → AllHeld held (Tree tree) → Contains tree.entries entry → entry.mode ≡ Folder
+        → HoldsAs as_tree held entry.object }
+    ensures only { (held : Objects) (tree : TreeValue)
+        → ((entry : EntryValue) → Contains tree.entries entry
+        → kind_named entry.mode ≡ Some kinds.Blob → HoldsAs as_blob held entry.object)
+        → ((entry : EntryValue) → Contains tree.entries entry
+        → kind_named entry.mode ≡ Some kinds.Tree → HoldsAs as_tree held entry.object)
+        → AllHeld held (Tree tree) }
+    ensures module_free { kind_named Module ≡ None }
+{}
+
+/// In a whole folder all is held that a held object leads to, each as of its kind.
+pub fn what_is_led_to_is_held()
+    ensures { (held : Objects) (from to : Reference) → IsWhole held
+        → IsHeldAs held from.name from.kind → LeadsTo held from to
+        → IsHeldAs held to.name to.kind }
+{}
+
+/// Each object leads to itself; one path after another is one; and paths stay while objects are only
+/// added.
+pub fn paths_compose()
+    ensures none { (held : Objects) (one : Reference) → LeadsTo held one one }
+    ensures then { (held : Objects) (from mid to : Reference)
+        → LeadsTo held from mid → LeadsTo held mid to → LeadsTo held from to }
+    ensures stays { (old new : Objects) (from to : Reference) → OnlyGrew old new
+        → LeadsTo old from to → LeadsTo new from to }
 {}

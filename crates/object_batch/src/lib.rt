@@ -5,12 +5,14 @@
 mod batch;
 mod commit;
 mod laws;
-mod object_text;
 
-pub use batch::{check_sizes, put_all};
+pub use batch::{check_sizes, plan_all, put_all};
 pub use commit::commit_for;
-pub use laws::{batches_are_put_or_refused, batches_write_what_is_missing};
-pub use object_text::ObjectText;
+pub use laws::{
+    batches_are_held, batches_are_put_or_refused, batches_come_after_their_needs,
+    commits_need_their_tree_and_parents, paths_compose, trees_need_their_entries,
+    what_is_led_to_is_held,
+};
 
 #[cfg(test)]
 mod tests;

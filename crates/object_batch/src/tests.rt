@@ -1,9 +1,9 @@
 //! What no clause says: worked names, and that calls succeed.
-use crate::{ObjectText, check_sizes, put_all};
+use crate::{check_sizes, put_all};
 use gb_store::{Fail as Listed, MemStore, Store};
 use gb_text::{Folder, List, Memory, Name};
 use git_object::Kind;
-use object_store::{PutFault, path_of};
+use object_store::{ObjectText, PutFault, path_of};
 use std::alloc::Global;
 use std::test::Fail;
 
@@ -90,7 +90,7 @@ fn a_store_that_fails_keeps_the_first(rt: HostRuntime) -> Result<(), Fail> {
     let alloc = rt.alloc();
     let mut fails = List::new(alloc);
     let _ = fails.push(Listed {
-        call: 5,
+        call: 3,
         after: false,
     });
     let mut store = MemStore::new(alloc, fails);
