@@ -19,8 +19,9 @@ use Rattle.ref_store.specs.Refs.{Ref, ref_at, ref_of}
 use Rattle.ref_store.specs.Listing.{IsRefList, entry_named, entry_of, found_of, id_place}
 use Rattle.ref_store.specs.declared.listing.RefEntry.{RefEntry}
 use Rattle.ref_store.specs.declared.listing.RefFound.{RefFound}
-use Rattle.ref_store.proofs.IdPathLemmas.{both, encode_lower-digits}
-use Rattle.ref_store.proofs.OrderLemmas.{encode_lower-order}
+use Rattle.std.proofs.lemmas.Bool.{and_parts}
+use Rattle.gb_text.proofs.AsciiLemmas.{encode_lower-digits}
+use Rattle.gb_text.proofs.OrderLemmas.{encode_lower-order}
 
 -- ---- lists
 
@@ -124,7 +125,7 @@ module _ (files : Files) (folder dir : List ℕ) where
   digits_have_no_slash : (text : List ℕ) → list_all is_hex_digit text ≡ true → list_any (λ c. c == 47) text ≡ false
   digits_have_no_slash [] all = refl
   digits_have_no_slash (c ∷ cs) all =
-      let here = both (is_hex_digit c) (list_all is_hex_digit cs) all in
+      let here = and_parts (is_hex_digit c) (list_all is_hex_digit cs) all in
       rw (digit_is_no_slash c here.0, digits_have_no_slash cs here.1) refl
 
   -- a ref that is found stands

@@ -1,37 +1,19 @@
 -- Refs are a map from paths to heads, beside the objects.
-use Rattle.std.proofs.Common.{◌≡◌, ◌≢◌, ℕ, Bool, true, false, cond, List, [], ◌∷◌, ◌++◌, refl, ◌∙◌, ap, arith}
+use Rattle.std.proofs.Common.{◌≡◌, ◌≢◌, ℕ, List, ◌++◌, ◌∙◌, ap, arith}
 use Rattle.std.specs.Prelude.{codes, slice_index}
-use Rattle.std.specs.Str.{bytes_eq}
-use Rattle.std.proofs.lemmas.Slice.Eq.{bytes_eq-Decides}
 use Rattle.hex.specs.Hex.{encode_lower}
 use Rattle.gb_text.specs.Digits.{IsName}
-use Rattle.gb_text.specs.Folder.{joined, joint}
+use Rattle.gb_text.specs.Folder.{joined}
 use Rattle.gb_text.specs.declared.id.Name.{Name}
 use Rattle.gb_text.proofs.DigitLemmas.{name_of-encode_lower}
+use Rattle.gb_text.proofs.PathLemmas.{joined-rest}
+pub use Rattle.gb_text.proofs.PathLemmas.{joined-rest as joined-same}
+pub use Rattle.gb_store.proofs.FrameLemmas.{written-same, written-other}
 use Rattle.gb_store.specs.Files.{Files, written}
 use Rattle.gb_store.specs.ObjectPath.{object_place}
-use Rattle.gb_store.specs.declared.store.Change.{Change}
 use Rattle.ref_store.specs.Refs.{Head, ref_at, ref_of}
 use Rattle.ref_store.specs.Setting.{ref_write}
 use Rattle.ref_store.proofs.RefLemmas.{reads_as_head}
-
-pub written-same : (files : Files) (change : Change) → written files change change.path ≡ change.bytes
-written-same files change = rw ((bytes_eq-Decides change.path change.path).1 refl) refl
-
-pub written-other : (files : Files) (change : Change) (path : List ℕ) → change.path ≢ path → written files change path ≡ files path
-written-other files change path other = each (bytes_eq change.path path) refl
-  where
-    each : (b : Bool) → bytes_eq change.path path ≡ b → cond (bytes_eq change.path path) change.bytes (files path) ≡ files path
-    each true e = absurd (other ((bytes_eq-Decides change.path path).0 e))
-    each false e = rw e refl
-
-append_same : (front one two : List ℕ) → front ++ one ≡ front ++ two → one ≡ two
-append_same [] one two e = e
-append_same (c ∷ cs) one two e = append_same cs one two (cc e)
-
--- what stands at one place below a folder stands at no other
-pub joined-same : (folder one two : List ℕ) → joined folder one ≡ joined folder two → one ≡ two
-joined-same folder one two e = append_same (folder ++ joint folder) one two e
 
 pub set_ref_reads : (files : Files) (folder path : List ℕ) (head : Name) → IsName head → ref_at (written files (ref_write folder path head)) folder path ≡ Head head
 set_ref_reads files folder path head is =
@@ -40,11 +22,11 @@ set_ref_reads files folder path head is =
 pub other_refs_stay : (files : Files) (folder path other : List ℕ) (head : Name) → path ≢ other
     → ref_at (written files (ref_write folder path head)) folder other ≡ ref_at files folder other
 other_refs_stay files folder path other head differs =
-    ap ref_of (written-other files (ref_write folder path head) (joined folder other) (λ e. differs (joined-same folder path other e)))
+    ap ref_of (written-other files (ref_write folder path head) (joined folder other) (λ e. differs (joined-rest folder path other e)))
 
 ref_is_no_object : (folder rest : List ℕ) (name : Name) → joined folder (codes "refs/" ++ rest) ≢ joined folder (object_place name)
 ref_is_no_object folder rest name e =
-    let first : 114 ≡ 111 = ap (λ (t : List ℕ). slice_index t 0) (joined-same folder (codes "refs/" ++ rest) (object_place name) e) in
+    let first : 114 ≡ 111 = ap (λ (t : List ℕ). slice_index t 0) (joined-rest folder (codes "refs/" ++ rest) (object_place name) e) in
     absurd (omega (arith, first))
 
 pub objects_stay : (files : Files) (folder rest : List ℕ) (head name : Name)

@@ -1,11 +1,13 @@
 //! Laws of refs, each the contract of a function that does nothing.
-ghost use Rattle.std.specs.Prelude.{◌≡◌, ◌≢◌, ◌++◌, ℕ, List, Option, codes, false};
+ghost use Rattle.std.specs.Prelude.{◌≡◌, ◌≢◌, ◌++◌, ℕ, List, Option, codes, false, IsTrue};
 ghost use Rattle.gb_text.specs.Digits.{IsId, IsName};
-ghost use Rattle.gb_text.specs.Folder.{joined};
+ghost use Rattle.gb_text.specs.Folder.{is_rooted, joined};
+ghost use Rattle.gb_text.specs.Overlap.{Overlap};
 ghost use Rattle.gb_text.specs.declared.id.Id.{Id};
 ghost use Rattle.gb_text.specs.declared.id.Name.{Name};
 ghost use Rattle.gb_store.specs.Files.{Files, written};
 ghost use Rattle.gb_store.specs.ObjectPath.{is_object_path, object_place};
+ghost use Rattle.gb_store.specs.declared.store.Change.{Change};
 ghost use Rattle.ref_store.specs.Listing.{id_place};
 ghost use Rattle.ref_store.specs.Refs.{Head, ref_at};
 ghost use Rattle.ref_store.specs.Setting.{ref_write};
@@ -15,14 +17,16 @@ pub fn refs_are_a_map()
     ensures same { (files : Files) (folder path : List ℕ) (head : Name) → IsName head
         → ref_at (written files (ref_write folder path head)) folder path ≡ Head head }
     ensures other { (files : Files) (folder path other : List ℕ) (head : Name) → path ≢ other
-        → ref_at (written files (ref_write folder path head)) folder other ≡ ref_at files folder other }
+        → ref_at (written files (ref_write folder path head)) folder other
+        ≡ ref_at files folder other }
 {}
 
 /// A ref below `refs/` that is set leaves the objects of its folder as they were.
 pub fn refs_are_no_objects()
     ensures { (files : Files) (folder rest : List ℕ) (head : Name)
         → ◌≡◌ {A = Name → Option (List ℕ)}
-        (λ name. written files (ref_write folder (codes "refs/" ++ rest) head) (joined folder (object_place name)))
+        (λ name. written files (ref_write folder (codes "refs/" ++ rest) head)
+        (joined folder (object_place name)))
         (λ name. files (joined folder (object_place name))) }
 {}
 
@@ -30,4 +34,37 @@ pub fn refs_are_no_objects()
 pub fn ids_stand_at_no_object_path()
     ensures { (folder dir : List ℕ) (id : Id) → IsId id
         → is_object_path (joined folder (id_place dir id)) ≡ false }
+{}
+
+/// A ref that is set at a path that is no object's, as that of an id, leaves the objects of every
+/// folder.
+pub fn refs_leave_all_objects()
+    ensures path { (files : Files) (folder other path : List ℕ) (head name : Name)
+        → is_object_path (joined folder path) ≡ false → IsName name
+        → written files (ref_write folder path head) (joined other (object_place name))
+        ≡ files (joined other (object_place name)) }
+    ensures id { (files : Files) (folder other dir : List ℕ) (id : Id) (head name : Name)
+        → IsId id → IsName name
+        → written files (ref_write folder (id_place dir id) head) (joined other (object_place name))
+        ≡ files (joined other (object_place name)) }
+{}
+
+/// A write of an object, of whatever folder, leaves each ref at a path that is no object's, as that
+/// of an id.
+pub fn objects_leave_all_refs()
+    ensures path { (files : Files) (change : Change) (folder path : List ℕ)
+        → IsTrue (is_object_path change.path) → is_object_path (joined folder path) ≡ false
+        → ref_at (written files change) folder path ≡ ref_at files folder path }
+    ensures id { (files : Files) (change : Change) (folder dir : List ℕ) (id : Id)
+        → IsTrue (is_object_path change.path) → IsId id
+        → ref_at (written files change) folder (id_place dir id)
+        ≡ ref_at files folder (id_place dir id) }
+{}
+
+/// A ref that is set leaves those of folders that do not overlap its own.
+pub fn refs_of_folders_apart()
+    ensures { (files : Files) (folder other path place : List ℕ) (head : Name)
+        → is_rooted path ≡ false → is_rooted place ≡ false → (Overlap folder other → ⊥)
+        → ref_at (written files (ref_write other place head)) folder path
+        ≡ ref_at files folder path }
 {}

@@ -8,10 +8,13 @@ mod read;
 mod write;
 
 pub use fault::RefFault;
-pub use laws::{ids_stand_at_no_object_path, refs_are_a_map, refs_are_no_objects};
+pub use laws::{
+    ids_stand_at_no_object_path, objects_leave_all_refs, refs_are_a_map, refs_are_no_objects,
+    refs_leave_all_objects, refs_of_folders_apart,
+};
 pub use listing::{RefEntry, RefFound, list, place_of};
 pub use read::get;
-pub use write::set;
+pub use write::{set, write_of};
 
 #[cfg(test)]
 mod tests;

@@ -1,10 +1,9 @@
 //! The refs of ids that stand right in a folder's dir.
-ghost use Rattle.std.specs.Prelude.{◌≡◌, List as Items, ℕ, IsTrue, IsErrOf, IfOk, OnOk, Err, false, string_bytes};
+ghost use Rattle.std.specs.Prelude.{◌≡◌, List as Items, ℕ, IsTrue, IsErrOf, IfOk, Err, false};
 ghost use Rattle.std.specs.List.{filter_map};
 ghost use Rattle.gb_store.specs.Faults.{KeepsFaults};
 ghost use Rattle.gb_store.specs.Files.{files_of};
 ghost use Rattle.gb_store.specs.ObjectPath.{is_object_path};
-ghost use Rattle.gb_text.specs.Digits.{IsId};
 ghost use Rattle.gb_text.specs.Folder.{joined};
 ghost use Rattle.ref_store.specs.Refs.{ref_at};
 ghost use Rattle.ref_store.specs.Listing.{IsRefList, entry_named, found_of, id_place};
@@ -13,8 +12,8 @@ ghost use Rattle.ref_store.specs.declared.fault.RefFault.TheVariants as fault;
 use crate::fault::RefFault;
 use crate::read::get;
 use gb_store::Store;
-use gb_text::{Folder, Id, List, Memory, Name, Text};
-use std::alloc::{AllocError, Global};
+use gb_text::{Folder, Id, List, Memory, Name, Text, push_id};
+use std::alloc::Global;
 
 /// What stands at the place of a ref.
 #[derive(Clone, Copy, Debug, PartialEq, Eq)]
@@ -34,28 +33,15 @@ pub struct RefEntry {
 
 /// Where the ref of an id stands: in the dir, with the 64 digits as the file's name. No folder has
 /// an object there.
-#[tactic(auto, using(crate::proofs::IdPathLemmas::no_object_there))]
 pub fn place_of(alloc: Global, dir: &str, id: &Id) -> Result<Text, Memory>
     ensures place { IfOk result (λ place. place ≡ id_place dir.now id.now) }
-    ensures no_object { (folder : Items ℕ) → IfOk result (λ place. is_object_path (joined folder place) ≡ false) }
+    ensures no_object { (folder : Items ℕ)
+        → IfOk result (λ place. is_object_path (joined folder place) ≡ false) }
 {
-    let place = digits_below(alloc, dir, id)?;
-    Ok(Text::from_string(place))
-}
-
-// The dir, a slash and the digits of an id.
-fn digits_below(alloc: Global, dir: &str, id: &Id) -> Result<String, AllocError>
-    ensures place { IfOk result (λ place. string_bytes place ≡ id_place dir.now id.now) }
-    ensures sized { OnOk result (IsId id.now) }
-{
-    let digits = id.text();
-    let Ok(digits) = std::str::from_utf8(&digits) else {
-        unreachable!();
-    };
     let mut place = String::from_str(alloc, dir)?;
     place.push_str("/")?;
-    place.push_str(digits)?;
-    Ok(place)
+    push_id(&mut place, id)?;
+    Ok(Text::from_string(place))
 }
 
 /// One entry for each id that a file right in the dir has as its name, in the order of ids. A file
@@ -67,11 +53,13 @@ pub fn list<S: Store>(
     folder: &Folder,
     dir: &str,
 ) -> Result<List<RefEntry>, RefFault>
-    ensures entries { IsTrue S.tells → IfOk result (IsRefList (files_of (S.history disk.old)) folder.now dir.now) }
+    ensures entries { IsTrue S.tells
+        → IfOk result (IsRefList (files_of (S.history disk.old)) folder.now dir.now) }
     ensures never_bad { (at : Items ℕ) → result ≡ Err (fault.BadRef at) → ⊥ }
     ensures unwritten { IsTrue S.tells → S.history disk.new ≡ S.history disk.old }
     ensures reads { S.object_reads disk.new ≡ S.object_reads disk.old }
-    ensures caused { KeepsFaults S.never_fails S.faults (IsErrOf result RefFault.Disk) disk.old disk.new }
+    ensures caused { KeepsFaults S.never_fails S.faults
+        (IsErrOf result RefFault.Disk) disk.old disk.new }
 {
     let at = folder.join(alloc, dir)?;
     let names = disk.list(alloc, at.as_str())?;
@@ -87,11 +75,14 @@ fn entries_of<S: Store>(
     dir: &str,
     names: &[Text],
 ) -> Result<Vec<RefEntry>, RefFault>
-    ensures entries { IsTrue S.tells → IfOk result (λ entries. entries.items ≡ filter_map (entry_named (files_of (S.history disk.old)) folder.now dir.now) names.now) }
+    ensures entries { IsTrue S.tells
+        → IfOk result (λ entries. entries.items
+        ≡ filter_map (entry_named (files_of (S.history disk.old)) folder.now dir.now) names.now) }
     ensures never_bad { (at : Items ℕ) → result ≡ Err (fault.BadRef at) → ⊥ }
     ensures unwritten { IsTrue S.tells → S.history disk.new ≡ S.history disk.old }
     ensures reads { S.object_reads disk.new ≡ S.object_reads disk.old }
-    ensures caused { KeepsFaults S.never_fails S.faults (IsErrOf result RefFault.Disk) disk.old disk.new }
+    ensures caused { KeepsFaults S.never_fails S.faults
+        (IsErrOf result RefFault.Disk) disk.old disk.new }
 {
     let mut entries = Vec::new(alloc);
     for name in names {
@@ -110,11 +101,14 @@ fn entry_at<S: Store>(
     dir: &str,
     name: &Text,
 ) -> Result<Option<RefEntry>, RefFault>
-    ensures entry { IsTrue S.tells → IfOk result (λ entry. entry ≡ entry_named (files_of (S.history disk.old)) folder.now dir.now name.now) }
+    ensures entry { IsTrue S.tells
+        → IfOk result (λ entry. entry
+        ≡ entry_named (files_of (S.history disk.old)) folder.now dir.now name.now) }
     ensures never_bad { (at : Items ℕ) → result ≡ Err (fault.BadRef at) → ⊥ }
     ensures unwritten { IsTrue S.tells → S.history disk.new ≡ S.history disk.old }
     ensures reads { S.object_reads disk.new ≡ S.object_reads disk.old }
-    ensures caused { KeepsFaults S.never_fails S.faults (IsErrOf result RefFault.Disk) disk.old disk.new }
+    ensures caused { KeepsFaults S.never_fails S.faults
+        (IsErrOf result RefFault.Disk) disk.old disk.new }
 {
     match Id::read(name.as_str().as_bytes()) {
         Some(id) => {
@@ -134,11 +128,14 @@ fn found_at<S: Store>(
     dir: &str,
     id: &Id,
 ) -> Result<Option<RefFound>, RefFault>
-    ensures found { IsTrue S.tells → IfOk result (λ found. found ≡ found_of (ref_at (files_of (S.history disk.old)) folder.now (id_place dir.now id.now))) }
+    ensures found { IsTrue S.tells
+        → IfOk result (λ found. found
+        ≡ found_of (ref_at (files_of (S.history disk.old)) folder.now (id_place dir.now id.now))) }
     ensures never_bad { (at : Items ℕ) → result ≡ Err (fault.BadRef at) → ⊥ }
     ensures unwritten { IsTrue S.tells → S.history disk.new ≡ S.history disk.old }
     ensures reads { S.object_reads disk.new ≡ S.object_reads disk.old }
-    ensures caused { KeepsFaults S.never_fails S.faults (IsErrOf result RefFault.Disk) disk.old disk.new }
+    ensures caused { KeepsFaults S.never_fails S.faults
+        (IsErrOf result RefFault.Disk) disk.old disk.new }
 {
     let place = place_of(alloc, dir, id)?;
     match get(alloc, disk, folder, place.as_str()) {

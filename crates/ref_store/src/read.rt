@@ -22,10 +22,14 @@ pub fn get<S: Store>(
     folder: &Folder,
     path: &str,
 ) -> Result<Option<Name>, RefFault>
-    ensures answers { IsTrue S.tells → Answers (joined folder.now path.now) (ref_at (files_of (S.history disk.old)) folder.now path.now) result }
+    ensures answers { IsTrue S.tells
+        → Answers (joined folder.now path.now) (ref_at (files_of
+        (S.history disk.old)) folder.now path.now) result }
     ensures unwritten { IsTrue S.tells → S.history disk.new ≡ S.history disk.old }
-    ensures reads { ReadsOnce (joined folder.now path.now) result (S.object_reads disk.old) (S.object_reads disk.new) }
-    ensures caused { KeepsFaults S.never_fails S.faults (IsErrOf result RefFault.Disk) disk.old disk.new }
+    ensures reads { ReadsOnce (joined folder.now path.now) result (S.object_reads disk.old)
+        (S.object_reads disk.new) }
+    ensures caused { KeepsFaults S.never_fails S.faults
+        (IsErrOf result RefFault.Disk) disk.old disk.new }
 {
     let at = folder.join(alloc, path)?;
     match disk.read(alloc, at.as_str(), MOST_BYTES)? {

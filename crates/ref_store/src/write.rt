@@ -9,7 +9,7 @@ ghost use Rattle.ref_store.specs.Refs.{Head, ref_at, ref_of};
 ghost use Rattle.ref_store.specs.Setting.{PutsRef, SetAnswers, ref_write};
 
 use crate::fault::RefFault;
-use gb_store::Store;
+use gb_store::{Change, Store};
 use gb_text::{Bytes, Folder, Memory, Name};
 use std::alloc::Global;
 
@@ -22,16 +22,31 @@ pub fn set<S: Store>(
     path: &str,
     head: &Name,
 ) -> Result<(), RefFault>
-    ensures answers { IsTrue S.tells → SetAnswers (ref_write folder.now path.now head.now) (S.history disk.old) (S.history disk.new) result }
-    ensures reads_back { IsTrue S.tells → OnOk result (ref_at (files_of (S.history disk.new)) folder.now path.now ≡ Head head.now) }
-    ensures wrote { WroteIf S.tells (PutsRef folder.now path.now head.now) (S.history disk.old) (S.history disk.new) }
+    ensures answers { IsTrue S.tells
+        → SetAnswers (ref_write folder.now path.now head.now) (S.history disk.old)
+        (S.history disk.new) result }
+    ensures reads_back { IsTrue S.tells
+        → OnOk result (ref_at (files_of (S.history disk.new)) folder.now path.now ≡ Head head.now) }
+    ensures wrote { WroteIf S.tells (PutsRef folder.now path.now head.now) (S.history disk.old)
+        (S.history disk.new) }
     ensures reads { S.object_reads disk.new ≡ S.object_reads disk.old }
-    ensures caused { KeepsFaults S.never_fails S.faults (IsErrOf result RefFault.Disk) disk.old disk.new }
+    ensures caused { KeepsFaults S.never_fails S.faults
+        (IsErrOf result RefFault.Disk) disk.old disk.new }
 {
     let at = folder.join(alloc, path)?;
     let text = ref_text(alloc, head)?;
     disk.put(alloc, at.as_str(), text.as_slice())?;
     Ok(())
+}
+
+/// The write that sets the ref at a path of the folder to a head.
+pub fn write_of(alloc: Global, folder: &Folder, path: &str, head: &Name) -> Result<Change, Memory>
+    ensures { IfOk result (λ change. change ≡ ref_write folder.now path.now head.now) }
+{
+    Ok(Change {
+        path: folder.join(alloc, path)?,
+        bytes: Some(ref_text(alloc, head)?),
+    })
 }
 
 // The text of a ref: the 40 digits of its head and a line feed.
