@@ -4,7 +4,7 @@ use Rattle.std.proofs.lemmas.Bool.{cases_eq, cases_lt}
 use Rattle.gb_text.specs.declared.id.Name.{Name}
 use Rattle.git_object.specs.declared.commit.Commit.{Commit}
 use Rattle.object_store.specs.Held.{Objects}
-use Rattle.commit_chain.specs.Objects.{commit_at}
+use Rattle.object_store.specs.Typed.{commit_at}
 use Rattle.commit_chain.specs.Chain.{IsCommit, Chain, MeetsMerge}
 use Rattle.commit_chain.specs.declared.chain.Met.{Met}
 

@@ -1,3 +1,4 @@
 pub mod ChainLemmas
 pub mod PassLemmas
+pub mod StayLemmas
 pub mod StepLemmas

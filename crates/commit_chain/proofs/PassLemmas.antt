@@ -4,8 +4,8 @@ use Rattle.std.proofs.lemmas.Bool.{cases_eq, cases_lt}
 use Rattle.gb_text.specs.declared.id.Name.{Name}
 use Rattle.git_object.specs.declared.commit.Commit.{Commit}
 use Rattle.object_store.specs.Held.{Objects}
-use Rattle.commit_chain.specs.Objects.{commit_at}
-use Rattle.commit_chain.specs.Chain.{IsCommit, Chain, Walked, Meets, MeetsMerge, FaultHolds, IsTooLong, Passes}
+use Rattle.object_store.specs.Typed.{commit_at}
+use Rattle.commit_chain.specs.Chain.{IsCommit, Chain, Walked, Meets, MeetsMerge, WalkFaultHolds, IsTooLong, Passes}
 use Rattle.commit_chain.specs.declared.chain.Met.{Met}
 use Rattle.commit_chain.specs.declared.fault.ChainFault.{ChainFault}
 use Rattle.commit_chain.specs.declared.fault.ChainFault.TheVariants as fault
@@ -147,11 +147,11 @@ holds_commit objects head name walk walked count meets none =
     let named : (get_or walk passes.at.0 passes.met).name ≡ name = ap (λ (m : Met). m.name) passes.at.2 ∙ passes.is in
     cc (sym none ∙ ap (commit_at objects) (sym named) ∙ here.1.1.held)
 
-pub no_fault-walked : (objects : Objects) (head : Name) (walk : List Met) (f : ChainFault) → Walked objects head walk → length walk ≤ 65536 → FaultHolds objects head f → ⊥
+pub no_fault-walked : (objects : Objects) (head : Name) (walk : List Met) (f : ChainFault) → Walked objects head walk → length walk ≤ 65536 → WalkFaultHolds objects head f → ⊥
 no_fault-walked objects head walk (fault.Missing name) walked count h = holds_commit objects head name walk walked count h.0 (IsNoCommit-none objects name (fault.Missing name) (refl, h.1))
 no_fault-walked objects head walk (fault.Damaged name) walked count h = holds_commit objects head name walk walked count h.0 (IsNoCommit-none objects name (fault.Damaged name) (refl, h.1))
 no_fault-walked objects head walk (fault.Large name) walked count h = holds_commit objects head name walk walked count h.0 (IsNoCommit-none objects name (fault.Large name) (refl, h.1))
-no_fault-walked objects head walk (fault.NotCommit name) walked count h = holds_commit objects head name walk walked count h.0 (IsNoCommit-none objects name (fault.NotCommit name) (refl, h.1, h.2, h.3))
+no_fault-walked objects head walk (fault.NotCommit name) walked count h = holds_commit objects head name walk walked count h.0 (IsNoCommit-none objects name (fault.NotCommit name) (refl, h.1))
 no_fault-walked objects head walk fault.TooLong walked count h = not_too_long objects head walk walked count h
 
 -- a commit of a whole walk was met, and is held

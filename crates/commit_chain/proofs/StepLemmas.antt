@@ -1,13 +1,12 @@
 -- What a step of the walk says of the whole walk.
-use Rattle.std.proofs.Common.{◌≡◌, inl, inr, ℕ, ◌≤◌, List, length, false, Option, Some, None, Ok, Err, refl, sym, ◌∙◌, ap, subst, arith, nat_le}
-use Rattle.std.proofs.lemmas.Grind.{common_steps}
-use Rattle.std.specs.Option.{option_and_then}
+use Rattle.std.proofs.Common.{◌≡◌, inl, inr, ◌≤◌, List, length, Option, Some, None, Ok, Err, sym, ◌∙◌, ap, subst, arith}
 use Rattle.gb_text.specs.declared.id.Name.{Name}
 use Rattle.git_object.specs.declared.commit.Commit.{Commit}
-use Rattle.git_object.specs.Reading.{object_of}
-use Rattle.object_store.specs.Held.{Objects, object_at, named, IsLarge}
-use Rattle.commit_chain.specs.Objects.{as_commit, commit_at}
-use Rattle.commit_chain.specs.Chain.{Chain, Meets, MeetsMerge, FaultHolds}
+use Rattle.object_store.specs.Held.{Objects}
+use Rattle.object_store.specs.declared.fault.KindFault.TheVariants as kind
+use Rattle.object_store.proofs.FaultLemmas.{kind_fault-none}
+use Rattle.object_store.specs.Typed.{as_commit, commit_at}
+use Rattle.commit_chain.specs.Chain.{Chain, Meets, MeetsMerge, WalkFaultHolds}
 use Rattle.commit_chain.specs.Answers.{IsNoCommit, StepAnswers, WalkRefused, parents_of}
 use Rattle.commit_chain.specs.declared.chain.Met.{Met}
 use Rattle.commit_chain.specs.declared.fault.ChainFault.{ChainFault}
@@ -16,27 +15,21 @@ use Rattle.commit_chain.specs.declared.fault.ChainStop.{ChainStop}
 use Rattle.commit_chain.specs.declared.fault.ChainStop.TheVariants as stop
 use Rattle.commit_chain.proofs.ChainLemmas.{no_merge}
 
--- a name whose file is too large holds nothing
-pub object_at-large : (objects : Objects) (name : Name) → IsLarge (objects name) → object_at objects name ≡ None
-object_at-large objects name large =
-    let short : nat_le (length large.text) 4194304 ≡ false = grind (arith, common_steps, large.long) in
-    ap (λ (o : Option (List ℕ)). option_and_then object_of (option_and_then (named name) o)) large.stands ∙ rw short refl
-
 -- a fault of a name that is to be a commit leaves it without one
 pub IsNoCommit-none : (objects : Objects) (name : Name) (f : ChainFault) → IsNoCommit objects name f → commit_at objects name ≡ None
-IsNoCommit-none objects name (fault.Missing n) h = ap (λ (o : Option (List ℕ)). option_and_then as_commit (option_and_then object_of (option_and_then (named name) o))) h.1
-IsNoCommit-none objects name (fault.Damaged n) h = ap (option_and_then as_commit) h.1.is_none
-IsNoCommit-none objects name (fault.Large n) h = ap (option_and_then as_commit) (object_at-large objects name h.1)
-IsNoCommit-none objects name (fault.NotCommit n) h = ap (option_and_then as_commit) h.2 ∙ h.3
+IsNoCommit-none objects name (fault.Missing n) h = kind_fault-none as_commit objects name (kind.Missing n) h
+IsNoCommit-none objects name (fault.Damaged n) h = kind_fault-none as_commit objects name (kind.Damaged n) h
+IsNoCommit-none objects name (fault.Large n) h = kind_fault-none as_commit objects name (kind.Large n) h
+IsNoCommit-none objects name (fault.NotCommit n) h = kind_fault-none as_commit objects name (kind.OtherKind n) h
 IsNoCommit-none objects name fault.TooLong h = absurd h
 
 -- a name that the walk meets and that holds no commit is a fault of the walk
-pub FaultHolds-commit : (objects : Objects) (head name : Name) (f : ChainFault) → Meets objects head name → IsNoCommit objects name f → FaultHolds objects head f
-FaultHolds-commit objects head name (fault.Missing n) meets h = rw h.0 (meets, h.1)
-FaultHolds-commit objects head name (fault.Damaged n) meets h = rw h.0 (meets, h.1)
-FaultHolds-commit objects head name (fault.Large n) meets h = rw h.0 (meets, h.1)
-FaultHolds-commit objects head name (fault.NotCommit n) meets h = rw h.0 (meets, h.1, h.2, h.3)
-FaultHolds-commit objects head name fault.TooLong meets h = absurd h
+pub WalkFaultHolds-commit : (objects : Objects) (head name : Name) (f : ChainFault) → Meets objects head name → IsNoCommit objects name f → WalkFaultHolds objects head f
+WalkFaultHolds-commit objects head name (fault.Missing n) meets h = rw h.0 (meets, h.1)
+WalkFaultHolds-commit objects head name (fault.Damaged n) meets h = rw h.0 (meets, h.1)
+WalkFaultHolds-commit objects head name (fault.Large n) meets h = rw h.0 (meets, h.1)
+WalkFaultHolds-commit objects head name (fault.NotCommit n) meets h = rw h.0 (meets, h.1)
+WalkFaultHolds-commit objects head name fault.TooLong meets h = absurd h
 
 -- what a step refuses the walk refuses
 pub WalkRefused-step : (objects : Objects) (head : Name) (above : List Met) (name : Name) (s : ChainStop) → Chain objects head above name → length above ≤ 65536
@@ -50,7 +43,7 @@ WalkRefused-step objects head above name (stop.Fault f) chain near h =
     let none = IsNoCommit-none objects name f h in
     let no_commit : (c : Commit) → commit_at objects name ≡ Some c → ⊥ = λ c e. cc (sym none ∙ e) in (
       no_merge objects head above name chain (λ c e. absurd (no_commit c e)) (inr (λ p c e has. no_commit c e)),
-      FaultHolds-commit objects head name f (record { above = above; chain = chain; near = near }) h,
+      WalkFaultHolds-commit objects head name f (record { above = above; chain = chain; near = near }) h,
     )
 
 -- one commit more than 65,536 is too long a walk, which meets no merge

@@ -3,10 +3,11 @@ use Rattle.std.specs.Prelude.{◌≡◌, ◌≤◌, ⊤, List, [], ◌∷◌, le
 use Rattle.std.specs.declared.alloc.Global.{Global}
 use Rattle.gb_text.specs.declared.id.Name.{Name}
 use Rattle.git_object.specs.declared.commit.Commit.{Commit}
-use Rattle.git_object.specs.declared.object.Object.{Object}
-use Rattle.object_store.specs.Held.{Objects, object_at, IsDamaged, IsLarge}
-use Rattle.commit_chain.specs.Objects.{as_commit, commit_at}
-use Rattle.commit_chain.specs.Chain.{IsCommit, Walked, MeetsMerge, FaultHolds}
+use Rattle.object_store.specs.Held.{Objects}
+use Rattle.object_store.specs.Typed.{CannotReadAs, as_commit, commit_at}
+use Rattle.object_store.specs.declared.fault.KindFault.TheVariants as kind
+use Rattle.commit_chain.specs.declared.chain.TheConstants.{MOST_COMMITS}
+use Rattle.commit_chain.specs.Chain.{IsCommit, Walked, MeetsMerge, WalkFaultHolds}
 use Rattle.commit_chain.specs.declared.chain.Met.{Met}
 use Rattle.commit_chain.specs.declared.fault.ChainFault.{ChainFault}
 use Rattle.commit_chain.specs.declared.fault.ChainFault.TheVariants as fault
@@ -15,18 +16,11 @@ use Rattle.commit_chain.specs.declared.fault.ChainStop.TheVariants as stop
 
 -- a fault that keeps a name from being a commit
 abbrev pub IsNoCommit : Objects → Name → ChainFault → Type 0
-IsNoCommit objects name (fault.Missing n) = (n ≡ name) × (objects name ≡ None)
-IsNoCommit objects name (fault.Damaged n) = (n ≡ name) × IsDamaged objects name
-IsNoCommit objects name (fault.Large n) = (n ≡ name) × IsLarge (objects name)
-IsNoCommit objects name (fault.NotCommit n) = (n ≡ name) × (object : Object) × (object_at objects name ≡ Some object) × (as_commit object ≡ None)
+IsNoCommit objects name (fault.Missing n) = CannotReadAs as_commit objects name (kind.Missing n)
+IsNoCommit objects name (fault.Damaged n) = CannotReadAs as_commit objects name (kind.Damaged n)
+IsNoCommit objects name (fault.Large n) = CannotReadAs as_commit objects name (kind.Large n)
+IsNoCommit objects name (fault.NotCommit n) = CannotReadAs as_commit objects name (kind.OtherKind n)
 IsNoCommit objects name fault.TooLong = ⊥
-
-abbrev pub CommitAnswers : Objects → Name → Result Commit ChainStop → Type 0
-CommitAnswers objects name (Ok commit) = commit_at objects name ≡ Some commit
-CommitAnswers objects name (Err stop.Memory) = ⊤
-CommitAnswers objects name (Err stop.Disk) = ⊤
-CommitAnswers objects name (Err (stop.Merge n)) = ⊥
-CommitAnswers objects name (Err (stop.Fault f)) = IsNoCommit objects name f
 
 -- a commit's parents, where it has at most one
 abbrev pub parents_of : Option Name → List Name
@@ -51,8 +45,8 @@ abbrev pub WalkRefused : Objects → Name → ChainStop → Type 0
 WalkRefused objects head stop.Memory = ⊤
 WalkRefused objects head stop.Disk = ⊤
 WalkRefused objects head (stop.Merge name) = MeetsMerge objects head name
-WalkRefused objects head (stop.Fault f) = ((name : Name) → MeetsMerge objects head name → ⊥) × FaultHolds objects head f
+WalkRefused objects head (stop.Fault f) = ((name : Name) → MeetsMerge objects head name → ⊥) × WalkFaultHolds objects head f
 
 abbrev pub WalkAnswers : Objects → Name → Result (Vec Met Global) ChainStop → Type 0
-WalkAnswers objects head (Ok walk) = Walked objects head walk.items × (length walk.items ≤ 65536)
+WalkAnswers objects head (Ok walk) = Walked objects head walk.items × (length walk.items ≤ MOST_COMMITS)
 WalkAnswers objects head (Err s) = WalkRefused objects head s

@@ -2,9 +2,9 @@
 use Rattle.std.specs.Prelude.{◌≡◌, ◌≤◌, List, [], ◌∷◌, length, Contains, Some, None}
 use Rattle.gb_text.specs.declared.id.Name.{Name}
 use Rattle.git_object.specs.declared.commit.Commit.{Commit}
-use Rattle.git_object.specs.declared.object.Object.{Object}
-use Rattle.object_store.specs.Held.{Objects, object_at, IsDamaged, IsLarge}
-use Rattle.commit_chain.specs.Objects.{as_commit, commit_at}
+use Rattle.object_store.specs.Held.{Objects, IsDamaged, IsLarge}
+use Rattle.object_store.specs.Typed.{IsOtherKind, as_commit, commit_at}
+use Rattle.commit_chain.specs.declared.chain.TheConstants.{MOST_COMMITS}
 use Rattle.commit_chain.specs.declared.chain.Met.{Met}
 use Rattle.commit_chain.specs.declared.fault.ChainFault.{ChainFault}
 use Rattle.commit_chain.specs.declared.fault.ChainFault.TheVariants as fault
@@ -30,7 +30,7 @@ Walked objects head (root ∷ above) = Chain objects head above root.name × IsC
 pub record Meets (objects : Objects) (head name : Name) : Type 0 where
   pub above : List Met
   pub chain : Chain objects head above name
-  pub near : length above ≤ 65536
+  pub near : length above ≤ MOST_COMMITS
 
 -- the walk meets a commit with two parents or more, at which it ends
 pub record MeetsMerge (objects : Objects) (head name : Name) : Type 0 where
@@ -45,7 +45,7 @@ pub record IsTooLong (objects : Objects) (head : Name) : Type 0 where
   pub name : Name
   pub commit : Commit
   pub chain : Chain objects head above name
-  pub far : length above ≡ 65536
+  pub far : length above ≡ MOST_COMMITS
   pub held : commit_at objects name ≡ Some commit
 
 -- the walk meets this commit under this name
@@ -54,12 +54,12 @@ pub record MeetsCommit (objects : Objects) (head name : Name) (commit : Commit) 
   pub held : commit_at objects name ≡ Some commit
 
 -- what is wrong with the commits of the walk from a head, one case a fault and with no order among them
-abbrev pub FaultHolds : Objects → Name → ChainFault → Type 0
-FaultHolds objects head (fault.Missing name) = Meets objects head name × (objects name ≡ None)
-FaultHolds objects head (fault.Damaged name) = Meets objects head name × IsDamaged objects name
-FaultHolds objects head (fault.Large name) = Meets objects head name × IsLarge (objects name)
-FaultHolds objects head (fault.NotCommit name) = Meets objects head name × (object : Object) × (object_at objects name ≡ Some object) × (as_commit object ≡ None)
-FaultHolds objects head fault.TooLong = IsTooLong objects head
+abbrev pub WalkFaultHolds : Objects → Name → ChainFault → Type 0
+WalkFaultHolds objects head (fault.Missing name) = Meets objects head name × (objects name ≡ None)
+WalkFaultHolds objects head (fault.Damaged name) = Meets objects head name × IsDamaged objects name
+WalkFaultHolds objects head (fault.Large name) = Meets objects head name × IsLarge (objects name)
+WalkFaultHolds objects head (fault.NotCommit name) = Meets objects head name × IsOtherKind as_commit objects name
+WalkFaultHolds objects head fault.TooLong = IsTooLong objects head
 
 -- some commit of a list has this name
 pub record Passes (walk : List Met) (name : Name) : Type 0 where

@@ -1,4 +1,3 @@
 pub mod Answers
 pub mod Chain
-pub mod Objects
 pub mod Stops

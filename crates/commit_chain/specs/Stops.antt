@@ -1,13 +1,14 @@
--- What a fault of reading an object is to a walk.
-use Rattle.object_store.specs.declared.fault.ObjFault.{ObjFault}
-use Rattle.object_store.specs.declared.fault.ObjFault.TheVariants as object
+-- What a fault of reading a commit is to a walk.
+use Rattle.object_store.specs.declared.fault.KindFault.{KindFault}
+use Rattle.object_store.specs.declared.fault.KindFault.TheVariants as kind
 use Rattle.commit_chain.specs.declared.fault.ChainFault.TheVariants as fault
 use Rattle.commit_chain.specs.declared.fault.ChainStop.{ChainStop}
 use Rattle.commit_chain.specs.declared.fault.ChainStop.TheVariants as stop
 
-abbrev pub stop_of : ObjFault → ChainStop
-stop_of object.Memory = stop.Memory
-stop_of object.Disk = stop.Disk
-stop_of (object.Missing name) = stop.Fault (fault.Missing name)
-stop_of (object.Damaged name) = stop.Fault (fault.Damaged name)
-stop_of (object.Large name) = stop.Fault (fault.Large name)
+abbrev pub stop_of : KindFault → ChainStop
+stop_of kind.Memory = stop.Memory
+stop_of kind.Disk = stop.Disk
+stop_of (kind.Missing name) = stop.Fault (fault.Missing name)
+stop_of (kind.Damaged name) = stop.Fault (fault.Damaged name)
+stop_of (kind.Large name) = stop.Fault (fault.Large name)
+stop_of (kind.OtherKind name) = stop.Fault (fault.NotCommit name)

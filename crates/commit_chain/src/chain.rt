@@ -2,14 +2,13 @@
 ghost use Rattle.std.specs.Prelude.{◌≡◌, ◌≤◌, ◌+◌, IsTrue, IfOk, IfErr, IsErrOf, List, length, reverse, [], ◌∷◌};
 ghost use Rattle.gb_text.specs.declared.id.Name.{Name as NameValue};
 ghost use Rattle.gb_store.specs.Faults.{KeepsFaults};
-ghost use Rattle.gb_store.specs.Files.{files_of};
-ghost use Rattle.object_store.specs.Held.{objects_in};
-ghost use Rattle.commit_chain.specs.Answers.{CommitAnswers, StepAnswers, WalkAnswers};
+ghost use Rattle.object_store.specs.Held.{objects_after};
+ghost use Rattle.commit_chain.specs.Answers.{StepAnswers, WalkAnswers};
 
 use crate::fault::{ChainFault, ChainStop};
 use gb_store::Store;
 use gb_text::{Folder, Name};
-use git_object::{Commit, Object};
+use object_store::get_commit;
 use std::alloc::Global;
 
 /// The most commits that a chain may have.
@@ -29,12 +28,15 @@ pub fn walk<S: Store>(
     folder: &Folder,
     head: &Name,
 ) -> Result<Vec<Met>, ChainStop>
-    ensures answers { IsTrue S.tells → WalkAnswers (objects_in (files_of (S.history disk.old)) folder.now) head.now result }
+    ensures answers { IsTrue S.tells
+        → WalkAnswers (objects_after (S.history disk.old) folder.now) head.now result }
     ensures unwritten { IsTrue S.tells → S.history disk.new ≡ S.history disk.old }
     ensures few { IfOk result (λ walk. length walk.items ≤ 65536) }
-    ensures reads { S.object_reads disk.new ≤ S.object_reads disk.old + 65537 }
-    ensures once { IfOk result (λ walk. S.object_reads disk.new ≤ S.object_reads disk.old + length walk.items) }
-    ensures caused { KeepsFaults S.never_fails S.faults (IsErrOf result ChainStop.Disk) disk.old disk.new }
+    ensures reads { S.object_reads disk.new ≤ S.object_reads disk.old + (MOST_COMMITS + 1) }
+    ensures once { IfOk result (λ walk. S.object_reads disk.new
+        ≤ S.object_reads disk.old + length walk.items) }
+    ensures caused { KeepsFaults S.never_fails S.faults (IsErrOf result ChainStop.Disk)
+        disk.old disk.new }
 {
     let mut above = Vec::new(alloc);
     let mut name = *head;
@@ -60,12 +62,14 @@ fn step<S: Store>(
     folder: &Folder,
     name: &Name,
 ) -> Result<(Met, Option<Name>), ChainStop>
-    ensures answers { IsTrue S.tells → StepAnswers (objects_in (files_of (S.history disk.old)) folder.now) name.now result }
+    ensures answers { IsTrue S.tells
+        → StepAnswers (objects_after (S.history disk.old) folder.now) name.now result }
     ensures unwritten { IsTrue S.tells → S.history disk.new ≡ S.history disk.old }
     ensures reads { S.object_reads disk.new ≤ S.object_reads disk.old + 1 }
-    ensures caused { KeepsFaults S.never_fails S.faults (IsErrOf result ChainStop.Disk) disk.old disk.new }
+    ensures caused { KeepsFaults S.never_fails S.faults (IsErrOf result ChainStop.Disk)
+        disk.old disk.new }
 {
-    let commit = commit_of(alloc, disk, folder, name)?;
+    let commit = get_commit(alloc, disk, folder, name)?;
     let met = Met {
         name: *name,
         tree: commit.tree,
@@ -74,23 +78,5 @@ fn step<S: Store>(
         [] => Ok((met, None)),
         [parent] => Ok((met, Some(*parent))),
         _ => Err(ChainStop::Merge(*name)),
-    }
-}
-
-// The commit that a name holds.
-fn commit_of<S: Store>(
-    alloc: Global,
-    disk: &mut S,
-    folder: &Folder,
-    name: &Name,
-) -> Result<Commit, ChainStop>
-    ensures answers { IsTrue S.tells → CommitAnswers (objects_in (files_of (S.history disk.old)) folder.now) name.now result }
-    ensures unwritten { IsTrue S.tells → S.history disk.new ≡ S.history disk.old }
-    ensures reads { S.object_reads disk.new ≤ S.object_reads disk.old + 1 }
-    ensures caused { KeepsFaults S.never_fails S.faults (IsErrOf result ChainStop.Disk) disk.old disk.new }
-{
-    match object_store::get(alloc, disk, folder, name)? {
-        Object::Commit(commit) => Ok(commit),
-        Object::Blob(_) | Object::Tree(_) => Err(ChainStop::Fault(ChainFault::NotCommit(*name))),
     }
 }

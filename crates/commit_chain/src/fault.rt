@@ -1,6 +1,6 @@
 //! What may be wrong with the commits of a walk, and why the walk stopped.
 use gb_text::{Memory, Name};
-use object_store::ObjFault;
+use object_store::KindFault;
 use std::alloc::{AllocError, AllocFailed};
 
 /// What is wrong with the commits of a walk.
@@ -28,19 +28,20 @@ pub enum ChainStop {
     Fault(ChainFault),
 }
 
-impl From<ObjFault> for ChainStop {
+impl From<KindFault> for ChainStop {
     ghost use Rattle.std.specs.Prelude.{◌≡◌};
     ghost use Rattle.commit_chain.specs.Stops.{stop_of};
 
     ghost from_gives = { λ fault e. e ≡ stop_of fault };
 
-    fn from(fault: ObjFault) -> Self {
+    fn from(fault: KindFault) -> Self {
         match fault {
-            ObjFault::Memory => ChainStop::Memory,
-            ObjFault::Disk => ChainStop::Disk,
-            ObjFault::Missing(name) => ChainStop::Fault(ChainFault::Missing(name)),
-            ObjFault::Damaged(name) => ChainStop::Fault(ChainFault::Damaged(name)),
-            ObjFault::Large(name) => ChainStop::Fault(ChainFault::Large(name)),
+            KindFault::Memory => ChainStop::Memory,
+            KindFault::Disk => ChainStop::Disk,
+            KindFault::Missing(name) => ChainStop::Fault(ChainFault::Missing(name)),
+            KindFault::Damaged(name) => ChainStop::Fault(ChainFault::Damaged(name)),
+            KindFault::Large(name) => ChainStop::Fault(ChainFault::Large(name)),
+            KindFault::OtherKind(name) => ChainStop::Fault(ChainFault::NotCommit(name)),
         }
     }
 }

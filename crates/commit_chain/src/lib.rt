@@ -8,7 +8,8 @@ mod laws;
 pub use chain::{MOST_COMMITS, Met, walk};
 pub use fault::{ChainFault, ChainStop};
 pub use laws::{
-    a_whole_walk_has_no_fault, a_whole_walk_passes_what_it_meets, walks_are_determined,
+    a_chain_has_at_most_65536_commits, a_whole_walk_has_no_fault,
+    a_whole_walk_passes_what_it_meets, walks_are_determined, walks_stay,
 };
 
 #[cfg(test)]
