@@ -4,24 +4,25 @@ use Rattle.std.specs.Prelude.{◌≢◌}
 use Rattle.std.specs.Str.{IsUtf8}
 use Rattle.json_span.specs.Grammar.{IsValueText}
 use Rattle.op_kind.specs.Fold.{state_from, row_from}
-use Rattle.op_kind.specs.Meaning.{Meaning, KeepsLaws}
+use Rattle.op_kind.specs.Meaning.{Meaning, KeepsLaws, version_of}
+use Rattle.op_kind.specs.OpText.{op_brackets}
 use Rattle.op_kind.specs.declared.fault.OpFault.{OpFault}
 use Rattle.op_kind.specs.declared.fault.OpFault.TheVariants.{Memory}
 use Rattle.op_kind.specs.declared.place.Place.{Place}
 
 module _ {Op State Row : Type 0} (k : Meaning Op State Row) (laws : KeepsLaws k) where
   -- What is read of a text that a pack may hold is written and read again.
-  pub read_again : (p : Place) (t : List ℕ) (o : Op) → IsUtf8 t → IsValueText 99 t → k.read_at p t ≡ Some o → k.read_at p (k.written o) ≡ Some o
+  pub read_again : (p : Place) (t : List ℕ) (o : Op) → IsUtf8 t → IsValueText op_brackets t → k.read_at p t ≡ Some o → k.read_at p (k.written o) ≡ Some o
   read_again p t o utf8 value h =
       laws.reads_back p o (laws.keeps_rules p t o utf8 value h) (laws.fits_there p t o h)
       ∙ ap (λ q. Some (k.placed q o)) (sym (laws.stands_there p t o h))
       ∙ ap Some (laws.stays o)
 
   -- A text that is no operation has a fault, and want of memory is not it.
-  pub has_other_fault : (p : Place) (t : List ℕ) → k.read_at p t ≡ None → (f : OpFault) × k.HasFault t f × (f ≢ Memory)
+  pub has_other_fault : (p : Place) (t : List ℕ) → k.read_at p t ≡ None → (f : OpFault) × k.HasFault (version_of p) t f × (f ≢ Memory)
   has_other_fault p t h =
       let found = laws.has_fault p t h in
-      (found.0, found.1, λ same. laws.no_memory t (subst (k.HasFault t) same found.1))
+      (found.0, found.1, λ same. laws.no_memory (version_of p) t (subst (k.HasFault (version_of p) t) same found.1))
 
   -- The text of an operation at another place is that of the operation.
   pub carried : (here there : Place) (o : Op) → k.KeepsRules o → k.Fits there o → k.read_at there (k.written (k.placed here o)) ≡ Some (k.placed there o)

@@ -1,4 +1,4 @@
-mod TextLemmas
+pub mod TextLemmas
 mod FieldLemmas
 mod AnswerLemmas
 pub mod SortedLemmas
@@ -8,3 +8,5 @@ pub mod PlainLemmas
 pub mod ReadLaws
 pub mod KindLemmas
 pub mod Examples
+pub mod TableLaws
+pub mod WrittenLemmas

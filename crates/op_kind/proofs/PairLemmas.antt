@@ -19,7 +19,7 @@ use Rattle.std.proofs.lemmas.List.Elements.{All-nil, All-cons, recursion_from_Al
 use Rattle.std.proofs.lemmas.List.Sorted.{IsPermutation-refl, IsPermutation-sym, IsPermutation-trans, IsPermutation-map, IsPermutation-middle, IsPermutation-append_left, All-permutation, Contains-permutation}
 use Rattle.json_span.specs.Parts.{members_of}
 use Rattle.op_kind.specs.Common.{metadata_at}
-use Rattle.op_kind.specs.CommonLaws.{map_some}
+use Rattle.json_span.proofs.BasicLaws.{map_some}
 use Rattle.op_kind.specs.Members.{text_at}
 use Rattle.op_kind.specs.Metadata.{Entries, with_texts, entries_from, pair_of, pairs_at}
 use Rattle.op_kind.specs.Pairs.{by_key, AreInKeyOrder, texts_of, both_of, ArePairsOf}
@@ -28,13 +28,16 @@ use Rattle.op_kind.proofs.SortedLemmas.{same_elements, put_sorted, put_adds}
 
 -- ---- entries in byte order
 
-abbrev Bytes : Type 0
+-- a text
+abbrev pub Bytes : Type 0
 Bytes = List ℕ
 
-abbrev by_bytes : Bytes → Bytes → Ordering
+-- byte order
+abbrev pub by_bytes : Bytes → Bytes → Ordering
 by_bytes = slice_cmp nat_cmp
 
-abbrev by_name : Bytes × Bytes → Bytes × Bytes → Ordering
+-- entries by their keys
+abbrev pub by_name : Bytes × Bytes → Bytes × Bytes → Ordering
 by_name e f = by_bytes e.0 f.0
 
 by_name_total : IsTotalOrder by_name
@@ -43,10 +46,12 @@ by_name_total = on_total (λ (e : Bytes × Bytes). e.0) nat_list_cmp_total
 by_key_total : IsTotalOrder by_key
 by_key_total = on_total (λ (p : Pair). p.key) nat_list_cmp_total
 
-abbrev Ascends : Entries → Type 0
+-- The keys of entries ascend.
+abbrev pub Ascends : Entries → Type 0
 Ascends es = IsStrictlySortedBy by_name es
 
-empty_ascends : Ascends []
+-- No entries ascend.
+pub empty_ascends : Ascends []
 unfolding IsStrictlySortedBy
 empty_ascends = tt
 
@@ -134,7 +139,8 @@ pairs_above : (e : Bytes × Bytes) (es : Entries) → AllByRecursion (λ f. by_n
 pairs_above e [] all = tt
 pairs_above e (f ∷ es) all = (all.0, pairs_above e es all.1)
 
-pairs_ascend : (es : Entries) → Ascends es → AreInKeyOrder (map pair_of es)
+-- Entries that ascend are pairs that do.
+pub pairs_ascend : (es : Entries) → Ascends es → AreInKeyOrder (map pair_of es)
 unfolding IsStrictlySortedBy
 pairs_ascend [] s = tt
 pairs_ascend (e ∷ es) s = (pairs_above e es s.0, pairs_ascend es s.1)
@@ -244,6 +250,7 @@ pub null_or_read : {A : Type 0} (P : List A → Type 0) (read : Option (List A))
 null_or_read P read true xs none each h = let e : [] ≡ xs = cc (h) in subst P e none
 null_or_read P read false xs none each h = each xs h
 
+-- No pairs are in order.
 pub none_in_order : AreInKeyOrder []
 unfolding IsStrictlySortedBy
 none_in_order = tt

@@ -3,6 +3,7 @@ use Rattle.std.proofs.Common.{◌≡◌, ◌≤◌, refl, subst, sym, ℕ, List,
 use Rattle.std.specs.Str.{IsUtf8}
 use Rattle.std.specs.List.Sorted.{IsPermutation}
 use Rattle.std.proofs.lemmas.List.Sorted.{IsPermutation-refl}
+use Rattle.json_span.specs.declared.nest.TheConstants.{MOST_BRACKETS}
 use Rattle.json_span.proofs.JoinLaws.{members_joined, object_value}
 use Rattle.json_span.proofs.ValueLaws.{deeper}
 use Rattle.op_kind.specs.Common.{metadata_at}
@@ -30,7 +31,7 @@ texts_back (p ∷ ps) each =
 pub pairs_read : (ps : List Pair) → AreInKeyOrder ps → EachPairUtf8 ps → pairs_at (pairs_text ps) ≡ Some ps
 pairs_read ps order each = pairs_only (pairs_text ps) ps (record {
   members = map named (map field_of ps);
-  object = members_joined (map named (map field_of ps)) (each_member 100 100 (map field_of ps) (omega arith) (each_writable 100 ps each));
+  object = members_joined (map named (map field_of ps)) (each_member MOST_BRACKETS MOST_BRACKETS (map field_of ps) (omega arith) (each_writable MOST_BRACKETS ps each));
   same = subst (λ l. IsPermutation l (map both_of ps)) (sym (texts_back ps each)) (IsPermutation-refl (map both_of ps));
   ascending = order;
 })

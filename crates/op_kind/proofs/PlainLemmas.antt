@@ -23,5 +23,6 @@ escape_plain (x ∷ xs) plain =
     let here = both (is_plain x) (list_all is_plain xs) plain in
     ap (λ (l : List ℕ). l ++ escape xs) (byte_plain x here.0) ∙ ap (λ (l : List ℕ). x ∷ l) (escape_plain xs here.1)
 
+-- A string without escapes reads as what stands between its quotes.
 pub plain_reads : (json inner : List ℕ) → json ≡ 34 ∷ inner ++ 34 ∷ [] → list_all is_plain inner ≡ true → IsUtf8 inner → text_at json ≡ Some inner
 plain_reads json inner is plain utf8 = ap text_at (is ∙ ap (λ (t : List ℕ). 34 ∷ t ++ 34 ∷ []) (sym (escape_plain inner plain))) ∙ quoted_reads inner utf8

@@ -8,6 +8,7 @@ use Rattle.std.proofs.lemmas.List.Sorted.{All-permutation}
 use Rattle.serde_json.specs.Find.{as_str}
 use Rattle.serde_json.specs.Read.{read}
 use Rattle.gb_text.specs.Decimal.{decimal_of}
+use Rattle.gb_text.specs.declared.decimal.TheConstants.{LIMIT}
 use Rattle.gb_text.specs.Digits.{IsId, id_of}
 use Rattle.gb_text.specs.declared.id.Id.{Id}
 use Rattle.gb_text.proofs.DecimalLemmas.{decimal_of-is}
@@ -15,7 +16,7 @@ use Rattle.gb_text.proofs.DigitLemmas.{id_of-is}
 use Rattle.json_span.specs.Parts.{elements_of}
 use Rattle.op_kind.specs.Bounds.{IsWithinBounds}
 use Rattle.op_kind.specs.Common.{within_limit, time_at, nonce_in, metadata_at, kind_of, time_of, nonce_of, metadata_of, all_four, parts_of, Parts, at_place, common_of, common_at}
-use Rattle.op_kind.specs.CommonLaws.{map_some}
+use Rattle.json_span.proofs.BasicLaws.{map_some, then_some}
 use Rattle.op_kind.specs.Forms.{id_at, texts_from, elements_at, texts_at}
 use Rattle.op_kind.specs.Members.{Fields, utf8_only, text_at, fields_at, values_of, only_value, value_or}
 use Rattle.op_kind.specs.Metadata.{pairs_at}
@@ -27,10 +28,6 @@ use Rattle.op_kind.specs.declared.place.Place.{Place}
 use Rattle.op_kind.specs.declared.place.Common.{Common}
 use Rattle.op_kind.specs.declared.place.Pair.{Pair}
 use Rattle.op_kind.proofs.PairLemmas.{pairs_found, null_or_read, none_in_order, metadata_ascends}
-
-then_some : {A B : Type 0} (f : A → Option B) (o : Option A) (b : B) → option_and_then f o ≡ Some b → (a : A) × (o ≡ Some a) × (f a ≡ Some b)
-then_some f None b h = absurd (cc (h))
-then_some f (Some a) b h = (a, refl, h)
 
 -- ---- texts
 
@@ -53,12 +50,12 @@ text_is_utf8 json t h = checked_utf8 (is_utf8 json) (option_and_then as_str (rea
 pub decimal_is_below : (json : List ℕ) (n : ℕ) → decimal_of json ≡ Some n → n < 2 ^ 64
 decimal_is_below json n h = let is = decimal_of-is json n h in is.below
 
-limited : (m n : ℕ) (b : Bool) → nat_le m (2 ^ 63 - 1) ≡ b → (if b then Some m else None) ≡ Some n → n ≤ 2 ^ 63 - 1
-limited m n true is h = let e : m ≡ n = cc (h) in subst (λ x. x ≤ 2 ^ 63 - 1) e (leb-true m (2 ^ 63 - 1) is)
+limited : (m n : ℕ) (b : Bool) → nat_le m LIMIT ≡ b → (if b then Some m else None) ≡ Some n → n ≤ LIMIT
+limited m n true is h = let e : m ≡ n = cc (h) in subst (λ x. x ≤ LIMIT) e (leb-true m LIMIT is)
 limited m n false is h = absurd (cc (h))
 
 -- A time that is read is within the limit.
-pub time_is_low : (json : List ℕ) (n : ℕ) → time_at json ≡ Some n → n ≤ 2 ^ 63 - 1
+pub time_is_low : (json : List ℕ) (n : ℕ) → time_at json ≡ Some n → n ≤ LIMIT
 time_is_low json n h = let s = then_some within_limit (decimal_of json) n h in limited s.0 n _ refl s.2
 
 -- A nonce that is read is one.
@@ -153,7 +150,7 @@ parts_within p fs x h =
     let four = four_are (kind_of fs) (time_of fs) (nonce_of fs) (metadata_of fs) x h in
     record {
       kind = the_value decimal_of (λ n. n < 2 ^ 64) decimal_is_below (values_of (codes "type") fs) x.kind four.kind;
-      time = the_value time_at (λ n. n ≤ 2 ^ 63 - 1) time_is_low (values_of (codes "timestamp") fs) x.time four.time;
+      time = the_value time_at (λ n. n ≤ LIMIT) time_is_low (values_of (codes "timestamp") fs) x.time four.time;
       nonce = the_value nonce_in IsNonce nonce_is_one (values_of (codes "nonce") fs) x.nonce four.nonce;
       order = value_or_absent [] metadata_at AreInKeyOrder none_in_order metadata_ascends (values_of (codes "metadata") fs) x.metadata four.metadata;
       texts = value_or_absent [] metadata_at EachPairUtf8 tt metadata_is_utf8 (values_of (codes "metadata") fs) x.metadata four.metadata;

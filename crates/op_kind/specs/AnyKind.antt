@@ -24,7 +24,7 @@ pub record KeepsText (o : AnyOp) : Type 0 where
 abbrev pub any_kind : Meaning AnyOp ℕ ℕ
 any_kind = record {
   read_at = λ p t. option_map (any_op t) (common_at p t);
-  HasFault = CommonFault;
+  HasFault = λ version t f. CommonFault t f;
   written = λ o. o.text;
   KeepsRules = KeepsText;
   Fits = λ p o. ⊤;

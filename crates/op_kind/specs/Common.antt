@@ -3,6 +3,7 @@ use Rattle.std.specs.Prelude.{◌≡◌, ◌≤◌, ◌⊎◌, ℕ, ◌-◌, ◌
 use Rattle.std.specs.Option.{option_map}
 use Rattle.std.specs.Str.{bytes_eq}
 use Rattle.gb_text.specs.Decimal.{decimal_of}
+use Rattle.gb_text.specs.declared.decimal.TheConstants.{LIMIT}
 use Rattle.op_kind.specs.Members.{Fields, text_at, fields_at, values_of, IsRepeated, Breaks, Lacks, only_value, value_or}
 use Rattle.op_kind.specs.Nonces.{nonce_at}
 use Rattle.op_kind.specs.Metadata.{pairs_at}
@@ -14,11 +15,11 @@ use Rattle.op_kind.specs.declared.fault.OpFault.TheVariants.{Memory, NotObject, 
 
 -- ---- what the value of a member reads as
 
--- a number up to 2^63 - 1
+-- a number within the limit
 abbrev pub within_limit : ℕ → Option ℕ
-within_limit n = if nat_le n (2 ^ 63 - 1) then Some n else None
+within_limit n = if nat_le n LIMIT then Some n else None
 
--- a time: a plain decimal up to 2^63 - 1
+-- a time: a plain decimal within the limit
 abbrev pub time_at : List ℕ → Option ℕ
 time_at value = option_and_then within_limit (decimal_of value)
 

@@ -4,6 +4,7 @@ use Rattle.std.specs.Prelude.{option_and_then}
 use Rattle.std.specs.Option.{option_map}
 use Rattle.gb_text.specs.Decimal.{decimal_of}
 use Rattle.json_span.specs.Parts.{members_of}
+use Rattle.json_span.proofs.BasicLaws.{map_some, map_none}
 use Rattle.op_kind.specs.Members.{Fields, fields_of, fields_at, values_of, IsRepeated, Breaks, Lacks, only_value, value_or}
 use Rattle.op_kind.specs.Common.{kind_of, time_of, nonce_of, metadata_of, time_at, nonce_in, metadata_at, all_four, parts_of, at_place, common_of, common_at, name_of, RepeatsCommon, FieldsFault, FaultIn, CommonFault}
 use Rattle.op_kind.specs.declared.place.Place.{Place}
@@ -14,11 +15,13 @@ use Rattle.op_kind.specs.declared.fault.OpFault.TheVariants.{Memory, NotObject, 
 
 -- ---- one member
 
+-- A member that must stand and has no value is repeated or lacking.
 pub only-none : {A : Type 0} (read : List ℕ → Option A) (vs : List (List ℕ)) → only_value read vs ≡ None → IsRepeated vs ⊎ Lacks read vs
 only-none read [] h = inr (inl refl)
 only-none read (v ∷ []) h = inr (inr (inl h))
 only-none read (v ∷ w ∷ vs) h = inl (omega arith)
 
+-- A repeated member has no value.
 pub only-repeated : {A : Type 0} (read : List ℕ → Option A) (vs : List (List ℕ)) → IsRepeated vs → only_value read vs ≡ None
 only-repeated read [] h = refl
 only-repeated read (v ∷ []) h = absurd (omega arith)
@@ -29,18 +32,22 @@ only-breaks read [] h = refl
 only-breaks read (v ∷ []) h = elim h [ inl e ↦ e | inr e ↦ absurd e ]
 only-breaks read (v ∷ w ∷ vs) h = refl
 
+-- A lacking member has no value.
 pub only-lacks : {A : Type 0} (read : List ℕ → Option A) (vs : List (List ℕ)) → Lacks read vs → only_value read vs ≡ None
 only-lacks read vs h = elim h [ inl e ↦ ap (only_value read) e | inr b ↦ only-breaks read vs b ]
 
+-- A member that may be absent and has no value is repeated or broken.
 pub or-none : {A : Type 0} (absent : A) (read : List ℕ → Option A) (vs : List (List ℕ)) → value_or absent read vs ≡ None → IsRepeated vs ⊎ Breaks read vs
 or-none absent read [] h = absurd (cc)
 or-none absent read (v ∷ []) h = inr (inl h)
 or-none absent read (v ∷ w ∷ vs) h = inl (omega arith)
 
+-- A repeated member has no value, also where it may be absent.
 pub or-repeated : {A : Type 0} (absent : A) (read : List ℕ → Option A) (vs : List (List ℕ)) → IsRepeated vs → value_or absent read vs ≡ None
 or-repeated absent read [] h = absurd (omega arith)
 or-repeated absent read (v ∷ vs) h = only-repeated read (v ∷ vs) h
 
+-- A broken member has no value, also where it may be absent.
 pub or-breaks : {A : Type 0} (absent : A) (read : List ℕ → Option A) (vs : List (List ℕ)) → Breaks read vs → value_or absent read vs ≡ None
 or-breaks absent read [] h = absurd h
 or-breaks absent read (v ∷ vs) h = only-breaks read (v ∷ vs) h
@@ -120,10 +127,6 @@ in_fields : (p : Place) (fs : Option Fields) (f : OpFault) → FaultIn fs f → 
 in_fields p None f h = refl
 in_fields p (Some fs) f h = ap (option_map (at_place p)) (fault_is_none fs f h)
 
-pub map_none : {A B : Type 0} (g : A → B) (x : Option A) → option_map g x ≡ None → x ≡ None
-map_none g None h = refl
-map_none g (Some a) h = absurd (cc)
-
 from_fields : (p : Place) (fs : Option Fields) → option_and_then (common_of p) fs ≡ None → (f : OpFault) × FaultIn fs f
 from_fields p None h = (NotObject, refl)
 from_fields p (Some fs) h = none_has_fault fs (map_none (at_place p) (parts_of fs) h)
@@ -145,10 +148,6 @@ pub memory_is_none : (t : List ℕ) → CommonFault t Memory → ⊥
 memory_is_none t h = no_memory_in (fields_at t) h
 
 -- ---- places
-
-pub map_some : {A B : Type 0} (g : A → B) (x : Option A) (b : B) → option_map g x ≡ Some b → (a : A) × (x ≡ Some a) × (g a ≡ b)
-map_some g None b h = absurd (cc)
-map_some g (Some a) b h = (a, refl, cc)
 
 place_in : (p : Place) (fs : Option Fields) (c : Common) → option_and_then (common_of p) fs ≡ Some c → c.place ≡ p
 place_in p None c h = absurd (cc)

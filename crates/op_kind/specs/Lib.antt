@@ -1,5 +1,6 @@
 pub mod Answers
 pub mod Members
+pub mod FieldLists
 pub mod Nonces
 pub mod NonceLaws
 pub mod Metadata
@@ -17,3 +18,9 @@ pub mod Meaning
 pub mod Fold
 pub mod AnyKind
 pub mod AnyLaws
+pub mod MemberForms
+pub mod Shapes
+pub mod FormLaws
+pub mod NameOrder
+pub mod NameOrderLaws
+pub mod Tables

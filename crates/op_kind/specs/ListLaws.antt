@@ -7,6 +7,7 @@ use Rattle.std.proofs.lemmas.Str.{IsUtf8-append, IsUtf8-nil}
 use Rattle.json.specs.Print.{quoted}
 use Rattle.json.proofs.Printed.Utf8.{IsUtf8-quoted, IsUtf8-are_ascii}
 use Rattle.json_span.specs.Grammar.{IsValueText}
+use Rattle.json_span.specs.declared.nest.TheConstants.{MOST_BRACKETS}
 use Rattle.json_span.specs.Joined.{behind_commas, joined}
 use Rattle.json_span.proofs.JoinLaws.{elements_joined, array_value}
 use Rattle.json_span.proofs.ValueLaws.{deeper}
@@ -28,7 +29,7 @@ all_values depth (t ∷ ts) = All-cons (IsValueText depth) (quoted t) (map quote
 
 elements_read : (ts : List (List ℕ)) → EachUtf8 ts → elements_at (texts_text ts) ≡ Some ts
 unfolding elements_at
-elements_read ts each = ap (option_and_then (texts_from [])) (elements_joined (map quoted ts) (all_values 100 ts)) ∙ all_read [] ts each
+elements_read ts each = ap (option_and_then (texts_from [])) (elements_joined (map quoted ts) (all_values MOST_BRACKETS ts)) ∙ all_read [] ts each
 
 -- A list of texts reads as the texts.
 pub texts_read : (ts : List (List ℕ)) → EachUtf8 ts → texts_at (texts_text ts) ≡ Some ts

@@ -2,18 +2,23 @@
 use Rattle.std.specs.Prelude.{◌≡◌, ℕ, Bool, List, Option, Some, None}
 use Rattle.std.specs.Str.{IsUtf8}
 use Rattle.json_span.specs.Grammar.{IsValueText}
-use Rattle.op_kind.specs.OpText.{IsOpText}
+use Rattle.op_kind.specs.OpText.{IsOpText, op_brackets}
 use Rattle.op_kind.specs.declared.fault.OpFault.{OpFault}
 use Rattle.op_kind.specs.declared.fault.OpFault.TheVariants.{Memory}
 use Rattle.op_kind.specs.declared.place.Place.{Place}
 use Rattle.op_kind.specs.declared.place.Common.{Common}
+use Rattle.op_kind.specs.declared.place.TheConstants.{VERSION}
+
+-- the version of the format by whose types a text is read at a place
+abbrev pub version_of : Place → ℕ
+version_of p = VERSION
 
 -- The meaning of a kind whose operations fold into a state, of which a row is a part.
 pub record Meaning (Op State Row : Type 0) : Type 1 where
   -- the operation that a text is at a place
   pub read_at : Place → List ℕ → Option Op
-  -- the fault holds of the text
-  pub HasFault : List ℕ → OpFault → Type 0
+  -- the fault holds of the text in a version of the format
+  pub HasFault : ℕ → List ℕ → OpFault → Type 0
   -- how an operation is written
   pub written : Op → List ℕ
   -- the operation keeps the rules of its kind
@@ -43,8 +48,8 @@ pub record KeepsLaws {Op State Row : Type 0} (k : Meaning Op State Row) : Type 0
   pub reads_back : (p : Place) (o : Op) → k.KeepsRules o → k.Fits p o → k.read_at p (k.written o) ≡ Some (k.placed p o)
   -- what is written is the text of an operation
   pub is_text : (o : Op) → k.KeepsRules o → IsOpText (k.written o)
-  -- what is read of a UTF-8 value text keeps the rules, where at most 99 brackets are open
-  pub keeps_rules : (p : Place) (t : List ℕ) (o : Op) → IsUtf8 t → IsValueText 99 t → k.read_at p t ≡ Some o → k.KeepsRules o
+  -- what is read of a UTF-8 value text keeps the rules, where not too many brackets are open
+  pub keeps_rules : (p : Place) (t : List ℕ) (o : Op) → IsUtf8 t → IsValueText op_brackets t → k.read_at p t ≡ Some o → k.KeepsRules o
   -- what is read stands at the place, and may
   pub stands_there : (p : Place) (t : List ℕ) (o : Op) → k.read_at p t ≡ Some o → (k.common_of o).place ≡ p
   pub fits_there : (p : Place) (t : List ℕ) (o : Op) → k.read_at p t ≡ Some o → k.Fits p o
@@ -52,9 +57,12 @@ pub record KeepsLaws {Op State Row : Type 0} (k : Meaning Op State Row) : Type 0
   pub moves : (p : Place) (o : Op) → k.common_of (k.placed p o) ≡ record (k.common_of o) { place = p }
   pub same_text : (p : Place) (o : Op) → k.written (k.placed p o) ≡ k.written o
   pub stays : (o : Op) → k.placed (k.common_of o).place o ≡ o
+  -- another place does not change where it may stand
+  pub opens_anywhere : (p : Place) (o : Op) → k.is_opening (k.placed p o) ≡ k.is_opening o
+  pub follows_anywhere : (p : Place) (o : Op) → k.is_following (k.placed p o) ≡ k.is_following o
   -- a text is no operation exactly where it has a fault, and want of memory is none
-  pub no_value : (p : Place) (t : List ℕ) (f : OpFault) → k.HasFault t f → k.read_at p t ≡ None
-  pub has_fault : (p : Place) (t : List ℕ) → k.read_at p t ≡ None → (f : OpFault) × k.HasFault t f
-  pub no_memory : (t : List ℕ) → k.HasFault t Memory → ⊥
+  pub no_value : (p : Place) (t : List ℕ) (f : OpFault) → k.HasFault (version_of p) t f → k.read_at p t ≡ None
+  pub has_fault : (p : Place) (t : List ℕ) → k.read_at p t ≡ None → (f : OpFault) × k.HasFault (version_of p) t f
+  pub no_memory : (version : ℕ) (t : List ℕ) → k.HasFault version t Memory → ⊥
   -- the row of the next state is the next row
   pub row_follows : (s : State) (o : Op) → k.row_of (k.state_after s o) ≡ k.row_after (k.row_of s) o

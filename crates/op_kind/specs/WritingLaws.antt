@@ -20,6 +20,8 @@ use Rattle.gb_text.proofs.DecimalLemmas.{decimal_of-decimal}
 use Rattle.gb_text.proofs.DigitLemmas.{id_of-encode_lower}
 use Rattle.json.specs.Print.{quoted}
 use Rattle.json.proofs.Printed.Utf8.{IsUtf8-quoted, IsUtf8-are_ascii}
+use Rattle.gb_text.specs.declared.decimal.TheConstants.{LIMIT}
+use Rattle.json_span.specs.declared.nest.TheConstants.{MOST_BRACKETS}
 use Rattle.json_span.specs.Joined.{behind_commas, joined, member_text, IsMemberOf}
 use Rattle.json_span.proofs.JoinLaws.{members_joined, object_value}
 use Rattle.json_span.proofs.ValueLaws.{deeper, decimal_value}
@@ -28,7 +30,7 @@ use Rattle.op_kind.specs.Forms.{id_at}
 use Rattle.op_kind.specs.Members.{Fields, with_member, fields_of, fields_at}
 use Rattle.op_kind.specs.Nonces.{IsNonce, nonce_at}
 use Rattle.op_kind.specs.NonceLaws.{decoded_nonce}
-use Rattle.op_kind.specs.OpText.{IsOpText}
+use Rattle.op_kind.specs.OpText.{IsOpText, member_brackets}
 use Rattle.op_kind.specs.QuotedLaws.{quoted_is_string, quoted_is_value, quoted_reads}
 use Rattle.op_kind.specs.Written.{named, fields_text, nonce_text, IsWritable, EachWritable}
 
@@ -46,11 +48,11 @@ decimal_writable depth name n utf8 below = record { name = utf8; utf8 = IsUtf8-f
 pub decimal_reads : (n : ℕ) → n < 2 ^ 64 → decimal_of (decimal n) ≡ Some n
 decimal_reads n below = decimal_of-decimal (decimal n) n (record { below = below; prints = refl })
 
--- A decimal up to 2^63 - 1 reads as a time.
-pub time_reads : (n : ℕ) → n ≤ 2 ^ 63 - 1 → time_at (decimal n) ≡ Some n
+-- A decimal within the limit reads as a time.
+pub time_reads : (n : ℕ) → n ≤ LIMIT → time_at (decimal n) ≡ Some n
 time_reads n low =
     ap (option_and_then within_limit) (decimal_reads n (omega arith))
-    ∙ ap (λ b. if b then Some n else None) (le-leb n (2 ^ 63 - 1) low)
+    ∙ ap (λ b. if b then Some n else None) (le-leb n LIMIT low)
 
 encoded_utf8 : (n : List ℕ) → IsUtf8 (encode_of standard n)
 encoded_utf8 n = IsUtf8-from_ascii _ (IsAscii-encode_of standard n)
@@ -81,9 +83,9 @@ each_member low high (f ∷ fs) le each =
     All-cons (IsMemberOf high) (named f) (map named fs) (quoted_is_string f.0, deeper low high f.1 le each.0.value) (each_member low high fs le each.1)
 
 -- The members of what is written are those that were written.
-pub fields_read : (depth : ℕ) (fs : Fields) → depth ≤ 100 → EachWritable depth fs → fields_at (fields_text fs) ≡ Some fs
+pub fields_read : (depth : ℕ) (fs : Fields) → depth ≤ MOST_BRACKETS → EachWritable depth fs → fields_at (fields_text fs) ≡ Some fs
 fields_read depth fs low each =
-    ap (option_map fields_of) (members_joined (map named fs) (each_member depth 100 fs low each))
+    ap (option_map fields_of) (members_joined (map named fs) (each_member depth MOST_BRACKETS fs low each))
     ∙ ap Some (names_read depth fs each)
 
 -- A comma is UTF-8.
@@ -115,13 +117,13 @@ joined_utf8 depth (f ∷ fs) each = IsUtf8-append _ _ (member_utf8 depth f each.
 pub fields_utf8 : (depth : ℕ) (fs : Fields) → EachWritable depth fs → IsUtf8 (fields_text fs)
 fields_utf8 depth fs each = IsUtf8-append (123 ∷ []) _ opening (IsUtf8-append _ _ (joined_utf8 depth fs each) closing)
 
--- What is written of members with at most 98 brackets open is the text of an operation.
-pub text_of_operation : (fs : Fields) → EachWritable 98 fs → IsOpText (fields_text fs)
+-- What is written of members with not too many brackets open is the text of an operation.
+pub text_of_operation : (fs : Fields) → EachWritable member_brackets fs → IsOpText (fields_text fs)
 text_of_operation fs each = record {
-  utf8 = fields_utf8 98 fs each;
-  value = object_value 98 (map named fs) (each_member 98 98 fs (omega arith) each);
+  utf8 = fields_utf8 member_brackets fs each;
+  value = object_value member_brackets (map named fs) (each_member member_brackets member_brackets fs (omega arith) each);
   members = map named fs;
-  object = members_joined (map named fs) (each_member 98 100 fs (omega arith) each);
+  object = members_joined (map named fs) (each_member member_brackets MOST_BRACKETS fs (omega arith) each);
 }
 
 -- ---- ids

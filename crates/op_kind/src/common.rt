@@ -3,6 +3,7 @@ ghost use Rattle.std.specs.Prelude.{◌≡◌, map, codes, IfOk};
 ghost use Rattle.op_kind.specs.Answers.{Answers};
 ghost use Rattle.op_kind.specs.Common.{kind_of, time_of, nonce_of, metadata_of, common_of, common_at, FieldsFault, CommonFault};
 ghost use Rattle.op_kind.specs.declared.fault.OpFault.{OpFault as FaultValue};
+ghost use Rattle.op_kind.specs.FieldLists.{fields_in};
 
 use crate::{Common, Field, Nonce, OpFault, Pair, Place, find, read_fields, read_pairs, read_text};
 use gb_text::{LIMIT, List, read_decimal};
@@ -10,8 +11,8 @@ use std::alloc::Global;
 
 #[tactic(auto, unfolding(crate::specs::Common::kind_of))]
 fn kind_in(fields: &[Field]) -> Result<u64, OpFault>
-    ensures { Answers (kind_of (map (λ f. (f.name, f.value.now)) fields.now))
-        (FieldsFault (map (λ f. (f.name, f.value.now)) fields.now)) result }
+    ensures { Answers (kind_of (fields_in fields.now))
+        (FieldsFault (fields_in fields.now)) result }
 {
     match find(fields, "type") {
         None => Err(OpFault::BadMember(1)),
@@ -22,8 +23,8 @@ fn kind_in(fields: &[Field]) -> Result<u64, OpFault>
 
 #[tactic(auto, unfolding(crate::specs::Common::time_of))]
 fn time_in(fields: &[Field]) -> Result<u64, OpFault>
-    ensures { Answers (time_of (map (λ f. (f.name, f.value.now)) fields.now))
-        (FieldsFault (map (λ f. (f.name, f.value.now)) fields.now)) result }
+    ensures { Answers (time_of (fields_in fields.now))
+        (FieldsFault (fields_in fields.now)) result }
 {
     match find(fields, "timestamp") {
         None => Err(OpFault::BadMember(2)),
@@ -37,8 +38,8 @@ fn time_in(fields: &[Field]) -> Result<u64, OpFault>
 
 #[tactic(auto, unfolding(crate::specs::Common::nonce_of))]
 fn nonce_in(alloc: Global, fields: &[Field]) -> Result<Nonce, OpFault>
-    ensures { Answers (nonce_of (map (λ f. (f.name, f.value.now)) fields.now))
-        (FieldsFault (map (λ f. (f.name, f.value.now)) fields.now)) result }
+    ensures { Answers (nonce_of (fields_in fields.now))
+        (FieldsFault (fields_in fields.now)) result }
 {
     match find(fields, "nonce") {
         None => Err(OpFault::BadMember(3)),
@@ -52,8 +53,8 @@ fn nonce_in(alloc: Global, fields: &[Field]) -> Result<Nonce, OpFault>
 
 #[tactic(auto, unfolding(crate::specs::Common::metadata_of))]
 fn metadata_in(alloc: Global, fields: &[Field]) -> Result<List<Pair>, OpFault>
-    ensures { Answers (metadata_of (map (λ f. (f.name, f.value.now)) fields.now))
-        (FieldsFault (map (λ f. (f.name, f.value.now)) fields.now)) result }
+    ensures { Answers (metadata_of (fields_in fields.now))
+        (FieldsFault (fields_in fields.now)) result }
 {
     match find(fields, "metadata") {
         None => Err(OpFault::BadMember(4)),
@@ -67,10 +68,12 @@ fn metadata_in(alloc: Global, fields: &[Field]) -> Result<List<Pair>, OpFault>
     }
 }
 
+/// The common part that the members of an operation give at a place, where its text was split already:
+/// the same as `read_common` of the text. Never answers `NotObject`.
 #[tactic(auto, unfolding(crate::specs::Common::parts_of))]
-fn common_in(alloc: Global, place: Place, fields: &[Field]) -> Result<Common, OpFault>
-    ensures { Answers (common_of place (map (λ f. (f.name, f.value.now)) fields.now))
-        (FieldsFault (map (λ f. (f.name, f.value.now)) fields.now)) result }
+pub fn common_in(alloc: Global, place: Place, fields: &[Field]) -> Result<Common, OpFault>
+    ensures { Answers (common_of place (fields_in fields.now))
+        (FieldsFault (fields_in fields.now)) result }
 {
     let kind = kind_in(fields)?;
     let time = time_in(fields)?;

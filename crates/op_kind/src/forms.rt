@@ -5,6 +5,7 @@ ghost use Rattle.op_kind.specs.Answers.{Answers};
 ghost use Rattle.op_kind.specs.Members.{text_at, values_of, only_value, value_or};
 ghost use Rattle.op_kind.specs.Metadata.{pairs_at};
 ghost use Rattle.op_kind.specs.Forms.{id_at, texts_from, elements_at, texts_at, FaultOfOne, FaultOfOptional};
+ghost use Rattle.op_kind.specs.FieldLists.{fields_in};
 
 use crate::{Field, OpFault, Pair, find, read_pairs, read_text};
 use gb_text::{Id, List, Memory, Text, read_decimal};
@@ -15,8 +16,8 @@ use std::alloc::Global;
 /// the member is repeated, absent, or no JSON string that reads as a text.
 pub fn text_in(alloc: Global, fields: &[Field], name: &str, number: u8) -> Result<Text, OpFault>
     ensures { Answers
-        (only_value text_at (values_of name.now (map (λ f. (f.name, f.value.now)) fields.now)))
-        (FaultOfOne number text_at (values_of name.now (map (λ f. (f.name, f.value.now)) fields.now)))
+        (only_value text_at (values_of name.now (fields_in fields.now)))
+        (FaultOfOne number text_at (values_of name.now (fields_in fields.now)))
         result }
 {
     match find(fields, name) {
@@ -35,8 +36,8 @@ pub fn optional_text_in(
     number: u8,
 ) -> Result<Text, OpFault>
     ensures { Answers
-        (value_or (codes "") text_at (values_of name.now (map (λ f. (f.name, f.value.now)) fields.now)))
-        (FaultOfOptional number text_at (values_of name.now (map (λ f. (f.name, f.value.now)) fields.now)))
+        (value_or (codes "") text_at (values_of name.now (fields_in fields.now)))
+        (FaultOfOptional number text_at (values_of name.now (fields_in fields.now)))
         result }
 {
     match find(fields, name) {
@@ -50,8 +51,8 @@ pub fn optional_text_in(
 /// is given where the member is repeated, absent, or no such decimal.
 pub fn decimal_in(fields: &[Field], name: &str, number: u8) -> Result<u64, OpFault>
     ensures { Answers
-        (only_value decimal_of (values_of name.now (map (λ f. (f.name, f.value.now)) fields.now)))
-        (FaultOfOne number decimal_of (values_of name.now (map (λ f. (f.name, f.value.now)) fields.now)))
+        (only_value decimal_of (values_of name.now (fields_in fields.now)))
+        (FaultOfOne number decimal_of (values_of name.now (fields_in fields.now)))
         result }
 {
     match find(fields, name) {
@@ -75,8 +76,8 @@ fn read_id(alloc: Global, json: &[u8]) -> Result<Option<Id>, Memory>
 /// number that is given where the member is repeated, absent, or no such text.
 pub fn id_in(alloc: Global, fields: &[Field], name: &str, number: u8) -> Result<Id, OpFault>
     ensures { Answers
-        (only_value id_at (values_of name.now (map (λ f. (f.name, f.value.now)) fields.now)))
-        (FaultOfOne number id_at (values_of name.now (map (λ f. (f.name, f.value.now)) fields.now)))
+        (only_value id_at (values_of name.now (fields_in fields.now)))
+        (FaultOfOne number id_at (values_of name.now (fields_in fields.now)))
         result }
 {
     match find(fields, name) {
@@ -106,8 +107,9 @@ fn read_elements(alloc: Global, json: &[u8]) -> Result<Option<List<Text>>, Memor
     Ok(Some(List::from_vec(texts)))
 }
 
-// The texts of null or an array.
-fn read_texts(alloc: Global, json: &[u8]) -> Result<Option<List<Text>>, Memory>
+/// The texts of `null`, which has none, or of an array of JSON strings. None for any other bytes, or
+/// where a string does not read as a text.
+pub fn read_texts(alloc: Global, json: &[u8]) -> Result<Option<List<Text>>, Memory>
     ensures { IfOk result (λ o. o ≡ texts_at json.now) }
 {
     if json == b"null".as_slice() {
@@ -125,8 +127,8 @@ pub fn texts_in(
     number: u8,
 ) -> Result<List<Text>, OpFault>
     ensures { Answers
-        (value_or [] texts_at (values_of name.now (map (λ f. (f.name, f.value.now)) fields.now)))
-        (FaultOfOptional number texts_at (values_of name.now (map (λ f. (f.name, f.value.now)) fields.now)))
+        (value_or [] texts_at (values_of name.now (fields_in fields.now)))
+        (FaultOfOptional number texts_at (values_of name.now (fields_in fields.now)))
         result }
 {
     match find(fields, name) {
@@ -145,8 +147,8 @@ pub fn pairs_in(
     number: u8,
 ) -> Result<List<Pair>, OpFault>
     ensures { Answers
-        (only_value pairs_at (values_of name.now (map (λ f. (f.name, f.value.now)) fields.now)))
-        (FaultOfOne number pairs_at (values_of name.now (map (λ f. (f.name, f.value.now)) fields.now)))
+        (only_value pairs_at (values_of name.now (fields_in fields.now)))
+        (FaultOfOne number pairs_at (values_of name.now (fields_in fields.now)))
         result }
 {
     match find(fields, name) {

@@ -1,6 +1,6 @@
 //! Kinds of operations.
 ghost use Rattle.std.specs.Prelude.{◌≡◌, OnOk, IfOk};
-ghost use Rattle.op_kind.specs.Meaning.{Meaning, KeepsLaws};
+ghost use Rattle.op_kind.specs.Meaning.{Meaning, KeepsLaws, version_of};
 ghost use Rattle.op_kind.specs.Answers.{Answers};
 
 use crate::{Common, OpFault, Place};
@@ -22,7 +22,8 @@ pub trait OpKind: Sized + Drop {
     /// The operation that a text is at a place. A fault that is named holds; want of memory is
     /// `Memory`.
     fn read_op(alloc: Global, place: Place, text: &[u8]) -> Result<Self, OpFault>
-        ensures { Answers (meaning.read_at place text.now) (meaning.HasFault text.now) result };
+        ensures { Answers (meaning.read_at place text.now)
+            (meaning.HasFault (version_of place) text.now) result };
 
     /// The operation's written form, which does not depend on its place.
     fn write_op(&self, alloc: Global) -> Result<Bytes, Memory>

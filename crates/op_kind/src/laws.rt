@@ -17,7 +17,8 @@ ghost use Rattle.op_kind.specs.Forms.{id_at, texts_at, FaultOfOne, FaultOfOption
 ghost use Rattle.op_kind.specs.Members.{Fields, text_at, fields_at, only_value, value_or};
 ghost use Rattle.op_kind.specs.Metadata.{pairs_at};
 ghost use Rattle.op_kind.specs.Nonces.{IsNonce};
-ghost use Rattle.op_kind.specs.OpText.{IsOpText};
+ghost use Rattle.op_kind.specs.Meaning.{version_of};
+ghost use Rattle.op_kind.specs.OpText.{IsOpText, op_brackets, member_brackets};
 ghost use Rattle.op_kind.specs.Pairs.{pairs_text, AreInKeyOrder, ArePairsOf, EachPairUtf8};
 ghost use Rattle.op_kind.specs.Written.{fields_text, nonce_text, texts_text, EachUtf8, IsWritable, EachWritable};
 ghost use Rattle.op_kind.specs.declared.fault.OpFault.{OpFault as FaultValue};
@@ -27,6 +28,7 @@ ghost use Rattle.op_kind.specs.declared.place.Common.{Common as CommonValue};
 ghost use Rattle.op_kind.specs.declared.place.Pair.{Pair as PairValue};
 
 use crate::OpKind;
+use gb_text::LIMIT;
 
 /// A text has a common part exactly where none of its faults holds, and want of memory is none of
 /// them. The common part has the place that it is read at, and depends on it in nothing else.
@@ -62,10 +64,11 @@ pub fn member_value_or_fault<A>()
 pub fn written_values_read_back()
     ensures texts { (text : List ℕ) → IsUtf8 text → text_at (quoted text) ≡ Some text }
     ensures decimals { (n : ℕ) → n < 2 ^ 64 → decimal_of (decimal n) ≡ Some n }
-    ensures times { (n : ℕ) → n ≤ 2 ^ 63 - 1 → time_at (decimal n) ≡ Some n }
+    ensures times { (n : ℕ) → n ≤ LIMIT → time_at (decimal n) ≡ Some n }
     ensures nonces { (n : List ℕ) → IsNonce n → nonce_in (nonce_text n) ≡ Some n }
     ensures ids { (id : IdValue) → IsId id → id_at (quoted (encode_lower id.bytes)) ≡ Some id }
-    ensures lists { (texts : List (List ℕ)) → EachUtf8 texts → texts_at (texts_text texts) ≡ Some texts }
+    ensures lists { (texts : List (List ℕ)) → EachUtf8 texts
+        → texts_at (texts_text texts) ≡ Some texts }
     ensures pairs { (pairs : List PairValue) → AreInKeyOrder pairs → EachPairUtf8 pairs
         → pairs_at (pairs_text pairs) ≡ Some pairs }
     ensures metadata { (pairs : List PairValue) → AreInKeyOrder pairs → EachPairUtf8 pairs
@@ -109,7 +112,7 @@ pub fn pairs_are_in_key_order()
 pub fn read_values_are_within_bounds()
     ensures texts { (json text : List ℕ) → text_at json ≡ Some text → IsUtf8 text }
     ensures decimals { (json : List ℕ) (n : ℕ) → decimal_of json ≡ Some n → n < 2 ^ 64 }
-    ensures times { (json : List ℕ) (n : ℕ) → time_at json ≡ Some n → n ≤ 2 ^ 63 - 1 }
+    ensures times { (json : List ℕ) (n : ℕ) → time_at json ≡ Some n → n ≤ LIMIT }
     ensures nonces { (json n : List ℕ) → nonce_in json ≡ Some n → IsNonce n }
     ensures ids { (json : List ℕ) (id : IdValue) → id_at json ≡ Some id → IsId id }
     ensures lists { (json : List ℕ) (texts : List (List ℕ)) → texts_at json ≡ Some texts
@@ -123,19 +126,21 @@ pub fn read_values_are_within_bounds()
 {}
 
 /// The members that are written are those that are read, and what is written of them is the text of an
-/// operation, where their values have at most 98 brackets open at one place.
+/// operation, where their values have not too many brackets open at one place.
 pub fn written_members_read_back()
-    ensures members { (fields : Fields) → EachWritable 98 fields
+    ensures members { (fields : Fields) → EachWritable member_brackets fields
         → fields_at (fields_text fields) ≡ Some fields }
-    ensures text { (fields : Fields) → EachWritable 98 fields → IsOpText (fields_text fields) }
+    ensures text { (fields : Fields) → EachWritable member_brackets fields
+        → IsOpText (fields_text fields) }
 {}
 
 /// What every kind keeps, by the laws of a kind alone. What was read of a text that a pack may hold is
 /// written and read again; what is written is read at any place where the operation may stand; a text
-/// is no operation exactly where it has a fault; and the row of the last state is the last row.
+/// is no operation exactly where it has a fault; its place does not change where an operation may
+/// stand; and the row of the last state is the last row.
 pub fn kinds_read_what_they_write<K: OpKind>()
-    ensures again { (place : PlaceValue) (text : List ℕ) (op : K) → IsUtf8 text → IsValueText 99 text
-        → K.meaning.read_at place text ≡ Some op
+    ensures again { (place : PlaceValue) (text : List ℕ) (op : K) → IsUtf8 text
+        → IsValueText op_brackets text → K.meaning.read_at place text ≡ Some op
         → K.meaning.read_at place (K.meaning.written op) ≡ Some op }
     ensures carried { (here there : PlaceValue) (op : K) → K.meaning.KeepsRules op
         → K.meaning.Fits there op
@@ -144,10 +149,15 @@ pub fn kinds_read_what_they_write<K: OpKind>()
     ensures placed { (place : PlaceValue) (op : K) → K.meaning.common_of (K.meaning.placed place op)
         ≡ record (K.meaning.common_of op) { place = place } }
     ensures text { (op : K) → K.meaning.KeepsRules op → IsOpText (K.meaning.written op) }
+    ensures opening { (place : PlaceValue) (op : K)
+        → K.meaning.is_opening (K.meaning.placed place op) ≡ K.meaning.is_opening op }
+    ensures following { (place : PlaceValue) (op : K)
+        → K.meaning.is_following (K.meaning.placed place op) ≡ K.meaning.is_following op }
     ensures refused { (place : PlaceValue) (text : List ℕ) (fault : FaultValue)
-        → K.meaning.HasFault text fault → K.meaning.read_at place text ≡ None }
+        → K.meaning.HasFault (version_of place) text fault → K.meaning.read_at place text ≡ None }
     ensures cause { (place : PlaceValue) (text : List ℕ) → K.meaning.read_at place text ≡ None
-        → (fault : FaultValue) × K.meaning.HasFault text fault × (fault ≢ Memory) }
+        → (fault : FaultValue) × K.meaning.HasFault (version_of place) text fault
+        × (fault ≢ Memory) }
     ensures rows { (state : K.State) (ops : List K)
         → K.meaning.row_of (state_from K.meaning state ops)
         ≡ row_from K.meaning (K.meaning.row_of state) ops }

@@ -14,9 +14,9 @@ mod place;
 mod written;
 
 pub use any_op::AnyOp;
-pub use common::read_common;
+pub use common::{common_in, read_common};
 pub use fault::OpFault;
-pub use forms::{decimal_in, id_in, optional_text_in, pairs_in, text_in, texts_in};
+pub use forms::{decimal_in, id_in, optional_text_in, pairs_in, read_texts, text_in, texts_in};
 pub use kind::OpKind;
 pub use laws::{
     common_part_or_fault, folds_append, kinds_read_what_they_write, member_value_or_fault,
@@ -25,10 +25,11 @@ pub use laws::{
 };
 pub use members::{Field, find, read_fields, read_text};
 pub use metadata::read_pairs;
-pub use nonce::Nonce;
-pub use place::{Common, Pair, Place};
+pub use nonce::{LEAST_NONCE, MOST_NONCE, Nonce};
+pub use place::{Common, Pair, Place, VERSION};
 pub use written::{
-    Written, print_decimal, quote, quote_nonce, quote_pairs, quote_texts, write_members,
+    Written, common_members, print_decimal, put_member, quote, quote_nonce, quote_pairs,
+    quote_texts, write_members,
 };
 
 #[cfg(test)]

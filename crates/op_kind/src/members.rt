@@ -5,6 +5,7 @@ ghost use Rattle.serde_json.specs.Find.{as_str};
 ghost use Rattle.serde_json.specs.Read.{read};
 ghost use Rattle.std.specs.List.{list_all};
 ghost use Rattle.op_kind.specs.Members.{is_plain, text_at, fields_at, values_of};
+ghost use Rattle.op_kind.specs.FieldLists.{fields_in};
 
 use gb_text::{Memory, Text};
 use json_span::{SpanFault, members};
@@ -20,7 +21,8 @@ pub struct Field<'a> {
 
 // The text that a JSON string in UTF-8 reads as.
 fn unquote(alloc: Global, json: &str) -> Result<Option<String>, Memory>
-    ensures { IfOk result (λ o. option_map string_bytes o ≡ option_and_then as_str (read json.now)) }
+    ensures { IfOk result
+        (λ o. option_map string_bytes o ≡ option_and_then as_str (read json.now)) }
 {
     match Value::from_str(alloc, json) {
         Ok(Value::String(text)) => Ok(Some(text)),
@@ -96,7 +98,7 @@ fn is_plain(byte: u8) -> bool
 /// object.
 pub fn read_fields<'a>(alloc: Global, text: &'a [u8]) -> Result<Option<Vec<Field<'a>>>, Memory>
     ensures { IfOk result
-        (λ o. option_map (λ v. map (λ f. (f.name, f.value.now)) v.items) o ≡ fields_at text.now) }
+        (λ o. option_map (λ v. fields_in v.items) o ≡ fields_at text.now) }
 {
     let parts = match members(alloc, text) {
         Ok(parts) => parts,
@@ -116,11 +118,11 @@ pub fn read_fields<'a>(alloc: Global, text: &'a [u8]) -> Result<Option<Vec<Field
 /// What stands under a name: its value, or nothing. None where the name is repeated.
 pub fn find<'a>(fields: &[Field<'a>], name: &str) -> Option<Option<&'a [u8]>>
     ensures repeated { IfNone result
-        (2 ≤ length (values_of name.now (map (λ f. (f.name, f.value.now)) fields.now))) }
+        (2 ≤ length (values_of name.now (fields_in fields.now))) }
     ensures absent { IfSome result (λ o. IfNone o
-        (values_of name.now (map (λ f. (f.name, f.value.now)) fields.now) ≡ [])) }
+        (values_of name.now (fields_in fields.now) ≡ [])) }
     ensures once { IfSome result (λ o. IfSome o
-        (λ v. values_of name.now (map (λ f. (f.name, f.value.now)) fields.now) ≡ v.now ∷ [])) }
+        (λ v. values_of name.now (fields_in fields.now) ≡ v.now ∷ [])) }
 {
     let mut value = None;
     for field in fields {

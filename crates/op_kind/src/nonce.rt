@@ -10,6 +10,12 @@ use gb_text::{Bytes, Memory};
 use std::alloc::Global;
 use std::marker::Model;
 
+/// The fewest bytes that a nonce may have.
+pub const LEAST_NONCE: usize = 20;
+
+/// The most bytes that a nonce may have.
+pub const MOST_NONCE: usize = 64;
+
 /// The bytes that tell apart operations which say the same: 20 to 64 of them. Contracts see the
 /// bytes.
 #[derive(Debug, Drop)]
@@ -19,19 +25,20 @@ pub struct Nonce {
 
 impl Model for Nonce {
     ghost use Rattle.std.specs.Prelude.{List, ℕ, ◌≤◌, length};
+    ghost use Rattle.op_kind.specs.declared.nonce.TheConstants.{LEAST_NONCE, MOST_NONCE};
 
     ghost Value = { List ℕ };
 
     ghost view = { λ n. n.bytes };
 
-    ghost invariant = { λ n. (20 ≤ length n.bytes) × (length n.bytes ≤ 64) };
+    ghost invariant = { λ n. (LEAST_NONCE ≤ length n.bytes) × (length n.bytes ≤ MOST_NONCE) };
 }
 
 impl Nonce {
     /// The nonce of 20 to 64 bytes.
     pub fn from_bytes(alloc: Global, bytes: &[u8]) -> Result<Nonce, Memory>
-        requires least { 20 ≤ length bytes.now }
-        requires most { length bytes.now ≤ 64 }
+        requires least { LEAST_NONCE ≤ length bytes.now }
+        requires most { length bytes.now ≤ MOST_NONCE }
         ensures { IfOk result (λ n. n ≡ bytes.now) }
     {
         Ok(Nonce {
@@ -55,7 +62,7 @@ impl Nonce {
             Err(DecodeAllocError::OutOfMemory) => return Err(Memory),
             Err(DecodeAllocError::DecodeError(_)) => return Ok(None),
         };
-        if bytes.len() < 20 || bytes.len() > 64 {
+        if bytes.len() < LEAST_NONCE || bytes.len() > MOST_NONCE {
             return Ok(None);
         }
         Ok(Some(Nonce {
@@ -66,8 +73,8 @@ impl Nonce {
     /// The bytes.
     pub fn as_slice(&self) -> &[u8]
         ensures bytes { result.now ≡ self.now }
-        ensures least { 20 ≤ length self.now }
-        ensures most { length self.now ≤ 64 }
+        ensures least { LEAST_NONCE ≤ length self.now }
+        ensures most { length self.now ≤ MOST_NONCE }
     {
         self.bytes.as_slice()
     }

@@ -2,6 +2,9 @@
 use crate::Nonce;
 use gb_text::{Id, List, Text};
 
+/// The version of the packs' format: the text of an operation is read by its types.
+pub const VERSION: u64 = 4;
+
 /// A key and its value in an operation's metadata.
 #[derive(Debug, Drop)]
 pub struct Pair {

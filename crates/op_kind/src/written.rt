@@ -1,15 +1,18 @@
 //! How members are written: an object's text without white space, each name in quotes.
-ghost use Rattle.std.specs.Prelude.{◌≡◌, ◌∷◌, [], ◌++◌, map, decimal, string_bytes, IfOk, OnOk};
+ghost use Rattle.std.specs.Prelude.{◌≡◌, ◌≤◌, length, ◌∷◌, [], ◌++◌, map, decimal, string_bytes, IfOk, OnOk};
 ghost use Rattle.json.specs.Print.{quoted};
 ghost use Rattle.json_span.specs.Joined.{behind_commas, member_text};
 ghost use Rattle.op_kind.specs.Pairs.{pairs_text};
+ghost use Rattle.op_kind.specs.NameOrder.{place_among, with_written, metadata_members, common_members};
 ghost use Rattle.op_kind.specs.Written.{fields_text, nonce_text, texts_text, named};
+ghost use Rattle.op_kind.specs.FieldLists.{fields_for};
 
-use crate::{Nonce, Pair};
+use crate::{Common, Nonce, Pair};
 use base64::engine::general_purpose::STANDARD;
 use gb_text::{Bytes, Memory, Text};
 use serde_json::Value;
 use std::alloc::Global;
+use std::cmp::Ordering;
 
 /// A member to be written: its name, and the JSON text of its value.
 #[derive(Drop)]
@@ -88,7 +91,7 @@ fn add_member(alloc: Global, out: &mut String, member: &Written) -> Result<(), M
 // Puts further members behind a text, a comma before each.
 fn add_rest(alloc: Global, out: &mut String, members: &[Written]) -> Result<(), Memory>
     ensures { OnOk result (string_bytes out.new ≡ string_bytes out.old
-        ++ behind_commas (map member_text (map named (map (λ m. (m.name.now, m.value)) members.now)))) }
+        ++ behind_commas (map member_text (map named (fields_for members.now)))) }
 {
     for member in members {
         out.push_str(",")?;
@@ -97,10 +100,78 @@ fn add_rest(alloc: Global, out: &mut String, members: &[Written]) -> Result<(), 
     Ok(())
 }
 
+// Where a name stands among members: behind the names that come before it in byte order.
+fn place_among(members: &[Written], name: &str) -> usize
+    ensures place { result ≡ place_among name.now (fields_for members.now) }
+    ensures within { result ≤ length members.now }
+{
+    for (place, member) in members.iter().enumerate() {
+        match member.name.cmp(name) {
+            Ordering::Less => {}
+            _ => return place,
+        }
+    }
+    members.len()
+}
+
+/// Puts a member among others, behind those whose names come before its own in byte order.
+pub fn put_member<'a>(
+    members: &mut Vec<Written<'a>>,
+    name: &'a str,
+    value: Text,
+) -> Result<(), Memory>
+    ensures { OnOk result (fields_for members.new.items
+        ≡ with_written (name.now, value) (fields_for members.old.items)) }
+{
+    let place = place_among(members, name);
+    members.insert(place, Written { name, value })?;
+    Ok(())
+}
+
+// Puts the metadata behind other members, where it is not empty.
+fn add_metadata(alloc: Global, members: &mut Vec<Written>, metadata: &[Pair]) -> Result<(), Memory>
+    ensures { OnOk result (fields_for members.new.items
+        ≡ fields_for members.old.items ++ metadata_members metadata.now) }
+{
+    if metadata.is_empty() {
+        return Ok(());
+    }
+    members.push(Written {
+        name: "metadata",
+        value: quote_pairs(alloc, metadata)?,
+    })?;
+    Ok(())
+}
+
+/// The members that every operation has, in byte order of their names: the metadata where it is not
+/// empty, the nonce, the time and the number of the type.
+pub fn common_members<'a>(alloc: Global, common: &Common) -> Result<Vec<Written<'a>>, Memory>
+    ensures { IfOk result (λ v. fields_for v.items ≡ common_members common.now) }
+{
+    let mut members = Vec::new(alloc);
+    add_metadata(alloc, &mut members, common.metadata.as_slice())?;
+    let nonce = quote_nonce(alloc, &common.nonce)?;
+    members.push(Written {
+        name: "nonce",
+        value: nonce,
+    })?;
+    let time = print_decimal(alloc, common.time)?;
+    members.push(Written {
+        name: "timestamp",
+        value: time,
+    })?;
+    let kind = print_decimal(alloc, common.kind)?;
+    members.push(Written {
+        name: "type",
+        value: kind,
+    })?;
+    Ok(members)
+}
+
 // The text of an object with these members, in their order and without white space.
 fn join_members(alloc: Global, members: &[Written]) -> Result<String, Memory>
     ensures { IfOk result
-        (λ s. string_bytes s ≡ fields_text (map (λ m. (m.name.now, m.value)) members.now)) }
+        (λ s. string_bytes s ≡ fields_text (fields_for members.now)) }
 {
     let mut out = String::from_str(alloc, "{")?;
     if let Some((first, rest)) = members.split_first() {
@@ -113,7 +184,7 @@ fn join_members(alloc: Global, members: &[Written]) -> Result<String, Memory>
 
 /// The text of an object with these members, in their order and without white space.
 pub fn write_members(alloc: Global, members: &[Written]) -> Result<Bytes, Memory>
-    ensures { IfOk result (λ b. b ≡ fields_text (map (λ m. (m.name.now, m.value)) members.now)) }
+    ensures { IfOk result (λ b. b ≡ fields_text (fields_for members.now)) }
 {
     let text = join_members(alloc, members)?;
     Ok(Bytes::from_vec(text.into_bytes()))

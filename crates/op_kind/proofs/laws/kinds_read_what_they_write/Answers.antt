@@ -13,6 +13,12 @@ returns-clause-placed g c = g.met.K.OpKind.laws.moves
 pub returns-clause-text : goal.returns-clause-text
 returns-clause-text g c = g.met.K.OpKind.laws.is_text
 
+pub returns-clause-opening : goal.returns-clause-opening
+returns-clause-opening g c = g.met.K.OpKind.laws.opens_anywhere
+
+pub returns-clause-following : goal.returns-clause-following
+returns-clause-following g c = g.met.K.OpKind.laws.follows_anywhere
+
 pub returns-clause-refused : goal.returns-clause-refused
 returns-clause-refused g c = g.met.K.OpKind.laws.no_value
 
