@@ -1,0 +1,7 @@
+pub mod BugForms
+pub mod BugTable
+pub mod FormsKeep
+pub mod Snapshots
+pub mod Kind
+pub mod Laws
+pub mod Mentions

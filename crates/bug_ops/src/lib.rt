@@ -1,0 +1,25 @@
+//! The operations of bugs, and what they add up to.
+#![tactic(auto)]
+
+mod comments;
+mod copies;
+mod kind;
+mod labels;
+mod laws;
+mod members;
+mod op;
+mod pairs;
+mod persons;
+mod read;
+mod row;
+mod snapshot;
+mod write;
+
+pub use laws::{
+    labels_go_by_mention, reached_snapshots_are_in_order, written_members_are_in_order,
+};
+pub use op::{BugOp, BugStatus};
+pub use snapshot::{Comment, Excerpt, Snapshot};
+
+#[cfg(test)]
+mod tests;
