@@ -21,7 +21,10 @@ use Rattle.op_kind.specs.Meaning.{Meaning, KeepsLaws}
 use Rattle.op_kind.specs.Members.{Fields}
 use Rattle.op_kind.specs.Written.{named, fields_text, EachWritable}
 use Rattle.op_kind.specs.WritingLaws.{fields_read, text_of_operation, id_reads, id_writable}
-use Rattle.op_pack.specs.Packs.{hash_of, place_of, ops_at, pack_of, pack_with, pack_at, pack_text, before, MayStand, placed_ops, written_pack, most_operations}
+use Rattle.op_pack.specs.Packs.{hash_of, place_of, ops_at, pack_of, pack_with, pack_at, pack_text, before, MayStand, placed_ops, written_pack}
+use Rattle.op_pack.specs.declared.pack.TheConstants.{MOST_OPERATIONS}
+use Rattle.json_span.specs.declared.nest.TheConstants.{MOST_BRACKETS}
+use Rattle.op_kind.specs.OpText.{op_brackets, member_brackets}
 use Rattle.op_pack.specs.Texts.{id_in, author_at, author_of, slices_at, slices_of, IsPackText}
 use Rattle.op_pack.specs.declared.head.TreeHead.{TreeHead}
 use Rattle.op_pack.proofs.PartsLaws.{parts_only}
@@ -97,14 +100,14 @@ ascii_ops = IsUtf8-are_ascii (codes "ops") refl
 ascii_author : IsUtf8 (codes "author")
 ascii_author = IsUtf8-are_ascii (codes "author") refl
 
-id_writes : (author : Id) → EachWritable 98 (author_fields author)
+id_writes : (author : Id) → EachWritable member_brackets (author_fields author)
 unfolding author_fields
-id_writes author = (id_writable 98 (codes "id") author (IsUtf8-are_ascii (codes "id") refl), tt)
+id_writes author = (id_writable member_brackets (codes "id") author (IsUtf8-are_ascii (codes "id") refl), tt)
 
--- each text is UTF-8, and a value text with at most 99 brackets open
+-- each text is UTF-8, and a value text with not too many brackets open
 pub record IsSlice (text : List ℕ) : Type 0 where
   pub utf8 : IsUtf8 text
-  pub value : IsValueText 99 text
+  pub value : IsValueText op_brackets text
 
 commas_utf8 : (texts : List (List ℕ)) → AllByRecursion IsSlice texts → IsUtf8 (behind_commas texts)
 commas_utf8 [] all = IsUtf8-are_ascii [] refl
@@ -117,25 +120,25 @@ joined_utf8 (t ∷ ts) all = IsUtf8-append t _ all.0.utf8 (commas_utf8 ts all.1)
 array_utf8 : (texts : List (List ℕ)) → AllByRecursion IsSlice texts → IsUtf8 (array_text texts)
 array_utf8 texts all = IsUtf8-append (91 ∷ []) _ (IsUtf8-are_ascii (91 ∷ []) refl) (IsUtf8-append _ (93 ∷ []) (joined_utf8 texts all) (IsUtf8-are_ascii (93 ∷ []) refl))
 
-all_values : (depth : ℕ) (texts : List (List ℕ)) → 99 ≤ depth → AllByRecursion IsSlice texts → All (IsValueText depth) texts
+all_values : (depth : ℕ) (texts : List (List ℕ)) → op_brackets ≤ depth → AllByRecursion IsSlice texts → All (IsValueText depth) texts
 all_values depth [] le all = All-nil (IsValueText depth)
-all_values depth (t ∷ ts) le all = All-cons (IsValueText depth) t ts (deeper 99 depth t le all.0.value) (all_values depth ts le all.1)
+all_values depth (t ∷ ts) le all = All-cons (IsValueText depth) t ts (deeper op_brackets depth t le all.0.value) (all_values depth ts le all.1)
 
-pack_writes : (author : Id) (texts : List (List ℕ)) → AllByRecursion IsSlice texts → EachWritable 100 (pack_fields author texts)
+pack_writes : (author : Id) (texts : List (List ℕ)) → AllByRecursion IsSlice texts → EachWritable MOST_BRACKETS (pack_fields author texts)
 unfolding pack_fields
 pack_writes author texts all =
     let inner = text_of_operation (author_fields author) (id_writes author) in (
-      record { name = ascii_author; utf8 = inner.utf8; value = deeper 99 100 _ (omega arith) inner.value },
-      (record { name = ascii_ops; utf8 = array_utf8 texts all; value = array_value 99 texts (all_values 99 texts (omega arith) all) }, tt),
+      record { name = ascii_author; utf8 = inner.utf8; value = deeper op_brackets MOST_BRACKETS _ (omega arith) inner.value },
+      (record { name = ascii_ops; utf8 = array_utf8 texts all; value = array_value op_brackets texts (all_values op_brackets texts (omega arith) all) }, tt),
     )
 
 author_reads : (author : Id) (texts : List (List ℕ)) → IsId author → author_of (pack_fields author texts) ≡ Some author
 unfolding pack_fields author_fields author_at
-author_reads author texts is = ap (option_and_then id_in) (fields_read 98 (author_fields author) (omega arith) (id_writes author)) ∙ id_reads author is
+author_reads author texts is = ap (option_and_then id_in) (fields_read member_brackets (author_fields author) (omega arith) (id_writes author)) ∙ id_reads author is
 
 slices_read : (author : Id) (texts : List (List ℕ)) → AllByRecursion IsSlice texts → slices_of (pack_fields author texts) ≡ Some texts
 unfolding pack_fields slices_at
-slices_read author texts all = elements_joined texts (all_values 100 texts (omega arith) all)
+slices_read author texts all = elements_joined texts (all_values MOST_BRACKETS texts (omega arith) all)
 
 member_utf8 : (name value : List ℕ) → IsUtf8 name → IsUtf8 value → IsUtf8 (member_text (named (name, value)))
 member_utf8 name value name_utf8 utf8 = IsUtf8-append (quoted name) _ (IsUtf8-quoted name name_utf8) (IsUtf8-append (58 ∷ []) value (IsUtf8-are_ascii (58 ∷ []) refl) utf8)
@@ -153,7 +156,7 @@ fields_pack : (author : Id) (texts : List (List ℕ)) → IsId author → AllByR
 fields_pack author texts is all = record {
   utf8 = pack_utf8 author texts all;
   fields = pack_fields author texts;
-  object = fields_read 100 (pack_fields author texts) (omega arith) (pack_writes author texts all);
+  object = fields_read MOST_BRACKETS (pack_fields author texts) (omega arith) (pack_writes author texts all);
   author_is = author_reads author texts is;
   slices_are = slices_read author texts all;
 }
@@ -183,20 +186,20 @@ module _ {Op State Row : Type 0} (k : Meaning Op State Row) (laws : KeepsLaws k)
       ap (λ x. before x (ops_at k head author (map k.written os))) (laws.reads_back (place_of head author (k.written o)) o may.0.0 may.0.1)
       ∙ ap (before (Some (k.placed (place_of head author (k.written o)) o))) (ops_back head author os may.1)
 
-  -- What is written of at most 4,096 operations reads back.
-  pub reads_back : (head : TreeHead) (author : Id) (ops : List Op) → IsId author → length ops ≤ 4096 → MayStand k head author ops → pack_at k head (pack_text k author ops) ≡ Some (written_pack k head author ops)
+  -- What is written of so many operations reads back.
+  pub reads_back : (head : TreeHead) (author : Id) (ops : List Op) → IsId author → length ops ≤ MOST_OPERATIONS → MayStand k head author ops → pack_at k head (pack_text k author ops) ≡ Some (written_pack k head author ops)
   unfolding pack_at
   reads_back head author ops is few may =
       let text = pack_text k author ops in
       let texts = map k.written ops in
       let made = option_map (pack_with k head (hash_of text) author) (ops_at k head author texts) in
       ap (option_and_then (pack_of k head (hash_of text))) (parts_only text author texts (written_parts author ops is (keep head author ops may)))
-      ∙ ap (λ n. if nat_le n most_operations then made else None) (length-map ops k.written)
-      ∙ ap (λ b. if b then made else None) (le-leb (length ops) most_operations few)
+      ∙ ap (λ n. if nat_le n MOST_OPERATIONS then made else None) (length-map ops k.written)
+      ∙ ap (λ b. if b then made else None) (le-leb (length ops) MOST_OPERATIONS few)
       ∙ ap (option_map (pack_with k head (hash_of text) author)) (ops_back head author ops may)
 
   -- What is answered of such operations reads back.
   pub back_answer : (head : TreeHead) (author : Id) (ops : List Op) (r : Result (List ℕ) Memory) → IfOk r (λ text. text ≡ pack_text k author ops) → IfOk r (λ _. IsId author)
-      → length ops ≤ 4096 → MayStand k head author ops → IfOk r (λ text. pack_at k head text ≡ Some (written_pack k head author ops))
+      → length ops ≤ MOST_OPERATIONS → MayStand k head author ops → IfOk r (λ text. pack_at k head text ≡ Some (written_pack k head author ops))
   back_answer head author ops (Ok text) made is few may = ap (pack_at k head) made ∙ reads_back head author ops is few may
   back_answer head author ops (Err e) made is few may = tt

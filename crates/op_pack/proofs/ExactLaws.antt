@@ -3,9 +3,10 @@ use Rattle.std.proofs.Common.{◌≡◌, ◌∙◌, ap, sym, refl, subst, List, 
 use Rattle.std.specs.Prelude.{option_and_then, if◌then◌else◌, nat_le}
 use Rattle.std.specs.Option.{option_map}
 use Rattle.gb_text.specs.declared.id.Id.{Id}
-use Rattle.op_kind.specs.CommonLaws.{map_some}
+use Rattle.json_span.proofs.BasicLaws.{map_some}
+use Rattle.op_pack.specs.declared.pack.TheConstants.{MOST_OPERATIONS}
 use Rattle.op_kind.specs.Meaning.{Meaning}
-use Rattle.op_pack.specs.Packs.{place_of, ops_at, pack_of, pack_with, pack_at, before, hash_of, most_operations, StandFor, IsPackOf}
+use Rattle.op_pack.specs.Packs.{place_of, ops_at, pack_of, pack_with, pack_at, before, hash_of, StandFor, IsPackOf}
 use Rattle.op_pack.specs.Texts.{parts_at, IsPackText}
 use Rattle.op_pack.specs.declared.pack.Pack.{Pack}
 use Rattle.op_pack.specs.declared.head.TreeHead.{TreeHead}
@@ -37,14 +38,14 @@ module _ {Op State Row : Type 0} (k : Meaning Op State Row) where
   from_parts : (head : TreeHead) (text : List ℕ) (parts : Option (Id × List (List ℕ))) (pack : Pack Op) → parts_at text ≡ parts → option_and_then (pack_of k head (hash_of text)) parts ≡ Some pack → (slices : List (List ℕ)) × IsPackOf k head text slices pack
   from_parts head text None pack is h = absurd (cc)
   from_parts head text (Some parts) pack is h =
-      let some = if_some (nat_le (length parts.1) most_operations) _ pack h in
+      let some = if_some (nat_le (length parts.1) MOST_OPERATIONS) _ pack h in
       let found = map_some (pack_with k head (hash_of text) parts.0) (ops_at k head parts.0 parts.1) pack some.1 in
       let author = ap (λ (p : Pack Op). p.author) found.2 in
       let ops = found.1 ∙ ap (λ (p : Pack Op). Some p.ops) found.2 in (
         parts.1,
         record {
           text_is = subst (λ a. IsPackText text a parts.1) author (parts_found text parts.0 parts.1 is);
-          few = leb-true (length parts.1) most_operations some.0;
+          few = leb-true (length parts.1) MOST_OPERATIONS some.0;
           id_is = sym (ap (λ (p : Pack Op). p.id) found.2);
           version_is = sym (ap (λ (p : Pack Op). p.version) found.2);
           edit_is = sym (ap (λ (p : Pack Op). p.edit) found.2);
@@ -73,6 +74,6 @@ module _ {Op State Row : Type 0} (k : Meaning Op State Row) where
       let make = pack_with k head (hash_of text) pack.author in
       let made = option_map make (ops_at k head pack.author slices) in
       ap (option_and_then (pack_of k head (hash_of text))) (parts_only text pack.author slices is.text_is)
-      ∙ ap (λ b. if b then made else None) (le-leb (length slices) most_operations is.few)
+      ∙ ap (λ b. if b then made else None) (le-leb (length slices) MOST_OPERATIONS is.few)
       ∙ ap (option_map make) (ops_from head pack.author slices pack.ops is.ops_are)
       ∙ ap Some (whole head text slices pack is)

@@ -1,13 +1,12 @@
 -- Worked examples of the definitions, computed.
-use Rattle.std.specs.Prelude.{◌≡◌, ⊤, List, codes, [], ◌∷◌, Some, None}
+use Rattle.std.specs.Prelude.{◌≡◌, ⊤, codes, [], ◌∷◌, Some, None}
 use Rattle.std.specs.Fmt.{digits}
 use Rattle.std.specs.Str.{chars, is_utf8}
 use Rattle.std.proofs.Common.{refl}
 use Rattle.hex.proofs.OnLiterals.{hex_on_literals}
 use Rattle.gb_text.specs.declared.id.Id.{Id}
 use Rattle.gb_text.specs.declared.id.Name.{Name}
-use Rattle.git_object.specs.declared.entry.Entry.{Entry}
-use Rattle.git_object.specs.declared.entry.Mode.TheVariants.{Exec, Folder, Link, Plain}
+use Rattle.git_object.specs.declared.entry.Mode.TheVariants.{Exec, Folder, Link}
 use Rattle.op_kind.proofs.Examples.{op_kind_on_literals}
 use Rattle.op_kind.specs.Forms.{elements_at}
 use Rattle.op_pack.specs.Heads.{clock_at, edit_clock_of, create_clock_of, ops_of, plain_entry, version_of}

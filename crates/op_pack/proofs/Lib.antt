@@ -2,7 +2,6 @@ pub mod RestLemmas
 pub mod TreeLemmas
 pub mod HeadLaws
 pub mod OpsLemmas
-pub mod TextLemmas
 pub mod PackLaws
 pub mod PartsLaws
 pub mod ExactLaws

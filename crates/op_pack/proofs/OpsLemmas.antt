@@ -18,6 +18,6 @@ no_front None = refl
 no_front (Some xs) = refl
 
 -- the fault of the text at an index is the fault of the operation at this index
-pub fault_at : {Op State Row : Type 0} (k : Meaning Op State Row) (slices : List (Bor (List ℕ))) (i : ℕ) (f : OpFault) → i < length slices
-    → k.HasFault (get_or slices i (record { ref_ptr = (0, 0); now = [] })).now f → SlicesFault k (map (λ s. s.now) slices) (BadOperation i f)
-fault_at k slices i f lt fault = (_, slice_get-map (λ s. s.now) slices i ∙ ap (option_map (λ s. s.now)) (slice_get-get_or slices i (record { ref_ptr = (0, 0); now = [] }) lt), fault)
+pub fault_at : {Op State Row : Type 0} (k : Meaning Op State Row) (version : ℕ) (slices : List (Bor (List ℕ))) (i : ℕ) (f : OpFault) → i < length slices
+    → k.HasFault version (get_or slices i (record { ref_ptr = (0, 0); now = [] })).now f → SlicesFault k version (map (λ s. s.now) slices) (BadOperation i f)
+fault_at k version slices i f lt fault = (_, slice_get-map (λ s. s.now) slices i ∙ ap (option_map (λ s. s.now)) (slice_get-get_or slices i (record { ref_ptr = (0, 0); now = [] }) lt), fault)

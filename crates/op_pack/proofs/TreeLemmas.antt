@@ -1,13 +1,16 @@
 -- The trees that are made say what they were made of, and can be written.
-use Rattle.std.proofs.Common.{◌≡◌, ◌<◌, ◌≤◌, ◌^◌, ◌-◌, ◌+◌, ◌++◌, refl, ap, subst, sym, ◌∙◌, ℕ, true, cond, List, [], ◌∷◌, codes, map, Option, Some, None, le-leb, arith}
+use Rattle.std.proofs.Common.{◌≡◌, ◌<◌, ◌≤◌, ◌+◌, ◌++◌, refl, ap, subst, sym, ◌∙◌, ℕ, true, cond, List, [], ◌∷◌, codes, map, Option, Some, None, le-leb, arith}
 use Rattle.std.specs.Prelude.{decimal, nat_le, ◌&&◌, Result, Ok, Err, IfOk}
 use Rattle.std.specs.Option.{ForSome, option_map}
+use Rattle.std.specs.Fmt.{digits}
 use Rattle.std.specs.Int.Digits.{digits_of}
 use Rattle.std.proofs.lemmas.Fmt.{decimal-digits_of}
 use Rattle.gb_text.specs.declared.id.Name.{Name}
 use Rattle.git_object.specs.Grammar.{HasGoodNames, IsEntryName, Lacks}
 use Rattle.git_object.proofs.DistinctLaws.{distinct_are}
 use Rattle.git_object.proofs.CutLaws.{lacks_by_test, lacks_append}
+use Rattle.gb_text.specs.declared.decimal.TheConstants.{LIMIT}
+use Rattle.op_kind.specs.declared.place.TheConstants.{VERSION}
 use Rattle.op_kind.specs.WritingLaws.{decimal_reads}
 use Rattle.op_pack.specs.Heads.{IsClock, tree_with, head_of, all_four, clock_at, clock_in_range}
 
@@ -15,18 +18,19 @@ use Rattle.op_pack.specs.Heads.{IsClock, tree_with, head_of, all_four, clock_at,
 
 clock_reads : (n : ℕ) → IsClock n → clock_at (decimal n) ≡ Some n
 clock_reads n is =
-    let high : n ≤ 2 ^ 63 - 1 = is.high in
+    let high : n ≤ LIMIT = is.high in
     ap clock_in_range (decimal_reads n (omega arith))
-    ∙ ap (λ b. cond (b && nat_le n (2 ^ 63 - 1)) (Some n) None) (le-leb 1 n is.low)
-    ∙ ap (λ b. cond (true && b) (Some n) None) (le-leb n (2 ^ 63 - 1) is.high)
+    ∙ ap (λ b. cond (b && nat_le n LIMIT) (Some n) None) (le-leb 1 n is.low)
+    ∙ ap (λ b. cond (true && b) (Some n) None) (le-leb n LIMIT is.high)
 
 -- The tree that is made says what it was made of.
 pub tree_head : (edit : ℕ) (create : Option ℕ) (ops : Name) → IsClock edit → ForSome create (λ n. IsClock n)
-    → head_of (tree_with edit create ops) ≡ Some (record { version = 4; edit = edit; create = create; ops = ops })
-tree_head edit None ops is may = ap (λ (e : Option ℕ). all_four (Some 4) e (Some None) (Some ops)) (clock_reads edit is)
+    → head_of (tree_with edit create ops) ≡ Some (record { version = VERSION; edit = edit; create = create; ops = ops })
+unfolding digits
+tree_head edit None ops is may = ap (λ (e : Option ℕ). all_four (Some VERSION) e (Some None) (Some ops)) (clock_reads edit is)
 tree_head edit (Some n) ops is may =
-    ap (λ (e : Option ℕ). all_four (Some 4) e (option_map (λ c. Some c) (clock_at (decimal n))) (Some ops)) (clock_reads edit is)
-    ∙ ap (λ (c : Option ℕ). all_four (Some 4) (Some edit) (option_map (λ c. Some c) c) (Some ops)) (clock_reads n (may n refl))
+    ap (λ (e : Option ℕ). all_four (Some VERSION) e (option_map (λ c. Some c) (clock_at (decimal n))) (Some ops)) (clock_reads edit is)
+    ∙ ap (λ (c : Option ℕ). all_four (Some VERSION) (Some edit) (option_map (λ c. Some c) c) (Some ops)) (clock_reads n (may n refl))
 
 -- ---- their names
 
@@ -36,7 +40,7 @@ digits_lack b (d ∷ ds) low = ((λ e. omega arith), digits_lack b ds low)
 
 decimal_lacks : (b n : ℕ) → b < 48 → IsClock n → Lacks b (decimal n)
 decimal_lacks b n low is =
-    let high : n ≤ 2 ^ 63 - 1 = is.high in
+    let high : n ≤ LIMIT = is.high in
     subst (Lacks b) (sym (decimal-digits_of n is.low (omega arith))) (digits_lack b (digits_of 10 n) low)
 
 named : (b : ℕ) (bs rest : List ℕ) → Lacks 0 (b ∷ bs) → Lacks 47 (b ∷ bs) → Lacks 0 rest → Lacks 47 rest → IsEntryName ((b ∷ bs) ++ rest)
@@ -49,8 +53,10 @@ named b bs rest no_zero no_slash rest_zero rest_slash = record {
 ops_named : IsEntryName (codes "ops")
 ops_named = named 111 (codes "ps") [] (lacks_by_test 0 (codes "ops") refl) (lacks_by_test 47 (codes "ops") refl) tt tt
 
-version_named : IsEntryName (codes "version-4")
-version_named = named 118 (codes "ersion-4") [] (lacks_by_test 0 (codes "version-4") refl) (lacks_by_test 47 (codes "version-4") refl) tt tt
+version_named : IsEntryName (codes "version-" ++ decimal VERSION)
+unfolding digits
+version_named = named 118 (codes "ersion-") (decimal VERSION) (lacks_by_test 0 (codes "version-") refl) (lacks_by_test 47 (codes "version-") refl)
+    (lacks_by_test 0 (decimal VERSION) refl) (lacks_by_test 47 (decimal VERSION) refl)
 
 edit_named : (n : ℕ) → IsClock n → IsEntryName (codes "edit-clock-" ++ decimal n)
 edit_named n is = named 101 (codes "dit-clock-") (decimal n) (lacks_by_test 0 (codes "edit-clock-") refl) (lacks_by_test 47 (codes "edit-clock-") refl)
@@ -62,6 +68,7 @@ create_named n is = named 99 (codes "reate-clock-") (decimal n) (lacks_by_test 0
 
 -- The tree that is made can be written.
 pub tree_names : (edit : ℕ) (create : Option ℕ) (ops : Name) → IsClock edit → ForSome create (λ n. IsClock n) → HasGoodNames (tree_with edit create ops)
+unfolding digits
 tree_names edit None ops is may = record {
   each = (ops_named, (version_named, (edit_named edit is, tt)));
   distinct = distinct_are (tree_with edit None ops).entries refl;

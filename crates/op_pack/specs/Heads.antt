@@ -1,9 +1,10 @@
 -- What a commit's tree says of its pack, and what may be wrong with the tree.
-use Rattle.std.specs.Prelude.{◌≡◌, ◌≢◌, ◌≤◌, ◌⊎◌, ℕ, ◌^◌, ◌-◌, ◌&&◌, nat_le, Bool, true, false, if◌then◌else◌, List, [], ◌∷◌, ◌++◌, length, take, drop, codes, decimal, Option, Some, None}
-use Rattle.std.specs.Option.{option_map}
+use Rattle.std.specs.Prelude.{◌≡◌, ◌≤◌, ◌⊎◌, ℕ, ◌&&◌, ◌==◌, nat_le, Bool, true, false, if◌then◌else◌, List, [], ◌∷◌, ◌++◌, length, take, drop, codes, decimal, Option, Some, None}
+use Rattle.std.specs.Option.{ForSome, option_map}
 use Rattle.std.specs.List.{filter_map, find, AllByRecursion}
 use Rattle.std.specs.Str.{bytes_eq}
 use Rattle.gb_text.specs.Decimal.{decimal_of}
+use Rattle.gb_text.specs.declared.decimal.TheConstants.{LIMIT}
 use Rattle.gb_text.specs.declared.id.Name.{Name}
 use Rattle.git_object.specs.Grammar.{object_name, framed}
 use Rattle.git_object.specs.declared.entry.Entry.{Entry}
@@ -15,6 +16,7 @@ use Rattle.op_kind.specs.Members.{IsRepeated, Breaks, Lacks, only_value, value_o
 use Rattle.op_pack.specs.declared.fault.PackFault.{PackFault}
 use Rattle.op_pack.specs.declared.fault.PackFault.TheVariants.{Memory, UnknownVersion, NoOps, BadClock, BadPack, BadOperation, TooLarge}
 use Rattle.op_pack.specs.declared.head.TreeHead.{TreeHead}
+use Rattle.op_kind.specs.declared.place.TheConstants.{VERSION}
 
 -- ---- entries by their names
 
@@ -40,13 +42,18 @@ create_clocks t = rests_after (codes "create-clock-") t.entries
 
 -- ---- what they say
 
--- the version 4, of which a text is the digit
-abbrev pub version_at : List ℕ → Option ℕ
-version_at text = if bytes_eq text (codes "4") then Some 4 else None
+-- the version of the format
+abbrev pub known_version : Option ℕ → Option ℕ
+known_version (Some n) = if n == VERSION then Some n else None
+known_version None = None
 
--- a number of 1 to 2^63 - 1
+-- the version of which a text is the decimal, if it is that of the format
+abbrev pub version_at : List ℕ → Option ℕ
+version_at text = known_version (decimal_of text)
+
+-- a number of 1 to the limit
 abbrev pub clock_in_range : Option ℕ → Option ℕ
-clock_in_range (Some n) = if nat_le 1 n && nat_le n (2 ^ 63 - 1) then Some n else None
+clock_in_range (Some n) = if nat_le 1 n && nat_le n LIMIT then Some n else None
 clock_in_range None = None
 
 -- the clock of which a text is the decimal, if it is that of one
@@ -69,7 +76,7 @@ is_file Module = false
 abbrev pub is_ops : Entry → Bool
 is_ops e = bytes_eq e.name (codes "ops") && is_file e.mode
 
--- the version: just one entry begins with `version-`, and `4` follows
+-- the version: just one entry begins with `version-`, and the format's version follows
 abbrev pub version_of : Tree → Option ℕ
 version_of t = only_value version_at (versions t)
 
@@ -111,7 +118,7 @@ IsTold n texts = SomeReads n texts ⊎ ((n ≡ 0) × AllByRecursion (λ text. de
 -- The fault holds of a tree.
 abbrev pub HeadFault : Tree → PackFault → Type 0
 HeadFault t Memory = ⊥
-HeadFault t (UnknownVersion n) = (versions t ≢ codes "4" ∷ []) × IsTold n (versions t)
+HeadFault t (UnknownVersion n) = (IsRepeated (versions t) ⊎ Lacks version_at (versions t)) × IsTold n (versions t)
 HeadFault t NoOps = AllByRecursion (λ e. is_ops e ≡ false) t.entries
 HeadFault t BadClock = (IsRepeated (edit_clocks t) ⊎ Lacks clock_at (edit_clocks t)) ⊎ (IsRepeated (create_clocks t) ⊎ Breaks clock_at (create_clocks t))
 HeadFault t BadPack = ⊥
@@ -120,10 +127,16 @@ HeadFault t (TooLarge n) = ⊥
 
 -- ---- trees that are made
 
--- a number of 1 to 2^63 - 1
+-- a number of 1 to the limit
 pub record IsClock (n : ℕ) : Type 0 where
   pub low : 1 ≤ n
-  pub high : n ≤ 2 ^ 63 - 1
+  pub high : n ≤ LIMIT
+
+-- The version is the format's, and each clock is one.
+pub record IsHeadInRange (head : TreeHead) : Type 0 where
+  pub version : head.version ≡ VERSION
+  pub edit : IsClock head.edit
+  pub create : ForSome head.create (λ clock. IsClock clock)
 
 -- the name of the blob of no bytes
 abbrev pub empty_blob : Name
@@ -133,17 +146,17 @@ empty_blob = object_name (framed Blob [])
 abbrev pub plain_entry : List ℕ → Name → Entry
 plain_entry name object = record { mode = Plain; name = name; object = object }
 
--- the entry of a clock behind a front
-abbrev pub clock_entry : List ℕ → ℕ → Entry
-clock_entry front n = plain_entry (front ++ decimal n) empty_blob
+-- the entry of a number behind a front
+abbrev pub number_entry : List ℕ → ℕ → Entry
+number_entry front n = plain_entry (front ++ decimal n) empty_blob
 
 -- the entry of a create clock, where there is one
 abbrev pub create_entries : Option ℕ → List Entry
 create_entries None = []
-create_entries (Some n) = clock_entry (codes "create-clock-") n ∷ []
+create_entries (Some n) = number_entry (codes "create-clock-") n ∷ []
 
 -- The tree that says these clocks and names this object.
 abbrev pub tree_with : ℕ → Option ℕ → Name → Tree
 tree_with edit create ops = record {
-  entries = plain_entry (codes "ops") ops ∷ plain_entry (codes "version-4") empty_blob ∷ clock_entry (codes "edit-clock-") edit ∷ create_entries create;
+  entries = plain_entry (codes "ops") ops ∷ number_entry (codes "version-") VERSION ∷ number_entry (codes "edit-clock-") edit ∷ create_entries create;
 }

@@ -8,11 +8,13 @@ use Rattle.gb_text.specs.declared.id.Id.{Id}
 use Rattle.json_span.specs.Joined.{joined}
 use Rattle.op_kind.specs.Meaning.{Meaning}
 use Rattle.op_kind.specs.declared.place.Place.{Place}
+use Rattle.op_kind.specs.declared.place.TheConstants.{VERSION}
 use Rattle.op_pack.specs.Texts.{IsPackText, parts_at}
 use Rattle.op_pack.specs.declared.fault.PackFault.{PackFault}
 use Rattle.op_pack.specs.declared.fault.PackFault.TheVariants.{Memory, UnknownVersion, NoOps, BadClock, BadPack, BadOperation, TooLarge}
 use Rattle.op_pack.specs.declared.head.TreeHead.{TreeHead}
 use Rattle.op_pack.specs.declared.pack.Pack.{Pack}
+use Rattle.op_pack.specs.declared.pack.TheConstants.{MOST_OPERATIONS}
 
 -- the id of a text: its SHA-256 (FIPS 180-4)
 abbrev pub hash_of : List ℕ → Id
@@ -22,9 +24,9 @@ hash_of text = record { bytes = sha256 text }
 abbrev pub place_of : TreeHead → Id → List ℕ → Place
 place_of head author slice = record { id = hash_of slice; author = author; edit = head.edit; create = head.create }
 
--- the greatest number of operations in a pack
-abbrev pub most_operations : ℕ
-most_operations = 4096
+-- the version of the format by whose types the operations are read beside a head
+abbrev pub version_in : TreeHead → ℕ
+version_in head = VERSION
 
 -- one before others, if all are there
 abbrev pub before : {A : Type 0} → Option A → Option (List A) → Option (List A)
@@ -42,9 +44,9 @@ module _ {Op State Row : Type 0} (k : Meaning Op State Row) where
   abbrev pub pack_with : TreeHead → Id → Id → List Op → Pack Op
   pack_with head id author ops = record { id = id; version = head.version; edit = head.edit; create = head.create; author = author; ops = ops }
 
-  -- the pack of an author and of operations' texts, which are at most 4,096
+  -- the pack of an author and of operations' texts, which are not too many
   abbrev pub pack_of : TreeHead → Id → Id × List (List ℕ) → Option (Pack Op)
-  pack_of head id parts = if nat_le (length parts.1) most_operations then option_map (pack_with head id parts.0) (ops_at head parts.0 parts.1) else None
+  pack_of head id parts = if nat_le (length parts.1) MOST_OPERATIONS then option_map (pack_with head id parts.0) (ops_at head parts.0 parts.1) else None
 
   -- The pack that a text stands for beside a tree with this head.
   unfoldable pub pack_at : TreeHead → List ℕ → Option (Pack Op)
@@ -57,36 +59,36 @@ module _ {Op State Row : Type 0} (k : Meaning Op State Row) where
   StandFor head author (slice ∷ slices) [] = ⊥
   StandFor head author (slice ∷ slices) (o ∷ os) = (k.read_at (place_of head author slice) slice ≡ Some o) × StandFor head author slices os
 
-  -- The text, beside a tree with this head, is that of the pack, with these texts of operations as they stand: they are at most 4,096, and each stands for an operation of the pack, in order.
+  -- The text, beside a tree with this head, is that of the pack, with these texts of operations as they stand: they are not too many, and each stands for an operation of the pack, in order.
   pub record IsPackOf (head : TreeHead) (text : List ℕ) (slices : List (List ℕ)) (pack : Pack Op) : Type 0 where
     pub text_is : IsPackText text pack.author slices
-    pub few : length slices ≤ most_operations
+    pub few : length slices ≤ MOST_OPERATIONS
     pub id_is : pack.id ≡ hash_of text
     pub version_is : pack.version ≡ head.version
     pub edit_is : pack.edit ≡ head.edit
     pub create_is : pack.create ≡ head.create
     pub ops_are : StandFor head pack.author slices pack.ops
 
-  -- the fault holds of the operations' texts
-  abbrev pub SlicesFault : List (List ℕ) → PackFault → Type 0
-  SlicesFault slices Memory = ⊥
-  SlicesFault slices (UnknownVersion n) = ⊥
-  SlicesFault slices NoOps = ⊥
-  SlicesFault slices BadClock = ⊥
-  SlicesFault slices BadPack = ⊥
-  SlicesFault slices (BadOperation i f) = (slice : List ℕ) × (slice_get slices i ≡ Some slice) × k.HasFault slice f
-  SlicesFault slices (TooLarge n) = (most_operations < length slices) × (n ≡ most_operations + 1)
+  -- the fault holds of the operations' texts in a version of the format
+  abbrev pub SlicesFault : ℕ → List (List ℕ) → PackFault → Type 0
+  SlicesFault version slices Memory = ⊥
+  SlicesFault version slices (UnknownVersion n) = ⊥
+  SlicesFault version slices NoOps = ⊥
+  SlicesFault version slices BadClock = ⊥
+  SlicesFault version slices BadPack = ⊥
+  SlicesFault version slices (BadOperation i f) = (slice : List ℕ) × (slice_get slices i ≡ Some slice) × k.HasFault version slice f
+  SlicesFault version slices (TooLarge n) = (MOST_OPERATIONS < length slices) × (n ≡ MOST_OPERATIONS + 1)
 
   -- the fault holds of what a text stands for
-  abbrev pub PartsFault : Option (Id × List (List ℕ)) → PackFault → Type 0
-  PartsFault None f = f ≡ BadPack
-  PartsFault (Some parts) f = SlicesFault parts.1 f
+  abbrev pub PartsFault : ℕ → Option (Id × List (List ℕ)) → PackFault → Type 0
+  PartsFault version None f = f ≡ BadPack
+  PartsFault version (Some parts) f = SlicesFault version parts.1 f
 
-  -- The fault holds of a text.
-  unfoldable pub TextFault : List ℕ → PackFault → Type 0
-  TextFault text f = PartsFault (parts_at text) f
+  -- The fault holds of a pack's text in a version of the format.
+  unfoldable pub PackTextFault : ℕ → List ℕ → PackFault → Type 0
+  PackTextFault version text f = PartsFault version (parts_at text) f
 
-  -- How a pack is written, without white space.
+  -- How a pack is written: no white space stands round its operations.
   unfoldable pub pack_text : Id → List Op → List ℕ
   pack_text author ops = codes "{\"author\":{\"id\":\"" ++ (encode_lower author.bytes ++ (codes "\"},\"ops\":[" ++ (joined (map k.written ops) ++ codes "]}")))
 

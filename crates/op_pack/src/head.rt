@@ -3,16 +3,17 @@ ghost use Rattle.std.specs.Prelude.{◌≡◌, [], ◌∷◌, IfOk, IfErr, IfSom
 ghost use Rattle.std.specs.Option.{ForSome, option_copied};
 ghost use Rattle.op_kind.specs.Members.{IsRepeated};
 ghost use Rattle.git_object.specs.Grammar.{HasGoodNames};
-ghost use Rattle.op_pack.specs.Heads.{IsClock, rest_after, rests_after, clock_at, version_of, edit_clock_of, create_clock_of, is_ops, ops_of, head_of, HeadFault, IsTold, plain_entry, clock_entry, tree_with};
+ghost use Rattle.op_pack.specs.Heads.{IsClock, IsHeadInRange, rest_after, rests_after, clock_at, version_at, version_of, edit_clock_of, create_clock_of, is_ops, ops_of, head_of, HeadFault, IsTold, plain_entry, number_entry, tree_with};
 ghost use Rattle.op_pack.specs.Answers.{Answers};
 ghost use Rattle.op_pack.specs.declared.fault.PackFault.{PackFault as FaultValue};
 
 use crate::PackFault;
 use gb_text::{Bytes, LIMIT, List, Memory, Name, read_decimal};
 use git_object::{Entry, Kind, Mode, Tree, name_of};
+use op_kind::VERSION;
 use std::alloc::Global;
 
-/// What a commit's tree says: the version of its pack's format, which is 4, the edit clock, the create
+/// What a commit's tree says: the version of its pack's format, the edit clock, the create
 /// clock of a pack that begins an entity, and the object that holds the pack's text.
 #[derive(Clone, Copy, Debug, PartialEq, Eq)]
 pub struct TreeHead {
@@ -52,7 +53,6 @@ fn find_rest<'a>(front: &[u8], entries: &'a [Entry]) -> Option<Option<&'a [u8]>>
 }
 
 // The first number that follows a front as a plain decimal, or 0.
-
 fn told_number(front: &[u8], entries: &[Entry]) -> u64
     ensures { IsTold result (rests_after front.now entries.now) }
 {
@@ -67,13 +67,24 @@ fn told_number(front: &[u8], entries: &[Entry]) -> u64
     0
 }
 
+// The format's version, where a text is its decimal.
+fn read_version(text: &[u8]) -> Option<u64>
+    ensures { result ≡ version_at text.now }
+{
+    read_decimal(text).filter(|version| *version == VERSION)
+}
+
 fn version_in(tree: &Tree) -> Result<u64, PackFault>
     ensures { Answers (version_of tree.now) (HeadFault tree.now) result }
 {
     let entries = tree.entries.as_slice();
-    match find_rest(b"version-", entries) {
-        Some(Some(rest)) if rest == b"4".as_slice() => Ok(4),
-        _ => Err(PackFault::UnknownVersion(told_number(b"version-", entries))),
+    let version = match find_rest(b"version-", entries) {
+        Some(Some(rest)) => read_version(rest),
+        _ => None,
+    };
+    match version {
+        Some(version) => Ok(version),
+        None => Err(PackFault::UnknownVersion(told_number(b"version-", entries))),
     }
 }
 
@@ -125,13 +136,14 @@ fn ops_in(tree: &Tree) -> Result<Name, PackFault>
 }
 
 /// What a commit's tree says of its pack (git-bug's data model, format 4). Ok exactly where the tree
-/// has exactly one entry that begins with `version-`, and it is `version-4`; exactly one that begins
+/// has exactly one entry that begins with `version-`, and `4` follows; exactly one that begins
 /// with `edit-clock-`, at most one that begins with `create-clock-`, and in each of these a plain
 /// decimal of 1 to 2^63 - 1 follows; and an entry `ops` of mode 100644 or 100755. Other entries are
 /// ignored, and so are the modes and the objects of versions and clocks. Takes no memory.
 pub fn read_head(tree: &Tree) -> Result<TreeHead, PackFault>
     ensures answer { Answers (head_of tree.now) (HeadFault tree.now) result }
     ensures sound { IfOk result (λ _. (fault : FaultValue) → HeadFault tree.now fault → ⊥) }
+    ensures in_range { IfOk result IsHeadInRange }
 {
     let version = version_in(tree)?;
     let edit = edit_clock_in(tree)?;
@@ -156,10 +168,10 @@ fn plain_entry(alloc: Global, name: &str, object: Name) -> Result<Entry, Memory>
     })
 }
 
-fn clock_entry(alloc: Global, front: &str, clock: u64) -> Result<Entry, Memory>
-    ensures { IfOk result (λ e. e ≡ clock_entry front.now clock) }
+fn number_entry(alloc: Global, front: &str, number: u64) -> Result<Entry, Memory>
+    ensures { IfOk result (λ e. e ≡ number_entry front.now number) }
 {
-    let name = format!(in alloc; "{front}{clock}")?;
+    let name = format!(in alloc; "{front}{number}")?;
     plain_entry(alloc, name.as_str(), name_of(Kind::Blob, b""))
 }
 
@@ -168,10 +180,10 @@ fn make_tree(alloc: Global, edit: u64, create: Option<u64>, ops: &Name) -> Resul
 {
     let mut entries = Vec::new(alloc);
     entries.push(plain_entry(alloc, "ops", *ops)?)?;
-    entries.push(plain_entry(alloc, "version-4", name_of(Kind::Blob, b""))?)?;
-    entries.push(clock_entry(alloc, "edit-clock-", edit)?)?;
+    entries.push(number_entry(alloc, "version-", VERSION)?)?;
+    entries.push(number_entry(alloc, "edit-clock-", edit)?)?;
     if let Some(clock) = create {
-        entries.push(clock_entry(alloc, "create-clock-", clock)?)?;
+        entries.push(number_entry(alloc, "create-clock-", clock)?)?;
     }
     Ok(Tree {
         entries: List::from_vec(entries),
@@ -186,7 +198,7 @@ pub fn tree_for(alloc: Global, edit: u64, create: Option<u64>, ops: &Name) -> Re
     requires create { ForSome create (λ clock. IsClock clock) }
     ensures tree { IfOk result (λ t. t ≡ tree_with edit create ops.now) }
     ensures head { IfOk result (λ t. head_of t
-        ≡ Some (record { version = 4; edit = edit; create = create; ops = ops.now })) }
+        ≡ Some (record { version = VERSION; edit = edit; create = create; ops = ops.now })) }
     ensures names { IfOk result (λ t. HasGoodNames t) }
 {
     make_tree(alloc, edit, create, ops)

@@ -5,22 +5,25 @@ ghost use Rattle.gb_text.specs.Digits.{IsId};
 ghost use Rattle.gb_text.specs.declared.id.Id.{Id as IdValue};
 ghost use Rattle.git_object.specs.declared.tree.Tree.{Tree as TreeValue};
 ghost use Rattle.op_kind.specs.declared.fault.OpFault.TheVariants as operation;
-ghost use Rattle.op_pack.specs.Heads.{head_of, HeadFault};
+ghost use Rattle.op_pack.specs.Heads.{head_of, HeadFault, IsHeadInRange};
 ghost use Rattle.op_pack.specs.Texts.{IsPackText, IsPack, parts_at};
-ghost use Rattle.op_pack.specs.Packs.{place_of, pack_at, IsPackOf, TextFault, pack_text, MayStand, written_pack};
+ghost use Rattle.op_pack.specs.Packs.{place_of, pack_at, IsPackOf, version_in, PackTextFault, pack_text, MayStand, written_pack};
 ghost use Rattle.op_pack.specs.declared.fault.PackFault.{PackFault as FaultValue};
 ghost use Rattle.op_pack.specs.declared.fault.PackFault.TheVariants.{Memory, BadOperation};
 ghost use Rattle.op_pack.specs.declared.head.TreeHead.{TreeHead as HeadValue};
 ghost use Rattle.op_pack.specs.declared.pack.Pack.{Pack as PackValue};
 
+use crate::MOST_OPERATIONS;
 use op_kind::OpKind;
 
-/// A tree says nothing of a pack exactly where one of its faults holds.
+/// A tree says nothing of a pack exactly where one of its faults holds. What it says is in range.
 pub fn head_or_fault()
     ensures refused { (tree : TreeValue) (fault : FaultValue) → HeadFault tree fault
         → head_of tree ≡ None }
     ensures cause { (tree : TreeValue) → head_of tree ≡ None
         → (fault : FaultValue) × HeadFault tree fault }
+    ensures in_range { (tree : TreeValue) (head : HeadValue) → head_of tree ≡ Some head
+        → IsHeadInRange head }
 {}
 
 /// `parts_at` gives exactly the author and the operations' texts of a pack text.
@@ -45,12 +48,14 @@ pub fn packs_are_determined()
 /// and is no fault of an operation.
 pub fn pack_or_fault<K: OpKind>()
     ensures refused { (head : HeadValue) (text : List ℕ) (fault : FaultValue)
-        → TextFault K.meaning text fault → pack_at K.meaning head text ≡ None }
+        → PackTextFault K.meaning (version_in head) text fault
+        → pack_at K.meaning head text ≡ None }
     ensures cause { (head : HeadValue) (text : List ℕ) → pack_at K.meaning head text ≡ None
-        → (fault : FaultValue) × TextFault K.meaning text fault }
-    ensures memory { (text : List ℕ) → TextFault K.meaning text Memory → ⊥ }
-    ensures inner_memory { (text : List ℕ) (i : ℕ)
-        → TextFault K.meaning text (BadOperation i operation.Memory) → ⊥ }
+        → (fault : FaultValue) × PackTextFault K.meaning (version_in head) text fault }
+    ensures memory { (version : ℕ) (text : List ℕ)
+        → PackTextFault K.meaning version text Memory → ⊥ }
+    ensures inner_memory { (version : ℕ) (text : List ℕ) (i : ℕ)
+        → PackTextFault K.meaning version text (BadOperation i operation.Memory) → ⊥ }
 {}
 
 /// `pack_at` gives exactly the pack that a text is of.
@@ -67,20 +72,21 @@ pub fn packs_are_exact<K: OpKind>()
 pub fn operations_keep_rules<K: OpKind>()
     ensures rules { (head : HeadValue) (text : List ℕ) (slices : List (List ℕ)) (pack : PackValue K)
         → IsPackOf K.meaning head text slices pack → AllByRecursion K.meaning.KeepsRules pack.ops }
-    ensures places { (head : HeadValue) (text : List ℕ) (slices : List (List ℕ)) (pack : PackValue K)
-        → IsPackOf K.meaning head text slices pack
-        → map (λ o. (K.meaning.common_of o).place) pack.ops ≡ map (place_of head pack.author) slices }
+    ensures places { (head : HeadValue) (text : List ℕ) (slices : List (List ℕ))
+        (pack : PackValue K) → IsPackOf K.meaning head text slices pack
+        → map (λ o. (K.meaning.common_of o).place) pack.ops
+        ≡ map (place_of head pack.author) slices }
 {}
 
 /// What is written of operations that keep the rules of their kind is a pack text with their written
-/// texts as they stand. Where there are at most 4,096 operations, it reads back as the same author and
+/// texts as they stand. Where there are at most `MOST_OPERATIONS`, it reads back as the same author and
 /// the same operations, each at the place of its written text.
 pub fn written_packs_read_back<K: OpKind>()
     ensures slices { (author : IdValue) (ops : List K) → IsId author
         → AllByRecursion K.meaning.KeepsRules ops
         → IsPackText (pack_text K.meaning author ops) author (map K.meaning.written ops) }
     ensures packs { (head : HeadValue) (author : IdValue) (ops : List K) → IsId author
-        → length ops ≤ 4096 → MayStand K.meaning head author ops
+        → length ops ≤ MOST_OPERATIONS → MayStand K.meaning head author ops
         → pack_at K.meaning head (pack_text K.meaning author ops)
         ≡ Some (written_pack K.meaning head author ops) }
 {}

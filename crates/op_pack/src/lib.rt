@@ -13,7 +13,7 @@ pub use laws::{
     head_or_fault, operations_keep_rules, pack_or_fault, packs_are_determined, packs_are_exact,
     parts_are_exact, written_packs_read_back,
 };
-pub use pack::Pack;
+pub use pack::{MOST_OPERATIONS, Pack};
 
 #[cfg(test)]
 mod tests;

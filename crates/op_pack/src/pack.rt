@@ -4,7 +4,7 @@ ghost use Rattle.std.specs.List.{AllByRecursion};
 ghost use Rattle.gb_text.specs.Digits.{IsId};
 ghost use Rattle.json_span.specs.Joined.{joined, behind_commas};
 ghost use Rattle.op_pack.specs.Answers.{AnswersUnlessMemory};
-ghost use Rattle.op_pack.specs.Packs.{hash_of, ops_at, SlicesFault};
+ghost use Rattle.op_pack.specs.Packs.{hash_of, ops_at, version_in, SlicesFault};
 
 use crate::parts::read_parts;
 use crate::{PackFault, TreeHead};
@@ -13,8 +13,8 @@ use op_kind::{OpFault, OpKind, Place};
 use sha2::{Digest, Sha256};
 use std::alloc::Global;
 
-// The most operations that a pack may have.
-const MOST_OPERATIONS: usize = 4096;
+/// The most operations that a pack may have.
+pub const MOST_OPERATIONS: usize = 4096;
 
 /// The operations that one commit adds, in order (git-bug's data model). `id` is the SHA-256 of the
 /// pack's text. The version and the clocks are those of the commit's tree.
@@ -45,7 +45,7 @@ fn read_ops<K: OpKind>(
 ) -> Result<List<K>, PackFault>
     ensures { AnswersUnlessMemory
         (ops_at K.meaning head.now author (map (λ s. s.now) slices.now))
-        (SlicesFault K.meaning (map (λ s. s.now) slices.now)) result }
+        (SlicesFault K.meaning (version_in head.now) (map (λ s. s.now) slices.now)) result }
 {
     let mut ops = List::new(alloc);
     for (i, slice) in slices.iter().enumerate() {
@@ -69,37 +69,38 @@ fn read_ops<K: OpKind>(
 }
 
 impl<K: OpKind> Pack<K> {
-    ghost use Rattle.op_pack.specs.Packs.{pack_at, TextFault, pack_text, MayStand, written_pack};
+    ghost use Rattle.op_pack.specs.Packs.{pack_at, version_in, PackTextFault, pack_text, MayStand, written_pack};
     ghost use Rattle.op_pack.specs.declared.fault.PackFault.{PackFault as FaultValue};
     ghost use Rattle.op_pack.specs.declared.head.TreeHead.{TreeHead as HeadValue};
 
     /// The pack that a text stands for beside a tree with this head (git-bug's data model, format 4).
     /// Ok exactly where the text is UTF-8 and a JSON object (RFC 8259) with one member `author`, an
     /// object with one member `id`, which is a text of 64 lower-case hexadecimal digits; at most one
-    /// member `ops`, `null` or an array of at most 4,096 elements; and each element is an operation of
+    /// member `ops`, `null` or an array of at most `MOST_OPERATIONS` elements; and each element is an operation of
     /// the kind. Names are compared as they read, and other members are ignored. The id of an operation
     /// is the SHA-256 of its element as it stands, and the pack's id that of the whole text. Any other
     /// text is refused by a fault that holds of it, where memory did not run out.
     pub fn read(alloc: Global, head: &TreeHead, text: &[u8]) -> Result<Pack<K>, PackFault>
         ensures answer { AnswersUnlessMemory (pack_at K.meaning head.now text.now)
-            (TextFault K.meaning text.now) result }
+            (PackTextFault K.meaning (version_in head.now) text.now) result }
         ensures sound { IfOk result
-            (λ _. (fault : FaultValue) → TextFault K.meaning text.now fault → ⊥) }
+            (λ _. (fault : FaultValue)
+            → PackTextFault K.meaning (version_in head.now) text.now fault → ⊥) }
         ensures rules { IfOk result (λ pack. AllByRecursion K.meaning.KeepsRules pack.ops) }
     {
         Pack::parse(alloc, head, text)
     }
 
-    #[tactic(auto, unfolding(crate::specs::Packs::pack_at, crate::specs::Packs::TextFault))]
+    #[tactic(auto, unfolding(crate::specs::Packs::pack_at, crate::specs::Packs::PackTextFault))]
     fn parse(alloc: Global, head: &TreeHead, text: &[u8]) -> Result<Pack<K>, PackFault>
         ensures { AnswersUnlessMemory (pack_at K.meaning head.now text.now)
-            (TextFault K.meaning text.now) result }
+            (PackTextFault K.meaning (version_in head.now) text.now) result }
     {
         let Some(parts) = read_parts(alloc, text)? else {
             return Err(PackFault::BadPack);
         };
         if parts.slices.len() > MOST_OPERATIONS {
-            return Err(PackFault::TooLarge(4097));
+            return Err(PackFault::TooLarge(MOST_OPERATIONS as u64 + 1));
         }
         let ops = read_ops(alloc, head, parts.author, &parts.slices)?;
         Ok(Pack {
@@ -112,12 +113,12 @@ impl<K: OpKind> Pack<K> {
         })
     }
 
-    /// The pack's text: its author and its operations, without white space. The other fields do not
-    /// matter.
+    /// The pack's text: its author and the texts of its operations, with no white space round or between
+    /// them. The other fields do not matter.
     pub fn write(&self, alloc: Global) -> Result<Bytes, Memory>
         ensures text { IfOk result
             (λ text. text ≡ pack_text K.meaning self.now.author self.now.ops) }
-        ensures reads_back { (head : HeadValue) → length self.now.ops ≤ 4096
+        ensures reads_back { (head : HeadValue) → length self.now.ops ≤ MOST_OPERATIONS
             → MayStand K.meaning head self.now.author self.now.ops
             → IfOk result (λ text. pack_at K.meaning head text
             ≡ Some (written_pack K.meaning head self.now.author self.now.ops)) }
@@ -143,7 +144,8 @@ impl<K: OpKind> Pack<K> {
 
 // Puts operations behind a text, with commas between.
 fn append_ops<K: OpKind>(alloc: Global, text: &mut Vec<u8>, ops: &[K]) -> Result<(), Memory>
-    ensures { OnOk result (text.new.items ≡ text.old.items ++ joined (map K.meaning.written ops.now)) }
+    ensures { OnOk result
+        (text.new.items ≡ text.old.items ++ joined (map K.meaning.written ops.now)) }
 {
     let Some((first, rest)) = ops.split_first() else {
         return Ok(());

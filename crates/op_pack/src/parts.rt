@@ -2,6 +2,7 @@
 ghost use Rattle.std.specs.Prelude.{◌≡◌, map, IfOk};
 ghost use Rattle.std.specs.Option.{option_map};
 ghost use Rattle.json_span.specs.Parts.{elements_of};
+ghost use Rattle.op_kind.specs.FieldLists.{fields_in};
 ghost use Rattle.op_kind.specs.Forms.{id_at};
 ghost use Rattle.op_pack.specs.Texts.{id_in, author_at, author_of, slices_at, slices_of, parts_of, parts_at};
 
@@ -28,7 +29,7 @@ fn read_id(alloc: Global, json: &[u8]) -> Result<Option<Id>, Memory>
 }
 
 fn id_in(alloc: Global, fields: &[Field]) -> Result<Option<Id>, Memory>
-    ensures { IfOk result (λ o. o ≡ id_in (map (λ f. (f.name, f.value.now)) fields.now)) }
+    ensures { IfOk result (λ o. o ≡ id_in (fields_in fields.now)) }
 {
     match find(fields, "id") {
         None => Ok(None),
@@ -48,7 +49,7 @@ fn read_author(alloc: Global, json: &[u8]) -> Result<Option<Id>, Memory>
 }
 
 fn author_in(alloc: Global, fields: &[Field]) -> Result<Option<Id>, Memory>
-    ensures { IfOk result (λ o. o ≡ author_of (map (λ f. (f.name, f.value.now)) fields.now)) }
+    ensures { IfOk result (λ o. o ≡ author_of (fields_in fields.now)) }
 {
     match find(fields, "author") {
         None => Ok(None),
@@ -88,7 +89,7 @@ fn read_slices<'a>(alloc: Global, json: &'a [u8]) -> Result<Option<Vec<&'a [u8]>
 fn slices_in<'a>(alloc: Global, fields: &[Field<'a>]) -> Result<Option<Vec<&'a [u8]>>, Memory>
     ensures { IfOk result
         (λ o. option_map (λ v. map (λ s. s.now) v.items) o
-        ≡ slices_of (map (λ f. (f.name, f.value.now)) fields.now)) }
+        ≡ slices_of (fields_in fields.now)) }
 {
     match find(fields, "ops") {
         None => Ok(None),
@@ -100,7 +101,7 @@ fn slices_in<'a>(alloc: Global, fields: &[Field<'a>]) -> Result<Option<Vec<&'a [
 fn parts_in<'a>(alloc: Global, fields: &[Field<'a>]) -> Result<Option<Parts<'a>>, Memory>
     ensures { IfOk result
         (λ o. option_map (λ x. (x.author, map (λ s. s.now) x.slices.items)) o
-        ≡ parts_of (map (λ f. (f.name, f.value.now)) fields.now)) }
+        ≡ parts_of (fields_in fields.now)) }
 {
     let Some(author) = author_in(alloc, fields)? else {
         return Ok(None);
@@ -112,7 +113,7 @@ fn parts_in<'a>(alloc: Global, fields: &[Field<'a>]) -> Result<Option<Parts<'a>>
 }
 
 /// The parts of a pack's text. None where the text is no pack text.
-#[tactic(auto, using(crate::proofs::TextLemmas::utf8_true, crate::proofs::TextLemmas::utf8_false), unfolding(crate::specs::Texts::parts_at))]
+#[tactic(auto, using(op_kind::proofs::TextLemmas::utf8_true, op_kind::proofs::TextLemmas::utf8_false), unfolding(crate::specs::Texts::parts_at))]
 pub(crate) fn read_parts<'a>(alloc: Global, text: &'a [u8]) -> Result<Option<Parts<'a>>, Memory>
     ensures { IfOk result
         (λ o. option_map (λ x. (x.author, map (λ s. s.now) x.slices.items)) o ≡ parts_at text.now) }
