@@ -1,5 +1,5 @@
 -- What keeps a commit from having a version, said of its name.
-use Rattle.std.proofs.Common.{◌≡◌, inr, List, ℕ, Some, Result, Ok, Err, option_and_then, sym, ◌∙◌, ap, subst}
+use Rattle.std.proofs.Common.{◌≡◌, inl, inr, refl, List, ℕ, Some, Err, option_and_then, sym, ◌∙◌, ap, subst}
 use Rattle.gb_text.specs.declared.id.Id.{Id}
 use Rattle.gb_text.specs.declared.id.Name.{Name}
 use Rattle.git_object.specs.declared.commit.Commit.{Commit}
@@ -7,9 +7,14 @@ use Rattle.object_store.specs.Held.{Objects}
 use Rattle.commit_chain.specs.Chain.{IsCommit}
 use Rattle.commit_chain.specs.declared.chain.Met.{Met}
 use Rattle.identity.specs.Version.{version_of}
-use Rattle.identity.specs.Commits.{TreeNeeds, Needs, IsBad, no_version, HasVersion, HasNoVersion, text_in, version_text_at}
-use Rattle.identity.specs.Faults.{Refused}
-use Rattle.identity.specs.Answers.{VersionIn, NoVersion, ReadingAnswers, VersionAnswers, RootRefused}
+use Rattle.identity.specs.Commits.{TreeNeeds, Needs, IsBad, NamesVersion, no_blob, no_tree, no_version, HasVersion, HasNoVersion, text_in, version_object, version_text_at}
+use Rattle.object_store.specs.Typed.{AnswersAs, as_blob, as_commit, as_tree, blob_at, tree_at}
+use Rattle.object_store.proofs.GrowthLemmas.{bind-some}
+use Rattle.object_store.specs.declared.fault.KindFault.{KindFault}
+use Rattle.object_store.specs.declared.fault.KindFault.TheVariants as kind
+use Rattle.identity.specs.Faults.{Refused, fault_of, version_fault}
+use Rattle.identity.specs.Answers.{IsJudged, VersionIn, NoVersion, ReadingAnswers, RootRefused}
+use Rattle.identity.specs.declared.commit.Judged.{Judged}
 use Rattle.identity.specs.declared.version.Version.{Version}
 use Rattle.identity.specs.declared.fault.IdentityFault.{IdentityFault}
 use Rattle.identity.specs.declared.fault.IdentityFault.TheVariants as fault
@@ -41,12 +46,6 @@ NoVersion-reading objects met text (fault.NotLinear n) is h = absurd h
 NoVersion-reading objects met text (fault.WrongId found) is h = absurd h
 NoVersion-reading objects met text (fault.TooLarge count) is h = absurd h
 
--- a commit has the version that its text is
-pub VersionAnswers_reading : (objects : Objects) (met : Met) (text : List ℕ) (r : Result Version IdentityFault) → text_in objects met.tree ≡ Some text
-    → ReadingAnswers met.name text r → VersionAnswers objects met r
-VersionAnswers_reading objects met text (Ok version) is h = (text, record { holds = is; reads = h.0; no_keys = h.1 })
-VersionAnswers_reading objects met text (Err f) is h = NoVersion-reading objects met text f is h
-
 -- a first commit without a version is refused
 RootRefused-no_version : (objects : Objects) (id : Id) (root : Met) (f : IdentityFault) → NoVersion objects root f → RootRefused objects id root f
 RootRefused-no_version objects id root fault.Memory h = h
@@ -60,6 +59,11 @@ RootRefused-no_version objects id root (fault.NotLinear n) h = h
 RootRefused-no_version objects id root (fault.WrongId found) h = absurd h
 RootRefused-no_version objects id root (fault.TooLarge count) h = h
 
+-- what keeps a first commit from having a version refuses it
+pub RootRefused-text : (objects : Objects) (id : Id) (root : Met) (f : IdentityFault) → Refused (NoVersion objects root) f → Refused (RootRefused objects id root) f
+RootRefused-text objects id root f h = Refused-map (NoVersion objects root) (RootRefused objects id root) (RootRefused-no_version objects id root) f h
+
+-- so does a text that is no version
 pub RootRefused-reading : (objects : Objects) (id : Id) (root : Met) (text : List ℕ) (f : IdentityFault) → text_in objects root.tree ≡ Some text
     → ReadingAnswers root.name text (Err f) → Refused (RootRefused objects id root) f
 RootRefused-reading objects id root text f is h =
@@ -104,3 +108,51 @@ pub HeadRefused : (objects : Objects) (head : Name) (met : Met) (parents : List 
 HeadRefused objects head met parents f named is h =
     Refused-map (NoVersion objects met) (HasNoVersion objects head)
     (λ f h. subst (λ (n : Name). HasNoVersion objects n f) named (HasNoVersion-held objects met parents f is h)) f h
+
+-- ---- faults of reading
+
+-- what keeps a name from being a tree keeps a commit of it from having a version
+pub NoVersion-tree : (objects : Objects) (met : Met) (k : KindFault) → AnswersAs as_tree objects met.tree (Err k) → Refused (NoVersion objects met) (version_fault met.name k)
+NoVersion-tree objects met kind.Memory h = tt
+NoVersion-tree objects met kind.Disk h = tt
+NoVersion-tree objects met (kind.Missing n) h = rw h.0 (inl refl, h.1)
+NoVersion-tree objects met (kind.Damaged n) h = rw h.0 (inl refl, h.1)
+NoVersion-tree objects met (kind.Large n) h = (refl, met.tree, inl refl, h.1)
+NoVersion-tree objects met (kind.OtherKind n) h = (refl, no_tree h.1)
+
+-- what keeps a name from being a blob keeps a commit whose tree names it from having a version
+pub NoVersion-blob : (objects : Objects) (met : Met) (object : Name) (k : KindFault) → NamesVersion objects met.tree object
+    → AnswersAs as_blob objects object (Err k) → Refused (NoVersion objects met) (version_fault met.name k)
+NoVersion-blob objects met object k named h = each k h
+  where
+    each : (k : KindFault) → AnswersAs as_blob objects object (Err k) → Refused (NoVersion objects met) (version_fault met.name k)
+    each kind.Memory h = tt
+    each kind.Disk h = tt
+    each (kind.Missing n) h = rw h.0 (inr named, h.1)
+    each (kind.Damaged n) h = rw h.0 (inr named, h.1)
+    each (kind.Large n) h = (refl, object, inr named, h.1)
+    each (kind.OtherKind n) h = let tree = bind-some version_object (tree_at objects met.tree) object named in (refl, no_blob tree.0 object tree.1 tree.2 h.1)
+
+-- what was judged for one tree is so for another that names the same object
+pub IsJudged-other : (objects : Objects) (tree object : Name) (version : Version) (last : Judged) → NamesVersion objects tree object → object ≡ last.object
+    → version ≡ last.version → IsJudged objects last → IsJudged objects (record { tree = tree; object = object; version = version })
+IsJudged-other objects tree object version last named same says is = record {
+  named = named;
+  text = is.text;
+  holds = ap (option_and_then (blob_at objects)) (named ∙ ap Some same ∙ sym is.named) ∙ is.holds;
+  reads = is.reads ∙ ap Some (sym says);
+  no_keys = ap (λ (v : Version). v.has_keys) says ∙ is.no_keys;
+}
+
+-- what was judged is the version of a commit of its tree
+pub VersionIn-judged : (objects : Objects) (met : Met) (judged : Judged) → judged.tree ≡ met.tree → (is : IsJudged objects judged) → VersionIn objects met is.text judged.version
+VersionIn-judged objects met judged same is = record { holds = ap (text_in objects) (sym same) ∙ is.holds; reads = is.reads; no_keys = is.no_keys }
+
+-- what keeps a head from being a commit keeps it from having a version
+pub HeadRefused-commit : (objects : Objects) (head : Name) (k : KindFault) → AnswersAs as_commit objects head (Err k) → Refused (HasNoVersion objects head) (fault_of k)
+HeadRefused-commit objects head kind.Memory h = tt
+HeadRefused-commit objects head kind.Disk h = tt
+HeadRefused-commit objects head (kind.Missing n) h = rw h.0 (inl refl, h.1)
+HeadRefused-commit objects head (kind.Damaged n) h = rw h.0 (inl refl, h.1)
+HeadRefused-commit objects head (kind.Large n) h = (refl, head, inl refl, h.1)
+HeadRefused-commit objects head (kind.OtherKind n) h = (h.0, h.1)

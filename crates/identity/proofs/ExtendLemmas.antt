@@ -1,5 +1,5 @@
 -- A new version goes on with the chain of its identity, in objects that only grew.
-use Rattle.std.proofs.Common.{◌≡◌, ◌<◌, ◌≤◌, inl, inr, ℕ, zero, suc, false, List, [], ◌∷◌, ◌++◌, length, Contains, Option, Some, None, option_and_then, option_to_list, Result, Ok, Err, IfOk, refl, sym, ◌∙◌, ap, subst, arith, length-append}
+use Rattle.std.proofs.Common.{◌≡◌, ◌<◌, ◌≤◌, inl, inr, ℕ, zero, suc, false, List, [], ◌∷◌, ◌++◌, length, Contains, Option, Some, None, option_and_then, option_to_list, refl, sym, ◌∙◌, ap, subst, arith, length-append}
 use Rattle.std.proofs.lemmas.List.Elements.{Contains-push_cases}
 use Rattle.gb_text.specs.declared.id.Id.{Id}
 use Rattle.gb_text.specs.declared.id.Name.{Name}
@@ -7,16 +7,17 @@ use Rattle.git_object.specs.declared.commit.Commit.{Commit}
 use Rattle.git_object.specs.declared.tree.Tree.{Tree}
 use Rattle.git_object.specs.declared.object.Object.{Object}
 use Rattle.git_object.specs.Grammar.{object_name}
-use Rattle.git_object.specs.Reading.{object_of}
-use Rattle.object_store.specs.Held.{Objects, object_at, named}
-use Rattle.object_store.specs.declared.fault.PutFault.{PutFault}
-use Rattle.commit_chain.specs.Objects.{as_blob, as_commit, as_tree, blob_at, commit_at, tree_at}
+use Rattle.object_store.specs.Held.{Objects}
+use Rattle.object_store.specs.Typed.{as_blob, as_commit, as_tree, blob_at, commit_at, tree_at}
 use Rattle.commit_chain.specs.Chain.{IsCommit, Chain, Walked, Meets}
 use Rattle.commit_chain.specs.declared.chain.Met.{Met}
 use Rattle.commit_chain.proofs.PassLemmas.{Linked-walked, meets_first, met_at, walk_passes}
 use Rattle.identity.specs.Version.{version_of, version_id}
 use Rattle.identity.specs.Commits.{HasVersion, text_in, version_object, version_text_at}
-use Rattle.identity.specs.Extending.{Extends, IsLonger, OnlyGrew}
+use Rattle.identity.specs.Extending.{Extends, IsLonger}
+use Rattle.object_store.specs.Growth.{OnlyGrew}
+use Rattle.object_store.proofs.GrowthLemmas.{stays}
+use Rattle.commit_chain.proofs.StayLemmas.{Chain_stays, Walked_stays}
 use Rattle.identity.specs.Making.{HoldsVersion, tree_object, made_of, version_commit}
 use Rattle.identity.specs.Persons.{BeginsWith, IsChain, Shows}
 use Rattle.identity.specs.declared.chain.Person.{Person}
@@ -27,32 +28,6 @@ use Rattle.identity.proofs.NoFaultLemmas.{root_is}
 -- ---- what was held is held
 
 module _ (old new : Objects) (grew : OnlyGrew old new) where
-  pub object_stays : (name : Name) (o : Object) → object_at old name ≡ Some o → object_at new name ≡ Some o
-  object_stays name o held = each (old name) refl
-    where
-      each : (t : Option (List ℕ)) → old name ≡ t → object_at new name ≡ Some o
-      each None e = let no : None ≡ Some o = sym (ap (λ (x : Option (List ℕ)). option_and_then object_of (option_and_then (named name) x)) e) ∙ held in cc
-      each (Some text) e = ap (λ (x : Option (List ℕ)). option_and_then object_of (option_and_then (named name) x)) (grew.stays name text e ∙ sym e) ∙ held
-
-  -- what is read of an object that is held
-  pub stays : {A : Type 0} (read : Object → Option A) (name : Name) (a : A) → option_and_then read (object_at old name) ≡ Some a → option_and_then read (object_at new name) ≡ Some a
-  stays {A = A} read name a held = each (object_at old name) refl
-    where
-      each : (o : Option Object) → object_at old name ≡ o → option_and_then read (object_at new name) ≡ Some a
-      each None e = let no : None ≡ Some a = sym (ap (option_and_then read) e) ∙ held in cc
-      each (Some o) e = ap (option_and_then read) (object_stays name o e ∙ sym e) ∙ held
-
-  IsCommit_stays : (met : Met) (parents : List Name) → IsCommit old met parents → IsCommit new met parents
-  IsCommit_stays met parents is = record { commit = is.commit; held = stays as_commit met.name is.commit is.held; tree = is.tree; has = is.has }
-
-  Chain_stays : (head : Name) (above : List Met) (name : Name) → Chain old head above name → Chain new head above name
-  Chain_stays head [] name chain = chain
-  Chain_stays head (met ∷ above) name chain = (Chain_stays head above met.name chain.0, IsCommit_stays met (name ∷ []) chain.1)
-
-  Walked_stays : (head : Name) (walk : List Met) → Walked old head walk → Walked new head walk
-  Walked_stays head [] walked = walked
-  Walked_stays head (root ∷ above) walked = (Chain_stays head above root.name walked.0, IsCommit_stays root [] walked.1)
-
   text_in_stays : (tree : Name) (text : List ℕ) → text_in old tree ≡ Some text → text_in new tree ≡ Some text
   text_in_stays tree text held = each (tree_at old tree) refl
     where
@@ -60,7 +35,7 @@ module _ (old new : Objects) (grew : OnlyGrew old new) where
       inner t e None f = let no : None ≡ Some text = sym (ap (λ (x : Option Tree). option_and_then (blob_at old) (option_and_then version_object x)) e ∙ ap (option_and_then (blob_at old)) f) ∙ held in cc
       inner t e (Some name) f =
           let blob : blob_at old name ≡ Some text = sym (ap (λ (x : Option Tree). option_and_then (blob_at old) (option_and_then version_object x)) e ∙ ap (option_and_then (blob_at old)) f) ∙ held in
-          ap (λ (x : Option Tree). option_and_then (blob_at new) (option_and_then version_object x)) (stays as_tree tree t e) ∙ ap (option_and_then (blob_at new)) f ∙ stays as_blob name text blob
+          ap (λ (x : Option Tree). option_and_then (blob_at new) (option_and_then version_object x)) (stays old new grew as_tree tree t e) ∙ ap (option_and_then (blob_at new)) f ∙ stays old new grew as_blob name text blob
 
       each : (o : Option Tree) → tree_at old tree ≡ o → text_in new tree ≡ Some text
       each None e = let no : None ≡ Some text = sym (ap (λ (x : Option Tree). option_and_then (blob_at old) (option_and_then version_object x)) e) ∙ held in cc
@@ -72,7 +47,7 @@ module _ (old new : Objects) (grew : OnlyGrew old new) where
       each : (o : Option Commit) → commit_at old name ≡ o → version_text_at new name ≡ Some text
       each None e = let no : None ≡ Some text = sym (ap (option_and_then (λ (c : Commit). text_in old c.tree)) e) ∙ held in cc
       each (Some c) e =
-          ap (option_and_then (λ (c : Commit). text_in new c.tree)) (stays as_commit name c e)
+          ap (option_and_then (λ (c : Commit). text_in new c.tree)) (stays old new grew as_commit name c e)
           ∙ text_in_stays c.tree text (sym (ap (option_and_then (λ (c : Commit). text_in old c.tree)) e) ∙ held)
 
   HasVersion_stays : (name : Name) (version : Version) → HasVersion old name version → HasVersion new name version
@@ -227,12 +202,6 @@ pub extends : (old new : Objects) (parent : Option Name) (text : List ℕ) (now 
 extends old new None text now made version grew is holds reads no_keys = longer_first new text None now made version holds reads no_keys refl (ap (λ (m : Made). m.id) is)
 extends old new (Some head) text now made version grew is holds reads no_keys =
     λ id chain room. longer_later old new grew text head now made version holds reads no_keys id chain room
-
-pub extends_answer : (old new : Objects) (parent : Option Name) (text : List ℕ) (now : ℕ) (version : Version) → OnlyGrew old new → version_of text ≡ Some version
-    → version.has_keys ≡ false → (r : Result Made PutFault) → IfOk r (λ made. made ≡ made_of text parent now) → IfOk r (HoldsVersion new text parent now)
-    → IfOk r (Extends old new parent version)
-extends_answer old new parent text now version grew reads no_keys (Ok made) is holds = extends old new parent text now made version grew is holds reads no_keys
-extends_answer old new parent text now version grew reads no_keys (Err f) is holds = tt
 
 -- ---- a chain stays one
 

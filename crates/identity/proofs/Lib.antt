@@ -3,7 +3,8 @@ pub mod CommitLemmas
 pub mod ExtendLemmas
 pub mod NoFaultLemmas
 pub mod PersonLemmas
-pub mod GrowLemmas
+pub mod MadeLemmas
+pub mod IdLemmas
 pub mod MakingLemmas
 pub mod NeedLemmas
 pub mod TextLemmas

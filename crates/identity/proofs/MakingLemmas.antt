@@ -17,9 +17,11 @@ use Rattle.git_object.proofs.ObjectLaws.{framed_reads, with_again}
 use Rattle.object_store.specs.Held.{Objects, object_at, text_at}
 use Rattle.object_store.specs.declared.fault.PutFault.{PutFault}
 use Rattle.object_store.specs.declared.fault.PutFault.TheVariants as fault
-use Rattle.object_batch.specs.Batches.{HasLong, IsShort, SizesAnswer}
+use Rattle.object_batch.specs.Batches.{HasLong, SizesAnswer}
+use Rattle.object_store.specs.Texts.{IsShort}
 use Rattle.identity.specs.declared.making.Made.{Made}
-use Rattle.identity.specs.Making.{AreContents, HoldsVersion, PlanAnswers, blob_object, commit_content, commit_object, made_of, tree_content, tree_object, version_commit, version_objects, version_tree}
+use Rattle.identity.specs.declared.making.VersionPlan.{VersionPlan}
+use Rattle.identity.specs.Making.{AreContents, HoldsVersion, PlanAnswers, blob_object, commit_content, commit_object, tree_content, tree_object, version_commit, version_objects, version_plan, version_tree}
 
 -- what is written of a commit is the commit's text
 pub commit_is : {E : Type 0} (commit : Commit) (r : Result (List ℕ) E) → IfOk r (λ t. IsCommitText t commit) → IfOk r (λ t. t ≡ commit_text commit)
@@ -75,19 +77,18 @@ holds_version objects version parent now texts made same are is held =
 
 -- ---- what is to be made
 
--- objects that are short enough
-pub plan_made : (bytes version : List ℕ) (parent : Option Name) (now : ℕ) (texts : List (List ℕ)) (made : Made) → bytes ≡ version → texts ≡ version_objects bytes parent now
-    → made ≡ made_of bytes parent now → All IsShort texts → PlanAnswers version parent now (Ok made)
-plan_made bytes version parent now texts made is same made_so short = (
-  made_so ∙ ap (λ (v : List ℕ). made_of v parent now) is,
-  subst (λ (ts : List (List ℕ)). All IsShort ts) (same ∙ ap (λ (v : List ℕ). version_objects v parent now) is) short,
-)
+-- a plan whose objects are short enough
+pub plan_made : (bytes version : List ℕ) (parent : Option Name) (now : ℕ) (plan : VersionPlan) → bytes ≡ version → plan ≡ version_plan bytes parent now
+    → All IsShort plan.objects → PlanAnswers version parent now (Ok plan)
+plan_made bytes version parent now plan is same short =
+    let all : plan ≡ version_plan version parent now = same ∙ ap (λ (v : List ℕ). version_plan v parent now) is in
+    (all, subst (λ (p : VersionPlan). All IsShort p.objects) all short)
 
--- objects one of which is too long
-pub plan_refused : (bytes version : List ℕ) (parent : Option Name) (now : ℕ) (texts : List (List ℕ)) (e : PutFault) → bytes ≡ version → texts ≡ version_objects bytes parent now
-    → SizesAnswer texts (Err e) → PlanAnswers version parent now (Err e)
-plan_refused bytes version parent now texts (fault.Large count) is same long =
-    (long.0, subst HasLong (same ∙ ap (λ (v : List ℕ). version_objects v parent now) is) long.1)
-plan_refused bytes version parent now texts (fault.Taken name) is same never = absurd never
-plan_refused bytes version parent now texts fault.Memory is same never = absurd never
-plan_refused bytes version parent now texts fault.Disk is same never = absurd never
+-- one of which is too long
+pub plan_refused : (bytes version : List ℕ) (parent : Option Name) (now : ℕ) (plan : VersionPlan) (e : PutFault) → bytes ≡ version → plan ≡ version_plan bytes parent now
+    → SizesAnswer plan.objects (Err e) → PlanAnswers version parent now (Err e)
+plan_refused bytes version parent now plan (fault.Large count) is same long =
+    (long.0, subst (λ (p : VersionPlan). HasLong p.objects) (same ∙ ap (λ (v : List ℕ). version_plan v parent now) is) long.1)
+plan_refused bytes version parent now plan (fault.Taken name) is same never = absurd never
+plan_refused bytes version parent now plan fault.Memory is same never = absurd never
+plan_refused bytes version parent now plan fault.Disk is same never = absurd never

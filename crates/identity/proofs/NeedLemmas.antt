@@ -2,19 +2,16 @@
 use Rattle.std.proofs.Common.{◌≡◌, ℕ, zero, suc, List, [], ◌∷◌, Contains, Option, Some, None, ◌⊎◌, codes, inl, inr, refl, sym, ◌∙◌, ap, subst, arith}
 use Rattle.std.specs.Option.{option_to_list}
 use Rattle.gb_text.specs.declared.id.Name.{Name}
-use Rattle.gb_store.specs.Files.{History, files_of}
-use Rattle.gb_store.specs.Moments.{Wrote}
 use Rattle.git_object.specs.declared.entry.Entry.{Entry}
 use Rattle.git_object.specs.declared.entry.Mode.TheVariants.{Plain}
 use Rattle.git_object.specs.declared.frame.Kind.{Kind}
 use Rattle.git_object.specs.declared.frame.Kind.TheVariants as kinds
 use Rattle.git_object.specs.declared.object.Object.TheVariants as object
 use Rattle.git_object.specs.Grammar.{IsObjectText, object_name}
-use Rattle.object_store.specs.Held.{Objects, objects_in}
-use Rattle.object_batch.specs.Batches.{MayBePut}
-use Rattle.object_batch.specs.Needs.{InNeedOrder, IsHeldAs, Names, PutsAfterNeeds, kind_named}
+use Rattle.object_store.specs.Held.{Objects}
+use Rattle.object_batch.specs.Needs.{IsHeldAs, Names, kind_named}
 use Rattle.object_batch.proofs.ClashLemmas.{Contains-first}
-use Rattle.object_batch.proofs.OrderLemmas.{IsAmong, NameBefore, in_need_order}
+use Rattle.object_batch.proofs.OrderLemmas.{IsAmong, NameBefore}
 use Rattle.identity.specs.Making.{AreContents, HasParent, blob_object, commit_content, commit_object, tree_content, tree_object, version_commit, version_objects, version_tree}
 
 Contains-one : {X : Type 0} (x y : X) → Contains (x ∷ []) y → x ≡ y
@@ -61,7 +58,7 @@ module _ (held : Objects) (version : List ℕ) (parent : Option Name) (now : ℕ
   commit_names has name kind (inr before) = inl (subst (IsHeldAs held name) (sym before.1) (parent_held parent name has before.0))
 
   -- each object names what comes before it, and the parent
-  name_before : HasParent held parent → NameBefore held [] (version_objects version parent now)
+  pub name_before : HasParent held parent → NameBefore held [] (version_objects version parent now)
   name_before has = (
     object.Blob version,
     blob_is,
@@ -73,15 +70,3 @@ module _ (held : Objects) (version : List ℕ) (parent : Option Name) (now : ℕ
       (object.Commit (version_commit (object_name (tree_object version)) parent now), commit_is, commit_names has, tt),
     ),
   )
-
--- what a put of a version's objects writes, whatever it answers, by what it promises of texts in need order
-pub version_needed : (folder version : List ℕ) (parent : Option Name) (now : ℕ) (texts : List (List ℕ)) (old new : History) → texts ≡ version_objects version parent now
-    → AreContents version parent now
-    → ((MayBePut folder texts old → InNeedOrder (objects_in (files_of old) folder) texts) → Wrote (PutsAfterNeeds folder texts) old new)
-    → HasParent (objects_in (files_of old) folder) parent → Wrote (PutsAfterNeeds folder (version_objects version parent now)) old new
-version_needed folder version parent now texts old new same are needed has =
-    let held = objects_in (files_of old) folder in
-    let all : List (List ℕ) = version_objects version parent now in
-    let each : (MayBePut folder all old → InNeedOrder held all) → Wrote (PutsAfterNeeds folder all) old new =
-    subst (λ (ts : List (List ℕ)). (MayBePut folder ts old → InNeedOrder held ts) → Wrote (PutsAfterNeeds folder ts) old new) same needed in
-    each (λ may. in_need_order folder all old may (name_before held version parent now are has))

@@ -7,14 +7,15 @@ use Rattle.git_object.specs.declared.tree.Tree.{Tree}
 use Rattle.git_object.specs.declared.object.Object.{Object}
 use Rattle.git_object.specs.Reading.{object_of}
 use Rattle.object_store.specs.Held.{Objects, object_at, named}
-use Rattle.commit_chain.specs.Objects.{as_blob, as_commit, as_tree, blob_at, commit_at}
+use Rattle.object_store.specs.Typed.{as_blob, as_commit, as_tree, blob_at, commit_at}
 use Rattle.commit_chain.specs.Chain.{Walked, MeetsCommit}
 use Rattle.commit_chain.specs.declared.chain.Met.{Met}
-use Rattle.commit_chain.proofs.StepLemmas.{object_at-large}
+use Rattle.object_store.proofs.FaultLemmas.{fault-none}
+use Rattle.object_store.specs.declared.fault.ObjFault.TheVariants as object
 use Rattle.commit_chain.proofs.PassLemmas.{Linked-walked, no_merge-walked, not_too_long, one_walk, parent_at, walk_passes}
 use Rattle.identity.specs.Version.{version_of, version_id, person_name}
 use Rattle.identity.specs.Commits.{Needs, IsBad, no_tree, no_entry, no_blob, no_version, text_in, version_object, version_text_at, version_at, HasVersion, HasNoVersion}
-use Rattle.identity.specs.Persons.{BeginsWith, IsChain, Shows, SomeHasNoVersion, FaultHolds}
+use Rattle.identity.specs.Persons.{BeginsWith, IsChain, Shows, SomeHasNoVersion, IdentityFaultHolds}
 use Rattle.identity.specs.declared.version.Version.{Version}
 use Rattle.identity.specs.declared.chain.Person.{Person}
 use Rattle.identity.specs.declared.fault.IdentityFault.{IdentityFault}
@@ -42,13 +43,13 @@ Needs-none objects of name (inr (commit, held, inr e)) none =
 
 -- what is no version leaves none
 IsBad-none : (objects : Objects) (tree : Name) → IsBad objects tree → option_and_then version_of (text_in objects tree) ≡ None
-IsBad-none objects tree (no_tree object held none) =
-    ap (λ (o : Option Tree). option_and_then version_of (option_and_then (blob_at objects) (option_and_then version_object o))) (ap (option_and_then as_tree) held ∙ none)
+IsBad-none objects tree (no_tree other) =
+    ap (λ (o : Option Tree). option_and_then version_of (option_and_then (blob_at objects) (option_and_then version_object o))) (ap (option_and_then as_tree) other.held ∙ other.is_none)
 IsBad-none objects tree (no_entry t held none) =
     ap (λ (o : Option Name). option_and_then version_of (option_and_then (blob_at objects) o)) (ap (option_and_then version_object) held ∙ none)
-IsBad-none objects tree (no_blob t name object held names is none) =
+IsBad-none objects tree (no_blob t name held names other) =
     ap (λ (o : Option Name). option_and_then version_of (option_and_then (blob_at objects) o)) (ap (option_and_then version_object) held ∙ names)
-    ∙ ap (option_and_then version_of) (ap (option_and_then as_blob) is ∙ none)
+    ∙ ap (option_and_then version_of) (ap (option_and_then as_blob) other.held ∙ other.is_none)
 IsBad-none objects tree (no_version text is none) = ap (option_and_then version_of) is ∙ none
 
 same_version : (one two : Version) → Some one ≡ Some two → one ≡ two
@@ -64,7 +65,7 @@ no_fault_at objects name version (fault.Missing n) has h =
     without objects name version has (Needs-none objects name n h.0 (ap (λ (o : Option (List ℕ)). option_and_then object_of (option_and_then (named n) o)) h.1))
 no_fault_at objects name version (fault.Damaged n) has h = without objects name version has (Needs-none objects name n h.0 h.1.is_none)
 no_fault_at objects name version (fault.NotCommit n) has h =
-    without objects name version has (ap (λ (o : Option Commit). option_and_then version_of (option_and_then (λ (c : Commit). text_in objects c.tree) o)) (ap (option_and_then as_commit) h.2 ∙ h.3))
+    without objects name version has (ap (λ (o : Option Commit). option_and_then version_of (option_and_then (λ (c : Commit). text_in objects c.tree) o)) (ap (option_and_then as_commit) h.1.held ∙ h.1.is_none))
 no_fault_at objects name version (fault.BadVersion n) has h =
     without objects name version has (version_at-commit objects name h.1 h.2 ∙ IsBad-none objects h.1.tree h.3)
 no_fault_at objects name version (fault.KeysPresent n) has h =
@@ -73,7 +74,7 @@ no_fault_at objects name version (fault.KeysPresent n) has h =
 no_fault_at objects name version (fault.NotLinear n) has h = h
 no_fault_at objects name version (fault.WrongId found) has h = h
 no_fault_at objects name version (fault.TooLarge count) has h =
-    without objects name version has (Needs-none objects name h.1 h.2 (object_at-large objects h.1 h.3))
+    without objects name version has (Needs-none objects name h.1 h.2 (fault-none objects h.1 (object.Large h.1) (refl, h.3)))
 
 -- ---- a chain has none
 
@@ -108,7 +109,7 @@ BeginsWith-same objects head (root ∷ above) s t walked one two =
 some_no_fault : (objects : Objects) (id : Id) (head : Name) (f : IdentityFault) → IsChain objects id head → SomeHasNoVersion objects head f → ⊥
 some_no_fault objects id head f chain h = let has = chain.each h.0 h.1 in no_fault_at objects h.0 has.0 f has.1 h.2
 
-pub no_fault : (objects : Objects) (id : Id) (head : Name) (f : IdentityFault) → IsChain objects id head → FaultHolds objects id head f → ⊥
+pub no_fault : (objects : Objects) (id : Id) (head : Name) (f : IdentityFault) → IsChain objects id head → IdentityFaultHolds objects id head f → ⊥
 no_fault objects id head fault.Memory chain h = some_no_fault objects id head fault.Memory chain h
 no_fault objects id head fault.Disk chain h = some_no_fault objects id head fault.Disk chain h
 no_fault objects id head (fault.Missing n) chain h = some_no_fault objects id head (fault.Missing n) chain h

@@ -8,7 +8,7 @@ use Rattle.commit_chain.specs.Chain.{IsCommit, Chain, Walked, Meets}
 use Rattle.commit_chain.specs.declared.chain.Met.{Met}
 use Rattle.commit_chain.proofs.PassLemmas.{Linked-walked, meets_first, met_at, walk_passes}
 use Rattle.identity.specs.Commits.{HasVersion}
-use Rattle.identity.specs.Persons.{BeginsWith, IsChain, SomeHasNoVersion, FaultHolds}
+use Rattle.identity.specs.Persons.{BeginsWith, IsChain, SomeHasNoVersion, IdentityFaultHolds}
 use Rattle.identity.specs.Faults.{Refused}
 use Rattle.identity.specs.Answers.{VersionIn, NoVersion, RootRefused, Leads, OneRefused, Checked, CheckRefused, HasChain}
 use Rattle.identity.specs.declared.version.Version.{Version}
@@ -19,17 +19,17 @@ use Rattle.identity.proofs.CommitLemmas.{Refused-map, HasVersion-held, HasNoVers
 -- ---- what is wrong
 
 -- a commit without a version is a fault of the chain
-FaultHolds-some : (objects : Objects) (id : Id) (head : Name) (f : IdentityFault) → SomeHasNoVersion objects head f → FaultHolds objects id head f
-FaultHolds-some objects id head fault.Memory h = h
-FaultHolds-some objects id head fault.Disk h = h
-FaultHolds-some objects id head (fault.Missing n) h = h
-FaultHolds-some objects id head (fault.Damaged n) h = h
-FaultHolds-some objects id head (fault.NotCommit n) h = h
-FaultHolds-some objects id head (fault.BadVersion n) h = h
-FaultHolds-some objects id head (fault.KeysPresent n) h = h
-FaultHolds-some objects id head (fault.NotLinear n) h = absurd h.2
-FaultHolds-some objects id head (fault.WrongId found) h = absurd h.2
-FaultHolds-some objects id head (fault.TooLarge count) h = inr h
+IdentityFaultHolds-some : (objects : Objects) (id : Id) (head : Name) (f : IdentityFault) → SomeHasNoVersion objects head f → IdentityFaultHolds objects id head f
+IdentityFaultHolds-some objects id head fault.Memory h = h
+IdentityFaultHolds-some objects id head fault.Disk h = h
+IdentityFaultHolds-some objects id head (fault.Missing n) h = h
+IdentityFaultHolds-some objects id head (fault.Damaged n) h = h
+IdentityFaultHolds-some objects id head (fault.NotCommit n) h = h
+IdentityFaultHolds-some objects id head (fault.BadVersion n) h = h
+IdentityFaultHolds-some objects id head (fault.KeysPresent n) h = h
+IdentityFaultHolds-some objects id head (fault.NotLinear n) h = absurd h.2
+IdentityFaultHolds-some objects id head (fault.WrongId found) h = absurd h.2
+IdentityFaultHolds-some objects id head (fault.TooLarge count) h = inr h
 
 -- the walk begins with the text of its first version
 BeginsWith-root : (objects : Objects) (head : Name) (root : Met) (above : List Met) (text : List ℕ) (version : Version) → Walked objects head (root ∷ above)
@@ -45,20 +45,20 @@ BeginsWith-root objects head root above text version walked within has = record 
 }
 
 -- a commit of the walk that has no version is a fault of the chain
-FaultHolds-one : (objects : Objects) (id : Id) (head : Name) (walk : List Met) (met : Met) (f : IdentityFault) → Walked objects head walk → length walk ≤ 65536
-    → Contains walk met → NoVersion objects met f → FaultHolds objects id head f
-FaultHolds-one objects id head walk met f walked within has none =
+IdentityFaultHolds-one : (objects : Objects) (id : Id) (head : Name) (walk : List Met) (met : Met) (f : IdentityFault) → Walked objects head walk → length walk ≤ 65536
+    → Contains walk met → NoVersion objects met f → IdentityFaultHolds objects id head f
+IdentityFaultHolds-one objects id head walk met f walked within has none =
     let at = met_at objects head walk met walked within has in
-    FaultHolds-some objects id head f (met.name, at.0, HasNoVersion-held objects met at.1.0 f at.1.1 none)
+    IdentityFaultHolds-some objects id head f (met.name, at.0, HasNoVersion-held objects met at.1.0 f at.1.1 none)
 
-FaultHolds-root : (objects : Objects) (id : Id) (head : Name) (root : Met) (above : List Met) (f : IdentityFault) → Walked objects head (root ∷ above)
-    → length (root ∷ above) ≤ 65536 → RootRefused objects id root f → FaultHolds objects id head f
-FaultHolds-root objects id head root above f walked within h = each f h
+IdentityFaultHolds-root : (objects : Objects) (id : Id) (head : Name) (root : Met) (above : List Met) (f : IdentityFault) → Walked objects head (root ∷ above)
+    → length (root ∷ above) ≤ 65536 → RootRefused objects id root f → IdentityFaultHolds objects id head f
+IdentityFaultHolds-root objects id head root above f walked within h = each f h
   where
-    one : (f : IdentityFault) → NoVersion objects root f → FaultHolds objects id head f
-    one f none = FaultHolds-one objects id head (root ∷ above) root f walked within (zero, omega arith, refl) none
+    one : (f : IdentityFault) → NoVersion objects root f → IdentityFaultHolds objects id head f
+    one f none = IdentityFaultHolds-one objects id head (root ∷ above) root f walked within (zero, omega arith, refl) none
 
-    each : (f : IdentityFault) → RootRefused objects id root f → FaultHolds objects id head f
+    each : (f : IdentityFault) → RootRefused objects id root f → IdentityFaultHolds objects id head f
     each fault.Memory h = absurd h
     each fault.Disk h = absurd h
     each (fault.Missing n) h = one (fault.Missing n) h
@@ -71,17 +71,17 @@ FaultHolds-root objects id head root above f walked within h = each f h
     each (fault.TooLarge count) h = one (fault.TooLarge count) h
 
 -- what is wrong with the commits of a whole walk is wrong with the chain
-FaultHolds-check : (objects : Objects) (id : Id) (head : Name) (walk : List Met) (f : IdentityFault) → Walked objects head walk → length walk ≤ 65536
-    → CheckRefused objects id walk f → FaultHolds objects id head f
-FaultHolds-check objects id head [] f walked within h = absurd walked
-FaultHolds-check objects id head (root ∷ above) f walked within (inl h) = FaultHolds-root objects id head root above f walked within h
-FaultHolds-check objects id head (root ∷ above) f walked within (inr h) =
-    FaultHolds-one objects id head (root ∷ above) h.0 f walked within (suc h.1.0, omega (arith, h.1.1), h.1.2) h.2
+IdentityFaultHolds-check : (objects : Objects) (id : Id) (head : Name) (walk : List Met) (f : IdentityFault) → Walked objects head walk → length walk ≤ 65536
+    → CheckRefused objects id walk f → IdentityFaultHolds objects id head f
+IdentityFaultHolds-check objects id head [] f walked within h = absurd walked
+IdentityFaultHolds-check objects id head (root ∷ above) f walked within (inl h) = IdentityFaultHolds-root objects id head root above f walked within h
+IdentityFaultHolds-check objects id head (root ∷ above) f walked within (inr h) =
+    IdentityFaultHolds-one objects id head (root ∷ above) h.0 f walked within (suc h.1.0, omega (arith, h.1.1), h.1.2) h.2
 
 pub WholeRefused : (objects : Objects) (id : Id) (head : Name) (walk : List Met) (f : IdentityFault) → Walked objects head walk → length walk ≤ 65536
-    → Refused (CheckRefused objects id walk) f → Refused (FaultHolds objects id head) f
+    → Refused (CheckRefused objects id walk) f → Refused (IdentityFaultHolds objects id head) f
 WholeRefused objects id head walk f walked within h =
-    Refused-map (CheckRefused objects id walk) (FaultHolds objects id head) (λ f h. FaultHolds-check objects id head walk f walked within h) f h
+    Refused-map (CheckRefused objects id walk) (IdentityFaultHolds objects id head) (λ f h. IdentityFaultHolds-check objects id head walk f walked within h) f h
 
 -- the parts of what is wrong with some commits
 pub CheckRefused-first : (objects : Objects) (id : Id) (walk : List Met) (d : Met) (f : IdentityFault) → 1 ≤ length walk → Refused (RootRefused objects id (get_or walk 0 d)) f

@@ -1,16 +1,15 @@
 -- The answers to the reads of commits and chains, each with what is so of the objects.
-use Rattle.std.specs.Prelude.{◌≡◌, ◌≢◌, ◌⊎◌, ⊤, ℕ, false, IsTrue, List, [], ◌∷◌, length, Contains, Option, Some, None, Result, Ok, Err, option_and_then}
+use Rattle.std.specs.Prelude.{◌≡◌, ◌≢◌, ◌⊎◌, ◌+◌, ⊤, ℕ, false, IsTrue, List, [], ◌∷◌, length, Contains, Option, Some, None, Result, Ok, Err, option_and_then}
 use Rattle.gb_text.specs.declared.id.Id.{Id}
 use Rattle.gb_text.specs.declared.id.Name.{Name}
-use Rattle.git_object.specs.declared.tree.Tree.{Tree}
 use Rattle.object_store.specs.Held.{Objects, IsDamaged, IsLarge}
-use Rattle.commit_chain.specs.Objects.{tree_at}
-use Rattle.commit_chain.specs.Chain.{IsCommit}
+use Rattle.object_store.specs.declared.read.TheConstants.{MOST_BYTES}
 use Rattle.commit_chain.specs.declared.chain.Met.{Met}
 use Rattle.identity.specs.Version.{version_of, version_id}
-use Rattle.identity.specs.Commits.{TreeNeeds, IsBad, HasVersion, HasNoVersion, text_in}
+use Rattle.identity.specs.Commits.{NamesVersion, TreeNeeds, IsBad, HasVersion, HasNoVersion, text_in}
+use Rattle.identity.specs.declared.commit.Judged.{Judged}
 use Rattle.identity.specs.Faults.{Refused}
-use Rattle.identity.specs.Persons.{FaultHolds, IsChain, Shows}
+use Rattle.identity.specs.Persons.{IdentityFaultHolds, IsChain, Shows}
 use Rattle.identity.specs.declared.version.Version.{Version}
 use Rattle.identity.specs.declared.chain.Person.{Person}
 use Rattle.identity.specs.declared.fault.IdentityFault.{IdentityFault}
@@ -28,14 +27,10 @@ pub record VersionIn (objects : Objects) (met : Met) (text : List ℕ) (version 
 abbrev pub NoVersion : Objects → Met → IdentityFault → Type 0
 NoVersion objects met (fault.Missing n) = TreeNeeds objects met.tree n × (objects n ≡ None)
 NoVersion objects met (fault.Damaged n) = TreeNeeds objects met.tree n × IsDamaged objects n
-NoVersion objects met (fault.TooLarge count) = (count ≡ 4194305) × (n : Name) × TreeNeeds objects met.tree n × IsLarge (objects n)
+NoVersion objects met (fault.TooLarge count) = (count ≡ MOST_BYTES + 1) × (n : Name) × TreeNeeds objects met.tree n × IsLarge (objects n)
 NoVersion objects met (fault.BadVersion n) = (n ≡ met.name) × IsBad objects met.tree
 NoVersion objects met (fault.KeysPresent n) = (n ≡ met.name) × (version : Version) × (option_and_then version_of (text_in objects met.tree) ≡ Some version) × IsTrue version.has_keys
 NoVersion objects met _ = ⊥
-
-abbrev pub TreeAnswers : Objects → Met → Result Tree IdentityFault → Type 0
-TreeAnswers objects met (Ok tree) = tree_at objects met.tree ≡ Some tree
-TreeAnswers objects met (Err f) = Refused (NoVersion objects met) f
 
 abbrev pub TextAnswers : Objects → Met → Result (List ℕ) IdentityFault → Type 0
 TextAnswers objects met (Ok text) = text_in objects met.tree ≡ Some text
@@ -49,13 +44,21 @@ ReadingAnswers name text (Err (fault.BadVersion n)) = (n ≡ name) × (version_o
 ReadingAnswers name text (Err (fault.KeysPresent n)) = (n ≡ name) × (version : Version) × (version_of text ≡ Some version) × IsTrue version.has_keys
 ReadingAnswers name text (Err _) = ⊥
 
-abbrev pub VersionAnswers : Objects → Met → Result Version IdentityFault → Type 0
-VersionAnswers objects met (Ok version) = (text : List ℕ) × VersionIn objects met text version
-VersionAnswers objects met (Err f) = Refused (NoVersion objects met) f
+-- what a version that was judged says is so: the tree names the object, whose blob is the text of the version without keys
+pub record IsJudged (objects : Objects) (judged : Judged) : Type 0 where
+  pub named : NamesVersion objects judged.tree judged.object
+  pub text : List ℕ
+  pub holds : text_in objects judged.tree ≡ Some text
+  pub reads : version_of text ≡ Some judged.version
+  pub no_keys : judged.version.has_keys ≡ false
 
-abbrev pub HeadAnswers : Objects → Name → Result Met IdentityFault → Type 0
-HeadAnswers objects head (Ok met) = (met.name ≡ head) × (parents : List Name) × IsCommit objects met parents
-HeadAnswers objects head (Err f) = Refused (HasNoVersion objects head) f
+abbrev pub NameAnswers : Objects → Met → Result Name IdentityFault → Type 0
+NameAnswers objects met (Ok object) = NamesVersion objects met.tree object
+NameAnswers objects met (Err f) = Refused (NoVersion objects met) f
+
+abbrev pub JudgedAnswers : Objects → Met → Result Judged IdentityFault → Type 0
+JudgedAnswers objects met (Ok judged) = (judged.tree ≡ met.tree) × IsJudged objects judged
+JudgedAnswers objects met (Err f) = Refused (NoVersion objects met) f
 
 -- the answer to a reading of the head alone
 abbrev pub LastAnswers : Objects → Id → Name → Result Person IdentityFault → Type 0
@@ -82,8 +85,8 @@ abbrev pub RootRefused : Objects → Id → Met → IdentityFault → Type 0
 RootRefused objects id root (fault.WrongId found) = RootDiffers objects id root found
 RootRefused objects id root f = NoVersion objects root f
 
-abbrev pub RootAnswers : Objects → Id → Met → Result Version IdentityFault → Type 0
-RootAnswers objects id root (Ok first) = RootHas objects id root first
+abbrev pub RootAnswers : Objects → Id → Met → Result Judged IdentityFault → Type 0
+RootAnswers objects id root (Ok first) = RootHas objects id root first.version × IsJudged objects first
 RootAnswers objects id root (Err f) = Refused (RootRefused objects id root) f
 
 -- from one version through those of these commits to the last
@@ -122,14 +125,14 @@ pub record HasChain (objects : Objects) (id : Id) (head : Name) (count : ℕ) (l
 
 abbrev pub WholeAnswers : Objects → Id → Name → Result (ℕ × Version) IdentityFault → Type 0
 WholeAnswers objects id head (Ok whole) = HasChain objects id head whole.0 whole.1
-WholeAnswers objects id head (Err f) = Refused (FaultHolds objects id head) f
+WholeAnswers objects id head (Err f) = Refused (IdentityFaultHolds objects id head) f
 
 -- the answer to a reading of the whole chain
 abbrev pub ChainAnswers : Objects → Id → Name → Result Person IdentityFault → Type 0
 ChainAnswers objects id head (Ok person) = IsChain objects id head × Shows objects id head person
-ChainAnswers objects id head (Err f) = Refused (FaultHolds objects id head) f
+ChainAnswers objects id head (Err f) = Refused (IdentityFaultHolds objects id head) f
 
 -- the answer to a count of its commits
 abbrev pub CountAnswers : Objects → Id → Name → Result ℕ IdentityFault → Type 0
 CountAnswers objects id head (Ok count) = (chain : IsChain objects id head) × (count ≡ length chain.walk)
-CountAnswers objects id head (Err f) = Refused (FaultHolds objects id head) f
+CountAnswers objects id head (Err f) = Refused (IdentityFaultHolds objects id head) f

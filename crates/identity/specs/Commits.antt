@@ -1,5 +1,5 @@
 -- The version of a commit: what the entry `version` of its tree names, and what keeps a commit from having one.
-use Rattle.std.specs.Prelude.{◌≡◌, ◌⊎◌, ◌&&◌, ℕ, List, Bool, true, false, IsTrue, codes, Option, Some, None, option_and_then}
+use Rattle.std.specs.Prelude.{◌≡◌, ◌⊎◌, ◌+◌, ◌&&◌, ℕ, List, Bool, true, false, IsTrue, codes, Option, Some, None, option_and_then}
 use Rattle.std.specs.List.{find}
 use Rattle.std.specs.Option.{option_map}
 use Rattle.std.specs.Str.{bytes_eq}
@@ -9,9 +9,9 @@ use Rattle.git_object.specs.declared.entry.Entry.{Entry}
 use Rattle.git_object.specs.declared.entry.Mode.{Mode}
 use Rattle.git_object.specs.declared.entry.Mode.TheVariants as mode
 use Rattle.git_object.specs.declared.tree.Tree.{Tree}
-use Rattle.git_object.specs.declared.object.Object.{Object}
-use Rattle.object_store.specs.Held.{Objects, object_at, IsDamaged, IsLarge}
-use Rattle.commit_chain.specs.Objects.{as_blob, as_commit, as_tree, blob_at, commit_at, tree_at}
+use Rattle.object_store.specs.Held.{Objects, IsDamaged, IsLarge}
+use Rattle.object_store.specs.declared.read.TheConstants.{MOST_BYTES}
+use Rattle.object_store.specs.Typed.{IsOtherKind, as_blob, as_commit, as_tree, blob_at, commit_at, tree_at}
 use Rattle.identity.specs.Version.{version_of}
 use Rattle.identity.specs.declared.version.Version.{Version}
 use Rattle.identity.specs.declared.fault.IdentityFault.{IdentityFault}
@@ -32,6 +32,10 @@ is_version_entry e = bytes_eq e.name (codes "version") && is_file e.mode
 -- the object that a tree's entry of the version names, if it has that entry; names are distinct in a tree that was read
 abbrev pub version_object : Tree → Option Name
 version_object t = option_map (λ e. e.object) (find is_version_entry t.entries)
+
+-- the tree that a name holds names this object as the version
+abbrev pub NamesVersion : Objects → Name → Name → Type 0
+NamesVersion objects tree object = option_and_then version_object (tree_at objects tree) ≡ Some object
 
 -- the blob that the entry of the version names, in the tree that a name holds
 abbrev pub text_in : Objects → Name → Option (List ℕ)
@@ -62,18 +66,18 @@ Needs objects of name = (name ≡ of) ⊎ ((commit : Commit) × (commit_at objec
 
 -- what is held for a commit with this tree is no version
 pub data IsBad (objects : Objects) (tree : Name) : Type 0 where
-  no_tree : (object : Object) → object_at objects tree ≡ Some object → as_tree object ≡ None → IsBad objects tree
+  no_tree : IsOtherKind as_tree objects tree → IsBad objects tree
   no_entry : (t : Tree) → tree_at objects tree ≡ Some t → version_object t ≡ None → IsBad objects tree
-  no_blob : (t : Tree) (name : Name) (object : Object) → tree_at objects tree ≡ Some t → version_object t ≡ Some name
-      → object_at objects name ≡ Some object → as_blob object ≡ None → IsBad objects tree
+  no_blob : (t : Tree) (name : Name) → tree_at objects tree ≡ Some t → version_object t ≡ Some name
+      → IsOtherKind as_blob objects name → IsBad objects tree
   no_version : (text : List ℕ) → text_in objects tree ≡ Some text → version_of text ≡ None → IsBad objects tree
 
 -- What keeps a name from holding a commit with a version without keys, one case a fault and with no order among them.
 abbrev pub HasNoVersion : Objects → Name → IdentityFault → Type 0
 HasNoVersion objects name (fault.Missing n) = Needs objects name n × (objects n ≡ None)
 HasNoVersion objects name (fault.Damaged n) = Needs objects name n × IsDamaged objects n
-HasNoVersion objects name (fault.TooLarge count) = (count ≡ 4194305) × (n : Name) × Needs objects name n × IsLarge (objects n)
-HasNoVersion objects name (fault.NotCommit n) = (n ≡ name) × (object : Object) × (object_at objects name ≡ Some object) × (as_commit object ≡ None)
+HasNoVersion objects name (fault.TooLarge count) = (count ≡ MOST_BYTES + 1) × (n : Name) × Needs objects name n × IsLarge (objects n)
+HasNoVersion objects name (fault.NotCommit n) = (n ≡ name) × IsOtherKind as_commit objects name
 HasNoVersion objects name (fault.BadVersion n) = (n ≡ name) × (commit : Commit) × (commit_at objects name ≡ Some commit) × IsBad objects commit.tree
 HasNoVersion objects name (fault.KeysPresent n) = (n ≡ name) × (version : Version) × (version_at objects name ≡ Some version) × IsTrue version.has_keys
 HasNoVersion objects name _ = ⊥

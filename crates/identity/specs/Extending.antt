@@ -1,18 +1,15 @@
 -- What a new version does to the chain of its identity.
-use Rattle.std.specs.Prelude.{◌≡◌, ◌<◌, ℕ, List, [], ◌∷◌, ◌++◌, length, Option, Some, None}
+use Rattle.std.specs.Prelude.{◌≡◌, ◌<◌, List, [], ◌∷◌, ◌++◌, length, Option, Some, None}
 use Rattle.gb_text.specs.declared.id.Id.{Id}
 use Rattle.gb_text.specs.declared.id.Name.{Name}
 use Rattle.object_store.specs.Held.{Objects}
 use Rattle.commit_chain.specs.declared.chain.Met.{Met}
+use Rattle.commit_chain.specs.declared.chain.TheConstants.{MOST_COMMITS}
 use Rattle.identity.specs.Version.{person_name}
 use Rattle.identity.specs.Persons.{IsChain, Shows}
 use Rattle.identity.specs.declared.chain.Person.{Person}
 use Rattle.identity.specs.declared.making.Made.{Made}
 use Rattle.identity.specs.declared.version.Version.{Version}
-
--- what stood under a name still stands
-pub record OnlyGrew (old new : Objects) : Type 0 where
-  pub stays : (name : Name) (text : List ℕ) → old name ≡ Some text → new name ≡ Some text
 
 -- the person that a version at a head shows
 abbrev pub person_by : Id → Name → Version → Person
@@ -28,4 +25,4 @@ pub record IsLonger (objects : Objects) (id : Id) (walk : List Met) (head : Name
 -- A new version begins the chain of its identity, or goes on with the chain from its parent: there is room for one more.
 abbrev pub Extends : Objects → Objects → Option Name → Version → Made → Type 0
 Extends old new None version made = IsLonger new made.id [] made.head version
-Extends old new (Some head) version made = (id : Id) (chain : IsChain old id head) → length chain.walk < 65536 → IsLonger new id chain.walk made.head version
+Extends old new (Some head) version made = (id : Id) (chain : IsChain old id head) → length chain.walk < MOST_COMMITS → IsLonger new id chain.walk made.head version

@@ -1,9 +1,9 @@
 -- New versions of an identity: the three objects that are written of one.
-use Rattle.std.specs.Prelude.{◌≡◌, ⊤, ℕ, List, [], ◌∷◌, All, codes, Option, Some, None, Result, Ok, Err}
+use Rattle.std.specs.Prelude.{◌≡◌, ◌+◌, ⊤, ℕ, List, [], ◌∷◌, ◌++◌, All, codes, reverse, Option, Some, None, Result, Ok, Err}
 use Rattle.std.specs.List.{flat_map}
 use Rattle.std.specs.Option.{option_to_list}
 use Rattle.gb_text.specs.declared.id.Name.{Name}
-use Rattle.gb_store.specs.Files.{History}
+use Rattle.gb_store.specs.Files.{History, files_of}
 use Rattle.git_object.specs.declared.commit.Commit.{Commit}
 use Rattle.git_object.specs.declared.entry.Mode.TheVariants.{Plain}
 use Rattle.git_object.specs.declared.frame.Kind.TheVariants as kinds
@@ -11,12 +11,15 @@ use Rattle.git_object.specs.declared.object.Object.TheVariants as object
 use Rattle.git_object.specs.declared.tree.Tree.{Tree}
 use Rattle.git_object.specs.Grammar.{IsCommitText, IsTreeText, commit_text, entry_text, framed, object_name}
 use Rattle.object_store.specs.Held.{Objects, object_at}
+use Rattle.object_store.specs.declared.read.TheConstants.{MOST_BYTES}
 use Rattle.object_store.specs.declared.fault.PutFault.{PutFault}
 use Rattle.object_store.specs.declared.fault.PutFault.TheVariants as fault
-use Rattle.object_batch.specs.Batches.{BatchAnswers, HasLong, IsShort}
+use Rattle.object_batch.specs.Batches.{BatchAnswers, HasLong, missing_writes}
+use Rattle.object_store.specs.Texts.{IsShort}
 use Rattle.object_batch.specs.Needs.{IsHeldAs}
 use Rattle.object_batch.specs.Commits.{written_commit}
 use Rattle.identity.specs.declared.making.Made.{Made}
+use Rattle.identity.specs.declared.making.VersionPlan.{VersionPlan}
 use Rattle.identity.specs.Version.{version_id}
 
 -- the tree with one entry, `version`, of mode 100644
@@ -55,6 +58,10 @@ version_objects version parent now = blob_object version ∷ tree_object version
 abbrev pub made_of : List ℕ → Option Name → ℕ → Made
 made_of version parent now = record { id = version_id version; head = object_name (commit_object version parent now) }
 
+-- what is to be made of it, and its objects
+abbrev pub version_plan : List ℕ → Option Name → ℕ → VersionPlan
+version_plan version parent now = record { made = made_of version parent now; objects = version_objects version parent now }
+
 -- the contents of the tree and of the commit are theirs
 pub record AreContents (version : List ℕ) (parent : Option Name) (now : ℕ) : Type 0 where
   pub tree : IsTreeText (tree_content (object_name (blob_object version))) (version_tree (object_name (blob_object version)))
@@ -72,11 +79,15 @@ HasParent objects None = ⊤
 HasParent objects (Some parent) = IsHeldAs objects parent kinds.Commit
 
 -- what is to be made of a version's text, whose objects are short enough
-abbrev pub PlanAnswers : List ℕ → Option Name → ℕ → Result Made PutFault → Type 0
-PlanAnswers version parent now (Ok made) = (made ≡ made_of version parent now) × All IsShort (version_objects version parent now)
-PlanAnswers version parent now (Err (fault.Large count)) = (count ≡ 4194305) × HasLong (version_objects version parent now)
+abbrev pub PlanAnswers : List ℕ → Option Name → ℕ → Result VersionPlan PutFault → Type 0
+PlanAnswers version parent now (Ok plan) = (plan ≡ version_plan version parent now) × All IsShort (version_objects version parent now)
+PlanAnswers version parent now (Err (fault.Large count)) = (count ≡ MOST_BYTES + 1) × HasLong (version_objects version parent now)
 PlanAnswers version parent now (Err fault.Memory) = ⊤
 PlanAnswers version parent now (Err _) = ⊥
+
+-- what stands after the objects of a version, none of which is refused, are put
+abbrev pub after_version : List ℕ → List ℕ → Option Name → ℕ → History → History
+after_version folder version parent now old = reverse (missing_writes folder (version_objects version parent now) (files_of old)) ++ old
 
 -- the answer is that of a put of the objects
 abbrev pub MakingAnswers : List ℕ → List (List ℕ) → History → History → Result Made PutFault → Type 0

@@ -1,11 +1,12 @@
 -- Persons: chains of version commits from one head, whom they show, and what may be wrong with them.
-use Rattle.std.specs.Prelude.{◌≡◌, ◌≢◌, ◌⊎◌, ◌≤◌, ℕ, List, [], length, Some}
+use Rattle.std.specs.Prelude.{◌≡◌, ◌≢◌, ◌⊎◌, ◌+◌, ◌≤◌, ℕ, List, [], length, Some}
 use Rattle.gb_text.specs.declared.id.Id.{Id}
 use Rattle.gb_text.specs.declared.id.Name.{Name}
 use Rattle.git_object.specs.declared.commit.Commit.{Commit}
 use Rattle.object_store.specs.Held.{Objects}
 use Rattle.commit_chain.specs.Chain.{Walked, Meets, MeetsCommit, MeetsMerge, IsTooLong}
 use Rattle.commit_chain.specs.declared.chain.Met.{Met}
+use Rattle.commit_chain.specs.declared.chain.TheConstants.{MOST_COMMITS}
 use Rattle.identity.specs.Version.{version_of, version_id, person_name}
 use Rattle.identity.specs.Commits.{version_text_at, HasVersion, HasNoVersion}
 use Rattle.identity.specs.declared.version.Version.{Version}
@@ -28,7 +29,7 @@ pub record BeginsWith (objects : Objects) (head : Name) (text : List ℕ) : Type
 pub record IsChain (objects : Objects) (id : Id) (head : Name) : Type 0 where
   pub walk : List Met
   pub walked : Walked objects head walk
-  pub within : length walk ≤ 65536
+  pub within : length walk ≤ MOST_COMMITS
   pub each : (name : Name) → Meets objects head name → (version : Version) × HasVersion objects name version
   pub text : List ℕ
   pub begins : BeginsWith objects head text
@@ -45,8 +46,8 @@ abbrev pub SomeHasNoVersion : Objects → Name → IdentityFault → Type 0
 SomeHasNoVersion objects head f = (name : Name) × Meets objects head name × HasNoVersion objects name f
 
 -- What is wrong with the chain of an identity from a head, one case a fault and with no order among them.
-abbrev pub FaultHolds : Objects → Id → Name → IdentityFault → Type 0
-FaultHolds objects id head (fault.NotLinear name) = MeetsMerge objects head name
-FaultHolds objects id head (fault.WrongId found) = (text : List ℕ) × BeginsWith objects head text × (found ≡ version_id text) × (found ≢ id)
-FaultHolds objects id head (fault.TooLarge count) = ((count ≡ 65537) × IsTooLong objects head) ⊎ SomeHasNoVersion objects head (fault.TooLarge count)
-FaultHolds objects id head f = SomeHasNoVersion objects head f
+abbrev pub IdentityFaultHolds : Objects → Id → Name → IdentityFault → Type 0
+IdentityFaultHolds objects id head (fault.NotLinear name) = MeetsMerge objects head name
+IdentityFaultHolds objects id head (fault.WrongId found) = (text : List ℕ) × BeginsWith objects head text × (found ≡ version_id text) × (found ≢ id)
+IdentityFaultHolds objects id head (fault.TooLarge count) = ((count ≡ MOST_COMMITS + 1) × IsTooLong objects head) ⊎ SomeHasNoVersion objects head (fault.TooLarge count)
+IdentityFaultHolds objects id head f = SomeHasNoVersion objects head f

@@ -1,19 +1,20 @@
 //! Persons, by the chains of their versions.
 ghost use Rattle.std.specs.Prelude.{◌≡◌, ◌≤◌, ◌+◌, ◌*◌, IsTrue, IfOk, IsErrOf, List, length};
 ghost use Rattle.gb_store.specs.Faults.{KeepsFaults};
-ghost use Rattle.gb_store.specs.Files.{files_of};
-ghost use Rattle.object_store.specs.Held.{objects_in};
+ghost use Rattle.object_store.specs.Held.{objects_after};
 ghost use Rattle.commit_chain.specs.Chain.{Walked};
 ghost use Rattle.commit_chain.specs.declared.chain.Met.{Met as MetValue};
+ghost use Rattle.commit_chain.specs.declared.chain.TheConstants.{MOST_COMMITS};
 ghost use Rattle.identity.specs.Version.{person_name};
-ghost use Rattle.identity.specs.Answers.{ChainAnswers, CheckAnswers, CountAnswers, LastAnswers, LaterAnswers, WholeAnswers};
+ghost use Rattle.identity.specs.Answers.{ChainAnswers, CheckAnswers, CountAnswers, IsJudged, LastAnswers, LaterAnswers, WholeAnswers};
 
-use crate::commit::{first_version, head_commit, version_of};
+use crate::commit::{Judged, first_version, next_version, version_of};
 use crate::fault::IdentityFault;
 use crate::version::Version;
 use commit_chain::{Met, walk};
 use gb_store::Store;
 use gb_text::{Folder, Id, Memory, Name, Text};
+use object_store::get_commit;
 use std::alloc::Global;
 
 /// Who an identity is by its last version: under which id, at which head, with which name and email.
@@ -34,12 +35,16 @@ pub fn read_chain<S: Store>(
     id: &Id,
     head: &Name,
 ) -> Result<Person, IdentityFault>
-    ensures answers { IsTrue S.tells → ChainAnswers (objects_in (files_of (S.history disk.old)) folder.now) id.now head.now result }
+    ensures answers { IsTrue S.tells
+        → ChainAnswers (objects_after (S.history disk.old) folder.now) id.now head.now result }
     ensures unwritten { IsTrue S.tells → S.history disk.new ≡ S.history disk.old }
-    ensures reads { S.object_reads disk.new ≤ S.object_reads disk.old + 196608 }
-    ensures once { IsTrue S.tells → IfOk result (λ _. (walk : List MetValue) → Walked (objects_in (files_of (S.history disk.old)) folder.now) head.now walk
+    ensures reads { S.object_reads disk.new ≤ S.object_reads disk.old + 3 * MOST_COMMITS }
+    ensures once { IsTrue S.tells
+        → IfOk result (λ _. (walk : List MetValue)
+        → Walked (objects_after (S.history disk.old) folder.now) head.now walk
         → S.object_reads disk.new ≤ S.object_reads disk.old + 3 * length walk) }
-    ensures caused { KeepsFaults S.never_fails S.faults (IsErrOf result IdentityFault.Disk) disk.old disk.new }
+    ensures caused { KeepsFaults S.never_fails S.faults (IsErrOf result IdentityFault.Disk)
+        disk.old disk.new }
 {
     let (_, last) = read_whole(alloc, disk, folder, id, head)?;
     Ok(person_of(alloc, id, head, last)?)
@@ -53,11 +58,14 @@ pub fn versions<S: Store>(
     id: &Id,
     head: &Name,
 ) -> Result<u64, IdentityFault>
-    ensures answers { IsTrue S.tells → CountAnswers (objects_in (files_of (S.history disk.old)) folder.now) id.now head.now result }
+    ensures answers { IsTrue S.tells
+        → CountAnswers (objects_after (S.history disk.old) folder.now) id.now head.now result }
     ensures unwritten { IsTrue S.tells → S.history disk.new ≡ S.history disk.old }
-    ensures reads { S.object_reads disk.new ≤ S.object_reads disk.old + 196608 }
-    ensures once { IfOk result (λ count. S.object_reads disk.new ≤ S.object_reads disk.old + 3 * count) }
-    ensures caused { KeepsFaults S.never_fails S.faults (IsErrOf result IdentityFault.Disk) disk.old disk.new }
+    ensures reads { S.object_reads disk.new ≤ S.object_reads disk.old + 3 * MOST_COMMITS }
+    ensures once { IfOk result
+        (λ count. S.object_reads disk.new ≤ S.object_reads disk.old + 3 * count) }
+    ensures caused { KeepsFaults S.never_fails S.faults (IsErrOf result IdentityFault.Disk)
+        disk.old disk.new }
 {
     let (count, _) = read_whole(alloc, disk, folder, id, head)?;
     Ok(count)
@@ -72,19 +80,27 @@ pub fn read_last<S: Store>(
     id: &Id,
     head: &Name,
 ) -> Result<Person, IdentityFault>
-    ensures answers { IsTrue S.tells → LastAnswers (objects_in (files_of (S.history disk.old)) folder.now) id.now head.now result }
+    ensures answers { IsTrue S.tells
+        → LastAnswers (objects_after (S.history disk.old) folder.now) id.now head.now result }
     ensures unwritten { IsTrue S.tells → S.history disk.new ≡ S.history disk.old }
     ensures reads { S.object_reads disk.new ≤ S.object_reads disk.old + 3 }
-    ensures caused { KeepsFaults S.never_fails S.faults (IsErrOf result IdentityFault.Disk) disk.old disk.new }
+    ensures caused { KeepsFaults S.never_fails S.faults (IsErrOf result IdentityFault.Disk)
+        disk.old disk.new }
 {
-    let met = head_commit(alloc, disk, folder, head)?;
+    let commit = get_commit(alloc, disk, folder, head)?;
+    let met = Met {
+        name: *head,
+        tree: commit.tree,
+    };
     let last = version_of(alloc, disk, folder, &met)?;
-    Ok(person_of(alloc, id, head, last)?)
+    Ok(person_of(alloc, id, head, last.version)?)
 }
 
 // The person that a version shows.
 fn person_of(alloc: Global, id: &Id, head: &Name, last: Version) -> Result<Person, Memory>
-    ensures { IfOk result (λ person. person ≡ record { id = id.now; head = head.now; name = person_name last; email = last.email }) }
+    ensures { IfOk result
+        (λ person. person
+        ≡ record { id = id.now; head = head.now; name = person_name last; email = last.email }) }
 {
     let name = Text::from_str(alloc, last.person_name())?;
     Ok(Person {
@@ -103,11 +119,14 @@ fn read_whole<S: Store>(
     id: &Id,
     head: &Name,
 ) -> Result<(u64, Version), IdentityFault>
-    ensures answers { IsTrue S.tells → WholeAnswers (objects_in (files_of (S.history disk.old)) folder.now) id.now head.now result }
+    ensures answers { IsTrue S.tells
+        → WholeAnswers (objects_after (S.history disk.old) folder.now) id.now head.now result }
     ensures unwritten { IsTrue S.tells → S.history disk.new ≡ S.history disk.old }
-    ensures reads { S.object_reads disk.new ≤ S.object_reads disk.old + 196608 }
-    ensures once { IfOk result (λ whole. S.object_reads disk.new ≤ S.object_reads disk.old + 3 * whole.0) }
-    ensures caused { KeepsFaults S.never_fails S.faults (IsErrOf result IdentityFault.Disk) disk.old disk.new }
+    ensures reads { S.object_reads disk.new ≤ S.object_reads disk.old + 3 * MOST_COMMITS }
+    ensures once { IfOk result
+        (λ whole. S.object_reads disk.new ≤ S.object_reads disk.old + 3 * whole.0) }
+    ensures caused { KeepsFaults S.never_fails S.faults (IsErrOf result IdentityFault.Disk)
+        disk.old disk.new }
 {
     let walk = walk(alloc, disk, folder, head)?;
     match check_versions(alloc, disk, folder, id, &walk)? {
@@ -125,10 +144,12 @@ fn check_versions<S: Store>(
     id: &Id,
     walk: &[Met],
 ) -> Result<Option<Version>, IdentityFault>
-    ensures answers { IsTrue S.tells → CheckAnswers (objects_in (files_of (S.history disk.old)) folder.now) id.now walk.now result }
+    ensures answers { IsTrue S.tells
+        → CheckAnswers (objects_after (S.history disk.old) folder.now) id.now walk.now result }
     ensures unwritten { IsTrue S.tells → S.history disk.new ≡ S.history disk.old }
     ensures reads { S.object_reads disk.new ≤ S.object_reads disk.old + 2 * length walk.now }
-    ensures caused { KeepsFaults S.never_fails S.faults (IsErrOf result IdentityFault.Disk) disk.old disk.new }
+    ensures caused { KeepsFaults S.never_fails S.faults (IsErrOf result IdentityFault.Disk)
+        disk.old disk.new }
 {
     let [root, later @ ..] = walk else {
         return Ok(None);
@@ -143,17 +164,21 @@ fn last_version<S: Store>(
     alloc: Global,
     disk: &mut S,
     folder: &Folder,
-    first: Version,
+    first: Judged,
     later: &[Met],
 ) -> Result<Version, IdentityFault>
-    ensures answers { IsTrue S.tells → LaterAnswers (objects_in (files_of (S.history disk.old)) folder.now) first later.now result }
+    ensures answers { IsTrue S.tells
+        → IsJudged (objects_after (S.history disk.old) folder.now) first
+        → LaterAnswers (objects_after (S.history disk.old) folder.now) first.version
+        later.now result }
     ensures unwritten { IsTrue S.tells → S.history disk.new ≡ S.history disk.old }
     ensures reads { S.object_reads disk.new ≤ S.object_reads disk.old + 2 * length later.now }
-    ensures caused { KeepsFaults S.never_fails S.faults (IsErrOf result IdentityFault.Disk) disk.old disk.new }
+    ensures caused { KeepsFaults S.never_fails S.faults (IsErrOf result IdentityFault.Disk)
+        disk.old disk.new }
 {
     let mut last = first;
     for met in later {
-        last = version_of(alloc, disk, folder, met)?;
+        last = next_version(alloc, disk, folder, met, last)?;
     }
-    Ok(last)
+    Ok(last.version)
 }

@@ -1,55 +1,80 @@
 //! The version of a commit, by way of its tree.
 ghost use Rattle.std.specs.Prelude.{◌≡◌, ◌≤◌, ◌+◌, IsTrue, IsErrOf};
 ghost use Rattle.gb_store.specs.Faults.{KeepsFaults};
-ghost use Rattle.gb_store.specs.Files.{files_of};
-ghost use Rattle.object_store.specs.Held.{objects_in};
-ghost use Rattle.identity.specs.Commits.{is_file, is_version_entry, version_object};
-ghost use Rattle.identity.specs.Answers.{HeadAnswers, ReadingAnswers, RootAnswers, TextAnswers, TreeAnswers, VersionAnswers};
+ghost use Rattle.object_store.specs.Held.{objects_after};
+ghost use Rattle.identity.specs.Commits.{NamesVersion, is_file, is_version_entry, version_object};
+ghost use Rattle.identity.specs.Answers.{IsJudged, JudgedAnswers, NameAnswers, ReadingAnswers, RootAnswers, TextAnswers};
+ghost use Rattle.identity.specs.Faults.{version_fault};
 
 use crate::fault::IdentityFault;
 use crate::version::{Version, id_of_version};
 use commit_chain::Met;
 use gb_store::Store;
 use gb_text::{Bytes, Folder, Id, Name};
-use git_object::{Entry, Mode, Object, Tree};
+use git_object::{Entry, Mode, Tree};
+use object_store::{KindFault, get_blob, get_tree};
 use std::alloc::Global;
 
-/// The commit that a head names, however many parents it has. At most one object read.
-pub fn head_commit<S: Store>(
-    alloc: Global,
-    disk: &mut S,
-    folder: &Folder,
-    head: &Name,
-) -> Result<Met, IdentityFault>
-    ensures answers { IsTrue S.tells → HeadAnswers (objects_in (files_of (S.history disk.old)) folder.now) head.now result }
-    ensures unwritten { IsTrue S.tells → S.history disk.new ≡ S.history disk.old }
-    ensures reads { S.object_reads disk.new ≤ S.object_reads disk.old + 1 }
-    ensures caused { KeepsFaults S.never_fails S.faults (IsErrOf result IdentityFault.Disk) disk.old disk.new }
-{
-    match object_store::get(alloc, disk, folder, head)? {
-        Object::Commit(commit) => Ok(Met {
-            name: *head,
-            tree: commit.tree,
-        }),
-        Object::Blob(_) | Object::Tree(_) => Err(IdentityFault::NotCommit(*head)),
-    }
+/// A version that was judged: the tree that names it, the object that it is, and what it says.
+#[derive(Drop)]
+pub struct Judged {
+    pub tree: Name,
+    pub object: Name,
+    pub version: Version,
 }
 
 /// The version of a commit, which has no keys. At most two object reads.
-#[tactic(auto, using(crate::proofs::CommitLemmas::VersionAnswers_reading))]
 pub fn version_of<S: Store>(
     alloc: Global,
     disk: &mut S,
     folder: &Folder,
     met: &Met,
-) -> Result<Version, IdentityFault>
-    ensures answers { IsTrue S.tells → VersionAnswers (objects_in (files_of (S.history disk.old)) folder.now) met.now result }
+) -> Result<Judged, IdentityFault>
+    ensures answers { IsTrue S.tells
+        → JudgedAnswers (objects_after (S.history disk.old) folder.now) met.now result }
     ensures unwritten { IsTrue S.tells → S.history disk.new ≡ S.history disk.old }
     ensures reads { S.object_reads disk.new ≤ S.object_reads disk.old + 2 }
-    ensures caused { KeepsFaults S.never_fails S.faults (IsErrOf result IdentityFault.Disk) disk.old disk.new }
+    ensures caused { KeepsFaults S.never_fails S.faults (IsErrOf result IdentityFault.Disk)
+        disk.old disk.new }
 {
-    let text = text_of(alloc, disk, folder, met)?;
-    read_version(alloc, &met.name, text.as_slice())
+    let object = version_name(alloc, disk, folder, met)?;
+    judge(alloc, disk, folder, met, object)
+}
+
+/// The same, next to a version that was judged before: where the commit has the same tree nothing is
+/// read, and where its tree names the same object only the tree is.
+pub fn next_version<S: Store>(
+    alloc: Global,
+    disk: &mut S,
+    folder: &Folder,
+    met: &Met,
+    last: Judged,
+) -> Result<Judged, IdentityFault>
+    ensures answers { IsTrue S.tells
+        → IsJudged (objects_after (S.history disk.old) folder.now) last
+        → JudgedAnswers (objects_after (S.history disk.old) folder.now) met.now result }
+    ensures unwritten { IsTrue S.tells → S.history disk.new ≡ S.history disk.old }
+    ensures reads { S.object_reads disk.new ≤ S.object_reads disk.old + 2 }
+    ensures same_tree { met.now.tree ≡ last.tree
+        → S.object_reads disk.new ≡ S.object_reads disk.old }
+    ensures same_object { IsTrue S.tells
+        → NamesVersion (objects_after (S.history disk.old) folder.now) met.now.tree last.object
+        → S.object_reads disk.new ≤ S.object_reads disk.old + 1 }
+    ensures caused { KeepsFaults S.never_fails S.faults (IsErrOf result IdentityFault.Disk)
+        disk.old disk.new }
+{
+    if met.tree == last.tree {
+        return Ok(last);
+    }
+    let object = version_name(alloc, disk, folder, met)?;
+    if object == last.object {
+        return Ok(Judged {
+            tree: met.tree,
+            object,
+            version: last.version,
+        });
+    }
+    judge(alloc, disk, folder, met, object)
 }
 
 /// The version of the first commit, which has no keys and whose text has the id.
@@ -59,20 +84,52 @@ pub fn first_version<S: Store>(
     folder: &Folder,
     id: &Id,
     root: &Met,
-) -> Result<Version, IdentityFault>
-    ensures answers { IsTrue S.tells → RootAnswers (objects_in (files_of (S.history disk.old)) folder.now) id.now root.now result }
+) -> Result<Judged, IdentityFault>
+    ensures answers { IsTrue S.tells
+        → RootAnswers (objects_after (S.history disk.old) folder.now) id.now root.now result }
     ensures unwritten { IsTrue S.tells → S.history disk.new ≡ S.history disk.old }
     ensures reads { S.object_reads disk.new ≤ S.object_reads disk.old + 2 }
-    ensures caused { KeepsFaults S.never_fails S.faults (IsErrOf result IdentityFault.Disk) disk.old disk.new }
+    ensures caused { KeepsFaults S.never_fails S.faults (IsErrOf result IdentityFault.Disk)
+        disk.old disk.new }
 {
-    let text = text_of(alloc, disk, folder, root)?;
+    let object = version_name(alloc, disk, folder, root)?;
+    let text = version_bytes(alloc, disk, folder, root, &object)?;
     let version = read_version(alloc, &root.name, text.as_slice())?;
     let found = id_of_version(text.as_slice());
     if found == *id {
-        Ok(version)
+        Ok(Judged {
+            tree: root.tree,
+            object,
+            version,
+        })
     } else {
         Err(IdentityFault::WrongId(found))
     }
+}
+
+// The version of a commit whose tree names this object as it.
+fn judge<S: Store>(
+    alloc: Global,
+    disk: &mut S,
+    folder: &Folder,
+    met: &Met,
+    object: Name,
+) -> Result<Judged, IdentityFault>
+    ensures answers { IsTrue S.tells
+        → NamesVersion (objects_after (S.history disk.old) folder.now) met.now.tree object
+        → JudgedAnswers (objects_after (S.history disk.old) folder.now) met.now result }
+    ensures unwritten { IsTrue S.tells → S.history disk.new ≡ S.history disk.old }
+    ensures reads { S.object_reads disk.new ≤ S.object_reads disk.old + 1 }
+    ensures caused { KeepsFaults S.never_fails S.faults (IsErrOf result IdentityFault.Disk)
+        disk.old disk.new }
+{
+    let text = version_bytes(alloc, disk, folder, met, &object)?;
+    let version = read_version(alloc, &met.name, text.as_slice())?;
+    Ok(Judged {
+        tree: met.tree,
+        object,
+        version,
+    })
 }
 
 // The version that the text of a commit is.
@@ -86,43 +143,59 @@ fn read_version(alloc: Global, name: &Name, text: &[u8]) -> Result<Version, Iden
     }
 }
 
-// The blob that the tree of a commit names as its version.
-fn text_of<S: Store>(
+// The object that the tree of a commit names as its version.
+fn version_name<S: Store>(
     alloc: Global,
     disk: &mut S,
     folder: &Folder,
     met: &Met,
-) -> Result<Bytes, IdentityFault>
-    ensures answers { IsTrue S.tells → TextAnswers (objects_in (files_of (S.history disk.old)) folder.now) met.now result }
+) -> Result<Name, IdentityFault>
+    ensures answers { IsTrue S.tells
+        → NameAnswers (objects_after (S.history disk.old) folder.now) met.now result }
     ensures unwritten { IsTrue S.tells → S.history disk.new ≡ S.history disk.old }
-    ensures reads { S.object_reads disk.new ≤ S.object_reads disk.old + 2 }
-    ensures caused { KeepsFaults S.never_fails S.faults (IsErrOf result IdentityFault.Disk) disk.old disk.new }
+    ensures reads { S.object_reads disk.new ≤ S.object_reads disk.old + 1 }
+    ensures caused { KeepsFaults S.never_fails S.faults (IsErrOf result IdentityFault.Disk)
+        disk.old disk.new }
 {
-    let tree = tree_of(alloc, disk, folder, met)?;
-    let Some(name) = version_object(&tree) else {
-        return Err(IdentityFault::BadVersion(met.name));
+    let tree = match get_tree(alloc, disk, folder, &met.tree) {
+        Ok(tree) => tree,
+        Err(fault) => return Err(version_fault(&met.name, fault)),
     };
-    match object_store::get(alloc, disk, folder, &name)? {
-        Object::Blob(text) => Ok(text),
-        Object::Tree(_) | Object::Commit(_) => Err(IdentityFault::BadVersion(met.name)),
+    match version_object(&tree) {
+        Some(object) => Ok(object),
+        None => Err(IdentityFault::BadVersion(met.name)),
     }
 }
 
-// The tree of a commit.
-fn tree_of<S: Store>(
+// The bytes of the blob that the tree of a commit names as its version.
+fn version_bytes<S: Store>(
     alloc: Global,
     disk: &mut S,
     folder: &Folder,
     met: &Met,
-) -> Result<Tree, IdentityFault>
-    ensures answers { IsTrue S.tells → TreeAnswers (objects_in (files_of (S.history disk.old)) folder.now) met.now result }
+    object: &Name,
+) -> Result<Bytes, IdentityFault>
+    ensures answers { IsTrue S.tells
+        → NamesVersion (objects_after (S.history disk.old) folder.now) met.now.tree object.now
+        → TextAnswers (objects_after (S.history disk.old) folder.now) met.now result }
     ensures unwritten { IsTrue S.tells → S.history disk.new ≡ S.history disk.old }
     ensures reads { S.object_reads disk.new ≤ S.object_reads disk.old + 1 }
-    ensures caused { KeepsFaults S.never_fails S.faults (IsErrOf result IdentityFault.Disk) disk.old disk.new }
+    ensures caused { KeepsFaults S.never_fails S.faults (IsErrOf result IdentityFault.Disk)
+        disk.old disk.new }
 {
-    match object_store::get(alloc, disk, folder, &met.tree)? {
-        Object::Tree(tree) => Ok(tree),
-        Object::Blob(_) | Object::Commit(_) => Err(IdentityFault::BadVersion(met.name)),
+    match get_blob(alloc, disk, folder, object) {
+        Ok(text) => Ok(text),
+        Err(fault) => Err(version_fault(&met.name, fault)),
+    }
+}
+
+// A fault of the tree or of the text of the version of this commit.
+fn version_fault(of: &Name, fault: KindFault) -> IdentityFault
+    ensures { result ≡ version_fault of.now fault }
+{
+    match fault {
+        KindFault::OtherKind(_) => IdentityFault::BadVersion(*of),
+        fault => IdentityFault::from(fault),
     }
 }
 

@@ -1,7 +1,7 @@
 //! What may be wrong with the chain of an identity.
 use commit_chain::{ChainFault, ChainStop, MOST_COMMITS};
 use gb_text::{Id, Memory, Name};
-use object_store::{MOST_BYTES, ObjFault};
+use object_store::{KindFault, MOST_BYTES};
 
 /// Why there is no person. Each fault but the first two is one of the objects.
 #[derive(Clone, Copy, Debug, PartialEq, Eq)]
@@ -38,19 +38,20 @@ impl From<Memory> for IdentityFault {
     }
 }
 
-impl From<ObjFault> for IdentityFault {
+impl From<KindFault> for IdentityFault {
     ghost use Rattle.std.specs.Prelude.{◌≡◌};
     ghost use Rattle.identity.specs.Faults.{fault_of};
 
     ghost from_gives = { λ fault e. e ≡ fault_of fault };
 
-    fn from(fault: ObjFault) -> Self {
+    fn from(fault: KindFault) -> Self {
         match fault {
-            ObjFault::Memory => IdentityFault::Memory,
-            ObjFault::Disk => IdentityFault::Disk,
-            ObjFault::Missing(name) => IdentityFault::Missing(name),
-            ObjFault::Damaged(name) => IdentityFault::Damaged(name),
-            ObjFault::Large(_) => IdentityFault::TooLarge(MOST_BYTES + 1),
+            KindFault::Memory => IdentityFault::Memory,
+            KindFault::Disk => IdentityFault::Disk,
+            KindFault::Missing(name) => IdentityFault::Missing(name),
+            KindFault::Damaged(name) => IdentityFault::Damaged(name),
+            KindFault::Large(_) => IdentityFault::TooLarge(MOST_BYTES + 1),
+            KindFault::OtherKind(name) => IdentityFault::NotCommit(name),
         }
     }
 }

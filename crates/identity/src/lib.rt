@@ -6,6 +6,7 @@ mod commit;
 mod fault;
 mod laws;
 mod making;
+mod making_laws;
 mod member;
 mod version;
 
@@ -13,10 +14,11 @@ pub use chain::{Person, read_chain, read_last, versions};
 pub use fault::IdentityFault;
 pub use laws::{
     chains_are_determined, valid_chains_have_no_fault, valid_chains_show_a_person,
-    valid_chains_stay_valid, versions_by_members, versions_name_persons,
+    valid_chains_stay_valid, version_ids_are_ids, versions_by_members, versions_name_persons,
     written_versions_read_back,
 };
-pub use making::{Made, new_version, plan_version};
+pub use making::{Made, VersionPlan, new_version, plan_version};
+pub use making_laws::{new_versions_come_after_their_needs, new_versions_extend_their_chains};
 pub use version::{Version, id_of_version, version_text};
 
 #[cfg(test)]

@@ -1,23 +1,17 @@
 //! New versions of an identity, as they are written.
-ghost use Rattle.std.specs.Prelude.{◌≡◌, ◌≤◌, ◌+◌, ◌-◌, ◌^◌, IsTrue, IfOk, IsErrOf};
+ghost use Rattle.std.specs.Prelude.{◌≡◌, ◌≤◌, ◌+◌, ◌∷◌, [], IsTrue, IfOk, IsErrOf};
 ghost use Rattle.gb_text.specs.Rules.{is_line_text, is_title_text};
 ghost use Rattle.gb_store.specs.Faults.{KeepsFaults};
-ghost use Rattle.gb_store.specs.Files.{files_of};
-ghost use Rattle.gb_store.specs.Moments.{Wrote, WroteIf};
 ghost use Rattle.git_object.specs.Grammar.{IsCommitText, IsTreeText};
-ghost use Rattle.object_store.specs.Held.{objects_in};
-ghost use Rattle.object_store.specs.Puts.{PutsObject};
-ghost use Rattle.identity.specs.Version.{version_text_of, written_version};
-ghost use Rattle.identity.specs.Extending.{Extends};
-ghost use Rattle.object_batch.specs.Needs.{PutsAfterNeeds};
-ghost use Rattle.identity.specs.Making.{AreContents, HasParent, HoldsVersion, MakingAnswers, PlanAnswers, commit_content, made_of, tree_content, version_commit, version_objects, version_tree};
+ghost use Rattle.identity.specs.Version.{version_text_of};
+ghost use Rattle.identity.specs.Making.{MakingAnswers, PlanAnswers, commit_content, made_of, tree_content, version_commit, version_objects, version_plan, version_tree};
 
 use crate::version::{id_of_version, version_text};
 use gb_store::Store;
-use gb_text::{Bytes, Folder, Id, List, Memory, Name};
+use gb_text::{Bytes, Folder, Id, LIMIT, List, Memory, Name};
 use git_object::{Entry, Kind, Mode, Tree};
-use object_batch::{ObjectText, check_sizes, commit_for, put_all};
-use object_store::PutFault;
+use object_batch::{check_sizes, commit_for, put_all};
+use object_store::{ObjectText, PutFault};
 use std::alloc::Global;
 
 /// A version that was made: the SHA-256 of its text, which is the id of the identity that it begins,
@@ -26,6 +20,14 @@ use std::alloc::Global;
 pub struct Made {
     pub id: Id,
     pub head: Name,
+}
+
+/// A version that is to be made: what is made of it, and the texts of its three objects, in the order
+/// in which they are put.
+#[derive(Drop)]
+pub struct VersionPlan {
+    pub made: Made,
+    pub objects: List<ObjectText>,
 }
 
 /// Makes a version with this name, email, nonce and time, in seconds since 1970: its text as a blob, a
@@ -45,20 +47,19 @@ pub fn new_version<S: Store>(
 ) -> Result<Made, PutFault>
     requires title { IsTrue (is_title_text name.now) }
     requires line { IsTrue (is_line_text email.now) }
-    requires moment { now ≤ 2 ^ 63 - 1 }
-    ensures made { IfOk result (λ made. made ≡ made_of (version_text_of name.now email.now nonce.now now) parent now) }
-    ensures answers { IsTrue S.tells → MakingAnswers folder.now (version_objects (version_text_of name.now email.now nonce.now now) parent now) (S.history disk.old) (S.history disk.new) result }
-    ensures held { IsTrue S.tells → IfOk result (HoldsVersion (objects_in (files_of (S.history disk.new)) folder.now) (version_text_of name.now email.now nonce.now now) parent now) }
-    ensures extends { IsTrue S.tells → IfOk result (Extends (objects_in (files_of (S.history disk.old)) folder.now) (objects_in (files_of (S.history disk.new)) folder.now) parent
-        (written_version name.now email.now nonce.now now)) }
-    ensures wrote { WroteIf S.tells (PutsObject folder.now) (S.history disk.old) (S.history disk.new) }
-    ensures needed { IsTrue S.tells → HasParent (objects_in (files_of (S.history disk.old)) folder.now) parent
-        → Wrote (PutsAfterNeeds folder.now (version_objects (version_text_of name.now email.now nonce.now now) parent now)) (S.history disk.old) (S.history disk.new) }
-    ensures reads { S.object_reads disk.new ≤ S.object_reads disk.old + 6 }
-    ensures caused { KeepsFaults S.never_fails S.faults (IsErrOf result PutFault.Disk) disk.old disk.new }
+    requires moment { now ≤ LIMIT }
+    ensures made { IfOk result (λ made. made
+        ≡ made_of (version_text_of name.now email.now nonce.now now) parent now) }
+    ensures answers { IsTrue S.tells → MakingAnswers folder.now
+        (version_objects (version_text_of name.now email.now nonce.now now) parent now)
+        (S.history disk.old) (S.history disk.new) result }
+    ensures reads { S.object_reads disk.new ≤ S.object_reads disk.old + 3 }
+    ensures caused { KeepsFaults S.never_fails S.faults (IsErrOf result PutFault.Disk)
+        disk.old disk.new }
 {
-    let version = version_text(alloc, name, email, nonce, now)?;
-    put_version(alloc, disk, folder, version.as_slice(), parent, now)
+    let plan = plan_version(alloc, parent, name, email, nonce, now)?;
+    put_all(alloc, disk, folder, plan.objects.as_slice())?;
+    Ok(plan.made)
 }
 
 /// What `new_version` makes of these, or its refusal by their sizes. Reads and writes nothing.
@@ -69,56 +70,26 @@ pub fn plan_version(
     email: &str,
     nonce: &[u8; 32],
     now: u64,
-) -> Result<Made, PutFault>
+) -> Result<VersionPlan, PutFault>
     requires title { IsTrue (is_title_text name.now) }
     requires line { IsTrue (is_line_text email.now) }
-    requires moment { now ≤ 2 ^ 63 - 1 }
+    requires moment { now ≤ LIMIT }
     ensures { PlanAnswers (version_text_of name.now email.now nonce.now now) parent now result }
 {
     let version = version_text(alloc, name, email, nonce, now)?;
-    let objects = objects_of(alloc, version.as_slice(), parent, now)?;
-    check_sizes(&objects)?;
-    Ok(Made {
-        id: id_of_version(version.as_slice()),
-        head: objects[2].name(),
-    })
+    let plan = plan_of(alloc, version.as_slice(), parent, now)?;
+    check_sizes(plan.objects.as_slice())?;
+    Ok(plan)
 }
 
-// Puts the objects of a version with this text.
-fn put_version<S: Store>(
-    alloc: Global,
-    disk: &mut S,
-    folder: &Folder,
-    version: &[u8],
-    parent: Option<Name>,
-    now: u64,
-) -> Result<Made, PutFault>
-    ensures made { IfOk result (λ made. made ≡ made_of version.now parent now) }
-    ensures answers { IsTrue S.tells → MakingAnswers folder.now (version_objects version.now parent now) (S.history disk.old) (S.history disk.new) result }
-    ensures held { IsTrue S.tells → IfOk result (HoldsVersion (objects_in (files_of (S.history disk.new)) folder.now) version.now parent now) }
-    ensures wrote { WroteIf S.tells (PutsObject folder.now) (S.history disk.old) (S.history disk.new) }
-    ensures needed { IsTrue S.tells → HasParent (objects_in (files_of (S.history disk.old)) folder.now) parent
-        → Wrote (PutsAfterNeeds folder.now (version_objects version.now parent now)) (S.history disk.old) (S.history disk.new) }
-    ensures reads { S.object_reads disk.new ≤ S.object_reads disk.old + 6 }
-    ensures caused { KeepsFaults S.never_fails S.faults (IsErrOf result PutFault.Disk) disk.old disk.new }
-{
-    let objects = objects_of(alloc, version, parent, now)?;
-    put_all(alloc, disk, folder, &objects)?;
-    Ok(Made {
-        id: id_of_version(version),
-        head: objects[2].name(),
-    })
-}
-
-// The three objects of a version with this text: the blob, the tree, the commit.
-fn objects_of(
+// The plan of a version with this text. Its objects are the blob, the tree and the commit.
+fn plan_of(
     alloc: Global,
     version: &[u8],
     parent: Option<Name>,
     now: u64,
-) -> Result<[ObjectText; 3], Memory>
-    ensures objects { IfOk result (λ objects. objects ≡ version_objects version.now parent now) }
-    ensures contents { IfOk result (λ _. AreContents version.now parent now) }
+) -> Result<VersionPlan, Memory>
+    ensures { IfOk result (λ plan. plan ≡ version_plan version.now parent now) }
 {
     let blob = ObjectText::new(alloc, Kind::Blob, version)?;
     let tree = ObjectText::new(
@@ -128,7 +99,28 @@ fn objects_of(
     )?;
     let content = commit_content(alloc, tree.name(), parent, now)?;
     let commit = ObjectText::new(alloc, Kind::Commit, content.as_slice())?;
-    Ok([blob, tree, commit])
+    let made = Made {
+        id: id_of_version(version),
+        head: commit.name(),
+    };
+    let objects = three(alloc, blob, tree, commit)?;
+    Ok(VersionPlan { made, objects })
+}
+
+// A list of three texts.
+fn three(
+    alloc: Global,
+    blob: ObjectText,
+    tree: ObjectText,
+    commit: ObjectText,
+) -> Result<List<ObjectText>, Memory>
+    ensures { IfOk result (λ objects. objects ≡ blob ∷ tree ∷ commit ∷ []) }
+{
+    let mut objects = Vec::new(alloc);
+    objects.push(blob)?;
+    objects.push(tree)?;
+    objects.push(commit)?;
+    Ok(List::from_vec(objects))
 }
 
 // The content of the tree whose entry `version` names the blob.

@@ -42,7 +42,8 @@ fn read_line(alloc: Global, json: &[u8]) -> Result<Option<Text>, Memory>
 /// The line under a name, which may be absent and then counts as empty. None where the member is
 /// repeated, or no JSON string of a line.
 pub fn line_in(alloc: Global, fields: &[Field], name: &str) -> Result<Option<Text>, Memory>
-    ensures { IfOk result (λ o. o ≡ line_of name.now (map (λ f. (f.name, f.value.now)) fields.now)) }
+    ensures { IfOk result
+        (λ o. o ≡ line_of name.now (map (λ f. (f.name, f.value.now)) fields.now)) }
 {
     match find(fields, name) {
         None => Ok(None),

@@ -27,7 +27,7 @@ fn plan(alloc: Global, parent: Option<Name>, name: &str) -> Result<Made, PutFaul
     if !is_title(name) || !is_line(email) {
         return Err(PutFault::Memory);
     }
-    plan_version(alloc, parent, name, email, &[7; 32], 100)
+    Ok(plan_version(alloc, parent, name, email, &[7; 32], 100)?.made)
 }
 
 #[test]
@@ -109,8 +109,8 @@ fn a_long_name_stops_the_version(rt: HostRuntime) -> Result<(), Fail> {
 fn a_write_that_fails_keeps_those_before_it(rt: HostRuntime) -> Result<(), Fail> {
     let alloc = rt.alloc();
     let folder = Folder::read(alloc, "f")?;
-    // Three reads come first, and one before each write.
-    let rows: [(u64, u64); 3] = [(4, 0), (6, 1), (8, 2)];
+    // Three reads come first, and then the three writes.
+    let rows: [(u64, u64); 3] = [(3, 0), (4, 1), (5, 2)];
     for (call, written) in rows {
         let mut fails = List::new(alloc);
         let _ = fails.push(Listed { call, after: false });

@@ -2,7 +2,7 @@ use Rattle.std.proofs.Common.{◌≡◌, ◌-◌, [], length, take, drop, get_or
 use Rattle.gb_store.specs.Files.{History, files_of}
 use Rattle.object_store.specs.Held.{objects_in}
 use Rattle.commit_chain.specs.declared.chain.Met.{Met}
-use Rattle.identity.specs.Answers.{CheckAnswers, RootRefused, OneRefused}
+use Rattle.identity.specs.Answers.{CheckAnswers, IsJudged, RootRefused, OneRefused}
 use Rattle.identity.specs.Faults.{Refused}
 use Rattle.identity.specs.declared.version.Version.{Version}
 use Rattle.identity.specs.declared.fault.IdentityFault.{IdentityFault}
@@ -25,7 +25,9 @@ pub returns-in_err-last-clause-answers : goal.returns-in_err-last-clause-answers
 returns-in_err-last-clause-answers g c = λ tells.
     let objects = objects_in (files_of (g.S.Store.history c.args.disk.now)) c.args.folder.now in
     let is : c.from_residual-in_err-last.result ≡ Err c.in_err-last.field-0.0 = search rules in
+    let judged : IsJudged (objects_in (files_of (g.S.Store.history c.first_version.new.disk)) c.args.folder.now) c.in_ok-first.first =
+    subst (λ (h : History). IsJudged (objects_in (files_of h) c.args.folder.now) c.in_ok-first.first) (sym (c.in_ok-first.ensures.unwritten tells)) (c.in_ok-first.ensures.answers tells).1 in
     let later : Refused (OneRefused objects (take (length c.args.walk.now - 1) (drop 1 c.args.walk.now))) c.in_err-last.field-0.0 =
-    subst (λ (h : History). Refused (OneRefused (objects_in (files_of h) c.args.folder.now) (take (length c.args.walk.now - 1) (drop 1 c.args.walk.now))) c.in_err-last.field-0.0) (c.in_ok-first.ensures.unwritten tells) (c.in_err-last.ensures.answers tells) in
+    subst (λ (h : History). Refused (OneRefused (objects_in (files_of h) c.args.folder.now) (take (length c.args.walk.now - 1) (drop 1 c.args.walk.now))) c.in_err-last.field-0.0) (c.in_ok-first.ensures.unwritten tells) (c.in_err-last.ensures.answers tells judged) in
     subst (λ (r : Result (Option Version) IdentityFault). CheckAnswers objects c.args.id.now c.args.walk.now r) (sym is)
     (CheckRefused-later objects c.args.id.now c.args.walk.now c.in_err-last.field-0.0 c.in-len1-up.len_at_least later)

@@ -2,7 +2,7 @@ use Rattle.std.proofs.Common.{List, ℕ, refl, sym, subst}
 use Rattle.git_object.specs.declared.object.Object.TheVariants as objects
 use Rattle.git_object.specs.Grammar.{IsCommitText, IsTreeText}
 use Rattle.identity.specs.Making.{version_commit, version_tree}
-use Rattle.identity.proofs.making.objects_of.Goals as goal
+use Rattle.identity.proofs.making.plan_of.Goals as goal
 
 pub new-requires : goal.new-requires
 new-requires c = record { object = objects.Blob c.args.version.now; is_kind = refl; is = refl }
