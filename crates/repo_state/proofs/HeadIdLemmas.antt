@@ -1,20 +1,18 @@
 -- The ids of a side are those of its heads, where every ref reads.
-use Rattle.std.proofs.Common.{◌≡◌, ℕ, List, [], ◌∷◌, map, Option, Some, None, refl, sym, ◌∙◌, ap, subst}
-use Rattle.std.specs.Prelude.{Contains, IsTrue, is_some}
+use Rattle.std.proofs.Common.{◌≡◌, ℕ, List, [], ◌∷◌, map, refl, sym, ◌∙◌, ap, subst}
+use Rattle.std.specs.Prelude.{Contains, IsTrue}
 use Rattle.std.proofs.lemmas.Cmp.{nat_list_cmp_total}
 use Rattle.std.proofs.lemmas.Simd.{map-map}
 use Rattle.std.specs.Cmp.Lexicographic.{slice_cmp}
 use Rattle.std.specs.List.Sorted.{IsStrictlySortedBy}
 use Rattle.std.specs.Ordering.{nat_cmp}
-use Rattle.gb_text.specs.Digits.{IsId, name_of}
-use Rattle.gb_text.specs.LineEnd.{line_of}
-use Rattle.gb_text.specs.Folder.{joined}
+use Rattle.gb_text.specs.Digits.{IsId}
 use Rattle.gb_text.specs.declared.id.Id.{Id}
 use Rattle.gb_text.specs.declared.id.Name.{Name}
 use Rattle.gb_store.specs.Files.{Files}
 use Rattle.op_kind.proofs.SortedLemmas.{same_elements}
-use Rattle.ref_store.specs.Refs.{Ref, Absent, Head, Bad, head_or_bad, ref_of}
-use Rattle.repo_state.specs.Sides.{AllRead, AreHeads, AreIds, head_at, ref_place}
+use Rattle.ref_store.specs.Refs.{Ref, Absent, Head, Bad}
+use Rattle.repo_state.specs.Sides.{AllRead, AreHeads, AreIds, head_at, is_there}
 use Rattle.repo_state.specs.declared.side.HeadEntry.{HeadEntry}
 use Rattle.repo_state.specs.declared.side.Side.{Side}
 use Rattle.repo_state.proofs.ListingLemmas.{Contains-from_map, Contains-map}
@@ -42,17 +40,15 @@ name_in Absent = record { bytes = [] }
 name_in (Head name) = name
 name_in Bad = record { bytes = [] }
 
-head_stands : (file : Option (List ℕ)) (name : Name) → ref_of file ≡ Head name → IsTrue (is_some file)
-head_stands None name e = absurd (cc)
-head_stands (Some text) name e = refl
+head_stands : (ref : Ref) (name : Name) → ref ≡ Head name → IsTrue (is_there ref)
+head_stands Absent name e = absurd (cc)
+head_stands (Head other) name e = refl
+head_stands Bad name e = refl
 
-stands_head : (file : Option (List ℕ)) → IsTrue (is_some file) → (ref_of file ≡ Bad → ⊥) → ref_of file ≡ Head (name_in (ref_of file))
-stands_head None stands good = absurd (cc)
-stands_head (Some text) stands good = each (name_of (line_of text)) good
-  where
-    each : (o : Option Name) → (head_or_bad o ≡ Bad → ⊥) → head_or_bad o ≡ Head (name_in (head_or_bad o))
-    each None good = absurd (good refl)
-    each (Some name) good = refl
+stands_head : (ref : Ref) → IsTrue (is_there ref) → (ref ≡ Bad → ⊥) → ref ≡ Head (name_in ref)
+stands_head Absent stands good = absurd (cc)
+stands_head (Head name) stands good = refl
+stands_head Bad stands good = absurd (good refl)
 
 -- ---- the refs of a side
 
@@ -63,10 +59,10 @@ module _ (files : Files) (folder : List ℕ) (of : Side) (ids : List Id) (are : 
   entry-head : AllRead files folder of → (id : Id) → Contains ids id → IsId id × (head_at files folder of id ≡ Head (name_in (head_at files folder of id)))
   entry-head good id has =
       let member = (are.members id).0 has in
-      (member.0, stands_head (files (joined folder (ref_place of id))) member.1 (good id member.0))
+      (member.0, stands_head (head_at files folder of id) member.1 (good id member.0))
 
   has_id : (e : HeadEntry) → IsId e.id → head_at files folder of e.id ≡ Head e.name → Contains ids e.id
-  has_id e is_id head = (are.members e.id).1 (is_id, head_stands (files (joined folder (ref_place of e.id))) e.name head)
+  has_id e is_id head = (are.members e.id).1 (is_id, head_stands (head_at files folder of e.id) e.name head)
 
   -- the heads of these ids
   pub heads_of_ids : AllRead files folder of → (heads : List HeadEntry) × AreHeads files folder of heads

@@ -10,7 +10,7 @@ use Rattle.gb_text.specs.declared.id.Id.{Id}
 use Rattle.gb_text.specs.declared.id.Name.{Name}
 use Rattle.gb_text.proofs.DigitLemmas.{id_of-encode_lower}
 use Rattle.object_store.specs.Held.{Objects}
-use Rattle.object_batch.proofs.NameLemmas.{IsBytes-append, word_bytes}
+use Rattle.git_object.proofs.NameLaws.{IsBytes-append, word_bytes}
 use Rattle.identity.specs.Persons.{IsChain}
 use Rattle.identity.specs.Version.{version_id}
 
@@ -19,7 +19,7 @@ unfolding digest_bytes
 digest_bytes-bytes h zero = λ i. omega arith
 digest_bytes-bytes h (suc n) = IsBytes-append (digest_bytes h n) (to_be_bytes w32 (slice_index h n)) (digest_bytes-bytes h n) (word_bytes (slice_index h n))
 
-sha256-bytes : (text : List ℕ) → IsBytes (sha256 text)
+pub sha256-bytes : (text : List ℕ) → IsBytes (sha256 text)
 unfolding sha256
 sha256-bytes text = digest_bytes-bytes _ 8
 

@@ -1,9 +1,9 @@
--- What each kind of write leaves of a folder's objects, refs and user.
+-- What each write of a folder leaves of its objects, refs and user.
 use Rattle.std.proofs.Common.{◌≡◌, ◌≢◌, ◌⊎◌, inl, inr, ℕ, Bool, true, false, IsTrue, cond, List, [], ◌∷◌, ◌++◌, Option, Some, None, refl, sym, ◌∙◌, ap, subst}
 use Rattle.std.specs.Prelude.{is_some}
 use Rattle.std.specs.Str.{bytes_eq}
 use Rattle.hex.specs.Hex.{encode_lower}
-use Rattle.gb_text.specs.Digits.{IsId, IsName, id_of}
+use Rattle.gb_text.specs.Digits.{IsId, IsName, id_of, name_of}
 use Rattle.gb_text.specs.Folder.{joined}
 use Rattle.gb_text.specs.LineEnd.{line_of}
 use Rattle.gb_text.specs.declared.id.Id.{Id}
@@ -15,11 +15,11 @@ use Rattle.gb_store.specs.declared.store.Change.{Change}
 use Rattle.git_object.specs.Grammar.{object_name}
 use Rattle.object_store.specs.Held.{objects_in}
 use Rattle.object_store.specs.Puts.{object_write}
-use Rattle.ref_store.specs.Refs.{Head, ref_of}
+use Rattle.ref_store.specs.Refs.{Head, head_or_bad, ref_of}
 use Rattle.ref_store.specs.Setting.{ref_write}
 use Rattle.ref_store.proofs.MapLemmas.{joined-same, set_ref_reads, written-other, written-same}
 use Rattle.ref_store.proofs.RefLemmas.{line_of-more}
-use Rattle.repo_state.specs.Sides.{has_ref, head_at, ref_place}
+use Rattle.repo_state.specs.Sides.{has_ref, head_at, is_there, ref_place}
 use Rattle.repo_state.specs.Sound.{IsNamedSide}
 use Rattle.repo_state.specs.Users.{BadUser, User, id_line, local_user, user_at, user_of, user_place, user_write}
 use Rattle.repo_state.specs.declared.side.Side.{Side}
@@ -83,13 +83,25 @@ head_at-other_side files folder of on id other head is_of is_on differ =
 
 -- ---- the user
 
--- what stands still stands after a put
-stands-put : (files : Files) (path bytes at : List ℕ) → IsTrue (is_some (files at)) → IsTrue (is_some (written files (Put path bytes) at))
-stands-put files path bytes at stands = decide (bytes_eq path at) refl
+-- a ref stands exactly where its file does
+is_there-file : (file : Option (List ℕ)) → is_there (ref_of file) ≡ is_some file
+is_there-file None = refl
+is_there-file (Some text) = each (name_of (line_of text))
   where
+    each : (o : Option Name) → is_there (head_or_bad o) ≡ true
+    each None = refl
+    each (Some name) = refl
+
+-- what stands still stands after a put
+stands-put : (files : Files) (path bytes at : List ℕ) → IsTrue (is_there (ref_of (files at))) → IsTrue (is_there (ref_of (written files (Put path bytes) at)))
+stands-put files path bytes at stands = is_there-file (written files (Put path bytes) at) ∙ decide (bytes_eq path at) refl
+  where
+    file : IsTrue (is_some (files at))
+    file = sym (is_there-file (files at)) ∙ stands
+
     decide : (b : Bool) → bytes_eq path at ≡ b → IsTrue (is_some (written files (Put path bytes) at))
     decide true h = rw h refl
-    decide false h = rw h stands
+    decide false h = rw h file
 
 -- the user is who it was where its file is the same and the refs that stood still stand, but for a file that names nobody
 pub user_at-kept : (old new : Files) (folder : List ℕ) → new (joined folder user_place) ≡ old (joined folder user_place)

@@ -1,11 +1,7 @@
-pub mod DamageLemmas
 pub mod HeadIdLemmas
 pub mod IdLemmas
 pub mod KindLemmas
 pub mod ListingLemmas
 pub mod PeopleLemmas
 pub mod PlaceLemmas
-pub mod RefusalLemmas
-pub mod SoundLemmas
-pub mod StepLemmas
 pub mod UserFileLemmas

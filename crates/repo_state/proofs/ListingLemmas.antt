@@ -1,23 +1,22 @@
 -- The refs of a side are the ids whose refs stand, and the heads of the refs that read.
-use Rattle.std.proofs.Common.{◌≡◌, ℕ, zero, suc, List, [], ◌∷◌, map, Option, Some, None, Err, refl, sym, ◌∙◌, ap, subst, arith}
-use Rattle.std.specs.Prelude.{Contains, IsTrue, is_some}
+use Rattle.std.proofs.Common.{◌≡◌, ℕ, zero, suc, List, [], ◌∷◌, map, Some, Err, refl, sym, ◌∙◌, ap, subst, arith}
+use Rattle.std.specs.Prelude.{Contains, IsTrue}
 use Rattle.std.proofs.lemmas.Simd.{map-map}
 use Rattle.std.specs.Cmp.Lexicographic.{slice_cmp}
 use Rattle.std.specs.List.Sorted.{IsStrictlySortedBy}
 use Rattle.std.specs.Ordering.{nat_cmp}
-use Rattle.gb_text.specs.Digits.{IsId, name_of}
-use Rattle.gb_text.specs.LineEnd.{line_of}
+use Rattle.gb_text.specs.Digits.{IsId}
 use Rattle.gb_text.specs.Folder.{joined}
 use Rattle.gb_text.specs.declared.id.Id.{Id}
 use Rattle.gb_text.specs.declared.id.Name.{Name}
 use Rattle.gb_store.specs.Files.{Files}
 use Rattle.ref_store.specs.Listing.{IsRefList, found_of}
-use Rattle.ref_store.specs.Refs.{Ref, Absent, Head, Bad, head_or_bad, ref_of}
+use Rattle.ref_store.specs.Refs.{Ref, Absent, Head, Bad}
 use Rattle.ref_store.specs.declared.listing.RefEntry.{RefEntry}
 use Rattle.ref_store.specs.declared.listing.RefFound.{RefFound}
 use Rattle.ref_store.specs.declared.listing.RefFound.TheVariants as found
 use Rattle.repo_state.specs.Answers.{HasBadRef, HeadsOf, Reads, as_entry}
-use Rattle.repo_state.specs.Sides.{AreHeads, AreIds, dir_of, has_ref, head_at, ref_place}
+use Rattle.repo_state.specs.Sides.{AreHeads, AreIds, dir_of, has_ref, head_at, is_there, ref_place}
 use Rattle.repo_state.specs.declared.refusal.Refusal.TheVariants as refusal
 use Rattle.repo_state.specs.declared.refusal.Stop.{Stop}
 use Rattle.repo_state.specs.declared.refusal.Stop.TheVariants as stop
@@ -43,17 +42,15 @@ Contains-from_map f (z ∷ xs) y (suc k, lt, e) =
 -- ---- refs
 
 -- a ref that is found stands, and one that stands is found
-found_stands : (file : Option (List ℕ)) (f : RefFound) → found_of (ref_of file) ≡ Some f → IsTrue (is_some file)
-found_stands None f e = cc
-found_stands (Some text) f e = refl
+found_stands : (ref : Ref) (f : RefFound) → found_of ref ≡ Some f → IsTrue (is_there ref)
+found_stands Absent f e = cc
+found_stands (Head name) f e = refl
+found_stands Bad f e = refl
 
-stands_found : (file : Option (List ℕ)) → IsTrue (is_some file) → (f : RefFound) × (found_of (ref_of file) ≡ Some f)
-stands_found None stands = cc
-stands_found (Some text) stands = each (name_of (line_of text))
-  where
-    each : (o : Option Name) → (f : RefFound) × (found_of (head_or_bad o) ≡ Some f)
-    each None = (found.Bad, refl)
-    each (Some name) = (found.Head name, refl)
+stands_found : (ref : Ref) → IsTrue (is_there ref) → (f : RefFound) × (found_of ref ≡ Some f)
+stands_found Absent stands = cc
+stands_found (Head name) stands = (found.Head name, refl)
+stands_found Bad stands = (found.Bad, refl)
 
 -- what is found is what the ref is
 head_found : (ref : Ref) (name : Name) → found_of ref ≡ Some (found.Head name) → ref ≡ Head name
@@ -92,10 +89,10 @@ module _ (files : Files) (folder : List ℕ) (of : Side) (entries : List RefEntr
       λ has.
           let from = Contains-from_map (λ (e : RefEntry). e.id) entries id (subst (λ (is : List Id). Contains is id) is has) in
           let member = (are.members from.0).0 from.1 in
-          let stands = found_stands (files (joined folder (ref_place of from.0.id))) from.0.found member.1 in
+          let stands = found_stands (head_at files folder of from.0.id) from.0.found member.1 in
           subst (λ (i : Id). IsId i × IsTrue (has_ref files folder of i)) from.2 (member.0, stands),
       λ h.
-          let found = stands_found (files (joined folder (ref_place of id))) h.1 in
+          let found = stands_found (head_at files folder of id) h.1 in
           let member : Contains entries (record { id = id; found = found.0 }) = (are.members (record { id = id; found = found.0 })).1 (h.0, found.1) in
           subst (λ (is : List Id). Contains is id) (sym is) (Contains-map (λ (e : RefEntry). e.id) entries (record { id = id; found = found.0 }) member),
     );

@@ -1,5 +1,5 @@
 -- What a user file names, and that it is no object.
-use Rattle.std.proofs.Common.{◌≡◌, ℕ, ◌+◌, ◌*◌, ◌<◌, ◌==◌, Bool, true, false, List, ◌++◌, length, take, drop, Option, Some, None, Result, Ok, Err, IsTrue, refl, sym, ◌∙◌, ap, subst, append_assoc, arith, length-append, eqb-true}
+use Rattle.std.proofs.Common.{◌≡◌, ℕ, ◌+◌, ◌*◌, ◌<◌, ◌==◌, Bool, true, false, List, ◌++◌, length, take, drop, Option, Some, None, IsTrue, refl, sym, ◌∙◌, ap, subst, append_assoc, arith, length-append, eqb-true}
 use Rattle.std.specs.Prelude.{codes}
 use Rattle.std.proofs.Math.Seq.{drop-append_seam}
 use Rattle.std.proofs.lemmas.List.{take-append-drop, length-take-le}
@@ -20,22 +20,8 @@ use Rattle.gb_store.proofs.MomentLemmas.{WroteIf_one}
 use Rattle.gb_store.specs.ObjectPath.{is_object_path, reads_after}
 use Rattle.gb_store.proofs.ObjectPathLemmas.{form_of_parts}
 use Rattle.ref_store.proofs.IdPathLemmas.{both}
-use Rattle.repo_state.specs.Answers.{IsBadUser, IsUser, PutsUser, Reads, UserAnswers}
-use Rattle.repo_state.specs.Users.{BadUser, id_line, local_user, user_at, user_of, user_place, user_write}
-use Rattle.repo_state.specs.declared.refusal.Refusal.TheVariants as refusal
-use Rattle.repo_state.specs.declared.refusal.Stop.{Stop}
-use Rattle.repo_state.specs.declared.refusal.Stop.TheVariants as stop
-
--- ---- the answer to a read of the user
-
-pub UserAnswers-reads : (files : Files) (folder : List ℕ) (r : Result (Option Id) Stop) → UserAnswers (joined folder user_place) (user_at files folder) r
-    → Reads (IsUser files folder) (IsBadUser files folder) r
-UserAnswers-reads files folder (Ok None) h = h
-UserAnswers-reads files folder (Ok (Some id)) h = h
-UserAnswers-reads files folder (Err stop.Memory) h = h
-UserAnswers-reads files folder (Err stop.Disk) h = h
-UserAnswers-reads files folder (Err (stop.Refused (refusal.Damaged path))) h = h
-UserAnswers-reads files folder (Err (stop.Refused _)) h = h
+use Rattle.repo_state.specs.Answers.{PutsUser}
+use Rattle.repo_state.specs.Users.{BadUser, id_line, local_user, user_of, user_place, user_write}
 
 -- ---- a user file is short
 

@@ -10,19 +10,20 @@ use Rattle.gb_store.specs.Files.{Files, History}
 use Rattle.gb_store.specs.Moments.{MaybeWrote}
 use Rattle.gb_store.specs.declared.store.Change.{Change}
 use Rattle.object_store.specs.Held.{objects_in}
-use Rattle.ref_store.specs.Refs.{Absent, Head, Bad}
+use Rattle.ref_store.specs.Refs.{Ref, Absent, Head, Bad}
 use Rattle.ref_store.specs.declared.listing.RefEntry.{RefEntry}
 use Rattle.ref_store.specs.declared.listing.RefFound.TheVariants as found
 use Rattle.identity.specs.Commits.{HasNoVersion}
 use Rattle.identity.specs.Persons.{Shows}
 use Rattle.identity.specs.declared.chain.Person.{Person}
 use Rattle.identity.specs.declared.fault.IdentityFault.{IdentityFault}
-use Rattle.repo_state.specs.Sides.{AreHeads, head_at, ref_place}
+use Rattle.repo_state.specs.Sides.{AreHeads, found_by, head_at, ref_place}
 use Rattle.repo_state.specs.Users.{UserFound, NoUser, User, BadUser, user_at, user_place, user_write}
 use Rattle.repo_state.specs.People.{AllShow}
 use Rattle.repo_state.specs.declared.refusal.Refusal.TheVariants as refusal
 use Rattle.repo_state.specs.declared.refusal.Stop.{Stop}
 use Rattle.repo_state.specs.declared.refusal.Stop.TheVariants as stop
+use Rattle.repo_state.specs.declared.refs.EntityRef.{EntityRef}
 use Rattle.repo_state.specs.declared.side.HeadEntry.{HeadEntry}
 use Rattle.repo_state.specs.declared.side.Side.{Side}
 use Rattle.repo_state.specs.declared.side.Side.TheVariants as side
@@ -41,6 +42,23 @@ OnlyDamaged (Err stop.Memory) = ⊤
 OnlyDamaged (Err stop.Disk) = ⊤
 OnlyDamaged (Err (stop.Refused (refusal.Damaged path))) = ⊤
 OnlyDamaged (Err (stop.Refused _)) = ⊥
+
+-- an answer that is no refusal, but that nothing was found
+abbrev pub OnlyNotFound : {T : Type 0} → Result T Stop → Type 0
+OnlyNotFound (Ok value) = ⊤
+OnlyNotFound (Err stop.Memory) = ⊤
+OnlyNotFound (Err stop.Disk) = ⊤
+OnlyNotFound (Err (stop.Refused refusal.NotFound)) = ⊤
+OnlyNotFound (Err (stop.Refused _)) = ⊥
+
+-- or that a file is damaged
+abbrev pub OnlyMissed : {T : Type 0} → Result T Stop → Type 0
+OnlyMissed (Ok value) = ⊤
+OnlyMissed (Err stop.Memory) = ⊤
+OnlyMissed (Err stop.Disk) = ⊤
+OnlyMissed (Err (stop.Refused refusal.NotFound)) = ⊤
+OnlyMissed (Err (stop.Refused (refusal.Damaged path))) = ⊤
+OnlyMissed (Err (stop.Refused _)) = ⊥
 
 -- a value that is so, or a file that is damaged so
 abbrev pub Reads : {T : Type 0} → (T → Type 0) → (List ℕ → Type 0) → Result T Stop → Type 0
@@ -94,7 +112,62 @@ PutAnswers change old new (Err (stop.Refused r)) = ⊥
 abbrev pub PutsUser : List ℕ → Id → Files → Change → Type 0
 PutsUser folder id files change = change ≡ user_write folder id
 
+-- the id that a word finds, or that it finds none
+abbrev pub Finds : Files → List ℕ → Side → List ℕ → Result Id Stop → Type 0
+Finds files folder of word (Ok id) = found_by files folder of word ≡ Some id
+Finds files folder of word (Err stop.Memory) = ⊤
+Finds files folder of word (Err stop.Disk) = ⊤
+Finds files folder of word (Err (stop.Refused refusal.NotFound)) = found_by files folder of word ≡ None
+Finds files folder of word (Err (stop.Refused _)) = ⊥
+
+-- the same with its head, or the path of its ref, which is no ref text
+abbrev pub FindsHead : Files → List ℕ → Side → List ℕ → Result HeadEntry Stop → Type 0
+FindsHead files folder of word (Ok e) = (found_by files folder of word ≡ Some e.id) × (head_at files folder of e.id ≡ Head e.name)
+FindsHead files folder of word (Err stop.Memory) = ⊤
+FindsHead files folder of word (Err stop.Disk) = ⊤
+FindsHead files folder of word (Err (stop.Refused refusal.NotFound)) = found_by files folder of word ≡ None
+FindsHead files folder of word (Err (stop.Refused (refusal.Damaged path))) = (id : Id) × (found_by files folder of word ≡ Some id) × IsBadRef files folder of id path
+FindsHead files folder of word (Err (stop.Refused _)) = ⊥
+
+-- the user with its head, or none where no user file stands; or the path of the user file or of the user's ref, which is damaged
+abbrev pub FindsUser : Files → List ℕ → Result (Option HeadEntry) Stop → Type 0
+FindsUser files folder (Ok None) = user_at files folder ≡ NoUser
+FindsUser files folder (Ok (Some e)) = (user_at files folder ≡ User e.id) × (head_at files folder side.Identities e.id ≡ Head e.name)
+FindsUser files folder (Err stop.Memory) = ⊤
+FindsUser files folder (Err stop.Disk) = ⊤
+FindsUser files folder (Err (stop.Refused (refusal.Damaged path))) =
+    IsBadUser files folder path ⊎ ((id : Id) × (user_at files folder ≡ User id) × IsBadRef files folder side.Identities id path)
+FindsUser files folder (Err (stop.Refused _)) = ⊥
+
 -- ---- parts of the reads
+
+-- what a ref that stands is, by the head that was read of it: none where it is no ref text
+abbrev pub IsRefOf : Ref → Option Name → Type 0
+IsRefOf ref None = ref ≡ Bad
+IsRefOf ref (Some name) = ref ≡ Head name
+
+-- the ref of an id, or that none stands
+abbrev pub EntityAnswers : Files → List ℕ → Side → Id → Result (Option EntityRef) Stop → Type 0
+EntityAnswers files folder of id (Ok None) = head_at files folder of id ≡ Absent
+EntityAnswers files folder of id (Ok (Some entity)) = (entity.id ≡ id) × IsRefOf (head_at files folder of id) entity.head
+EntityAnswers files folder of id (Err stop.Memory) = ⊤
+EntityAnswers files folder of id (Err stop.Disk) = ⊤
+EntityAnswers files folder of id (Err (stop.Refused r)) = ⊥
+
+-- the ref that a word finds, or that it finds none
+abbrev pub FindsRef : Files → List ℕ → Side → List ℕ → Result EntityRef Stop → Type 0
+FindsRef files folder of word (Ok entity) = (found_by files folder of word ≡ Some entity.id) × IsRefOf (head_at files folder of entity.id) entity.head
+FindsRef files folder of word (Err stop.Memory) = ⊤
+FindsRef files folder of word (Err stop.Disk) = ⊤
+FindsRef files folder of word (Err (stop.Refused refusal.NotFound)) = found_by files folder of word ≡ None
+FindsRef files folder of word (Err (stop.Refused _)) = ⊥
+
+-- the head of a ref that stands, or the refusal of one that is no ref text
+abbrev pub WholeAnswers : List ℕ → Side → EntityRef → Result HeadEntry Stop → Type 0
+WholeAnswers folder of entity (Ok e) = (e.id ≡ entity.id) × (entity.head ≡ Some e.name)
+WholeAnswers folder of entity (Err stop.Memory) = ⊤
+WholeAnswers folder of entity (Err (stop.Refused (refusal.Damaged path))) = (entity.head ≡ None) × (path ≡ joined folder (ref_place of entity.id))
+WholeAnswers folder of entity (Err _) = ⊥
 
 -- the refusal for the damaged ref of an id, unless memory ran out
 abbrev pub DamagedRef : List ℕ → Side → Id → Stop → Type 0
@@ -102,14 +175,14 @@ DamagedRef folder of id stop.Memory = ⊤
 DamagedRef folder of id (stop.Refused (refusal.Damaged path)) = path ≡ joined folder (ref_place of id)
 DamagedRef folder of id _ = ⊥
 
--- the answer to a read of the user, whose file stands at a path
-abbrev pub UserAnswers : List ℕ → UserFound → Result (Option Id) Stop → Type 0
-UserAnswers path user (Ok None) = user ≡ NoUser
-UserAnswers path user (Ok (Some id)) = user ≡ User id
-UserAnswers path user (Err stop.Memory) = ⊤
-UserAnswers path user (Err stop.Disk) = ⊤
-UserAnswers path user (Err (stop.Refused (refusal.Damaged at))) = (at ≡ path) × (user ≡ BadUser)
-UserAnswers path user (Err (stop.Refused _)) = ⊥
+-- the answer to a read of the user and its ref, by the user that a file at a path names
+abbrev pub UserAnswers : Files → List ℕ → List ℕ → UserFound → Result (Option EntityRef) Stop → Type 0
+UserAnswers files folder path user (Ok None) = user ≡ NoUser
+UserAnswers files folder path user (Ok (Some entity)) = (user ≡ User entity.id) × IsRefOf (head_at files folder side.Identities entity.id) entity.head
+UserAnswers files folder path user (Err stop.Memory) = ⊤
+UserAnswers files folder path user (Err stop.Disk) = ⊤
+UserAnswers files folder path user (Err (stop.Refused (refusal.Damaged at))) = (at ≡ path) × (user ≡ BadUser)
+UserAnswers files folder path user (Err (stop.Refused _)) = ⊥
 
 -- the head of an entry
 abbrev pub as_entry : HeadEntry → RefEntry

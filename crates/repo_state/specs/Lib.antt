@@ -1,9 +1,6 @@
 pub mod Answers
-pub mod Edits
-pub mod Kinds
 pub mod People
 pub mod Sides
 pub mod Sound
-pub mod Steps
 pub mod Stops
 pub mod Users

@@ -1,14 +1,13 @@
 -- The refs of a folder: where those of each side stand, and what they read as.
-use Rattle.std.specs.Prelude.{◌≡◌, ◌↔◌, ℕ, List, ◌++◌, codes, map, Contains, Bool, IsTrue, is_some}
+use Rattle.std.specs.Prelude.{◌≡◌, ◌↔◌, ℕ, List, ◌++◌, codes, map, Contains, Bool, true, false, IsTrue, Option, Some, None, option_and_then, if◌then◌else◌}
 use Rattle.std.specs.Cmp.Lexicographic.{slice_cmp}
 use Rattle.std.specs.List.Sorted.{IsStrictlySortedBy}
 use Rattle.std.specs.Ordering.{nat_cmp}
-use Rattle.gb_text.specs.Digits.{IsId}
-use Rattle.gb_text.specs.Folder.{joined}
+use Rattle.gb_text.specs.Digits.{IsId, id_of}
 use Rattle.gb_text.specs.declared.id.Id.{Id}
 use Rattle.gb_store.specs.Files.{Files}
 use Rattle.ref_store.specs.Listing.{id_place}
-use Rattle.ref_store.specs.Refs.{Ref, Head, Bad, ref_at}
+use Rattle.ref_store.specs.Refs.{Ref, Absent, Head, Bad, ref_at}
 use Rattle.repo_state.specs.declared.side.Side.{Side}
 use Rattle.repo_state.specs.declared.side.Side.TheVariants as side
 use Rattle.repo_state.specs.declared.side.HeadEntry.{HeadEntry}
@@ -28,9 +27,23 @@ ref_place of id = id_place (dir_of of) id
 abbrev pub head_at : Files → List ℕ → Side → Id → Ref
 head_at files folder of id = ref_at files folder (ref_place of id)
 
--- a ref of the id stands, whatever it holds
+-- a ref stands, whatever it holds
+abbrev pub is_there : Ref → Bool
+is_there Absent = false
+is_there (Head name) = true
+is_there Bad = true
+
+-- a ref of the id stands
 abbrev pub has_ref : Files → List ℕ → Side → Id → Bool
-has_ref files folder of id = is_some (files (joined folder (ref_place of id)))
+has_ref files folder of id = is_there (head_at files folder of id)
+
+-- the id, if a ref of it stands
+abbrev pub standing : Files → List ℕ → Side → Id → Option Id
+standing files folder of id = if has_ref files folder of id then Some id else None
+
+-- the id that a word finds on a side: the word is its digits, and a ref of it stands
+abbrev pub found_by : Files → List ℕ → Side → List ℕ → Option Id
+found_by files folder of word = option_and_then (standing files folder of) (id_of word)
 
 -- the ids whose refs stand, each once, in the order of their bytes
 pub record AreIds (files : Files) (folder : List ℕ) (of : Side) (ids : List Id) : Type 0 where

@@ -1,4 +1,4 @@
--- Sound folders: one record, a field for each part.
+-- Sound folders: the parts of soundness, by name, and what keeps them.
 use Rattle.std.specs.Prelude.{◌≡◌, ◌≤◌, ⊤, ℕ, ◌==◌, ◌||◌, List, length, IsTrue, Some}
 use Rattle.std.specs.List.{list_all}
 use Rattle.std.specs.Char.{is_ascii_alphanumeric}
@@ -9,9 +9,9 @@ use Rattle.gb_store.specs.Files.{Files, History, files_of}
 use Rattle.gb_store.specs.Moments.{AllMoments}
 use Rattle.git_object.specs.declared.commit.Commit.{Commit}
 use Rattle.git_object.specs.declared.object.Object.{Object}
-use Rattle.object_store.specs.Held.{Objects, object_at, objects_in}
+use Rattle.object_store.specs.Held.{Objects as Held, object_at, objects_in}
 use Rattle.object_batch.specs.Needs.{AllHeld}
-use Rattle.commit_chain.specs.Objects.{commit_at}
+use Rattle.object_store.specs.Typed.{commit_at}
 use Rattle.ref_store.specs.Refs.{Ref, Absent, Head, Bad}
 use Rattle.identity.specs.Persons.{IsChain}
 use Rattle.repo_state.specs.Sides.{head_at}
@@ -21,18 +21,18 @@ use Rattle.repo_state.specs.declared.side.Side.TheVariants as side
 
 -- each file at the path of a name is an object that the name holds, and all that an object names is held, as of
 -- the kinds by which it is named; so all that a held commit leads to is held
-pub record AreWhole (objects : Objects) : Type 0 where
+pub record AreWhole (objects : Held) : Type 0 where
   pub held : (name : Name) (text : List ℕ) → IsName name → objects name ≡ Some text → (object : Object) × (object_at objects name ≡ Some object)
   pub needs : (name : Name) (object : Object) → object_at objects name ≡ Some object → AllHeld objects object
 
 -- an identity's ref: one that stands reads, and the chain from its head has no fault
-abbrev pub IsSoundIdentity : Objects → Id → Ref → Type 0
+abbrev pub IsSoundIdentity : Held → Id → Ref → Type 0
 IsSoundIdentity objects id Absent = ⊤
 IsSoundIdentity objects id (Head head) = IsChain objects id head
 IsSoundIdentity objects id Bad = ⊥
 
 -- a tracking ref: one that stands reads, and names a commit that is held
-abbrev pub IsSoundTracking : Objects → Ref → Type 0
+abbrev pub IsSoundTracking : Held → Ref → Type 0
 IsSoundTracking objects Absent = ⊤
 IsSoundTracking objects (Head head) = (commit : Commit) × (commit_at objects head ≡ Some commit)
 IsSoundTracking objects Bad = ⊥
@@ -70,16 +70,24 @@ HasSoundTracking folder files = (remote : List ℕ) → IsRemoteName remote → 
 abbrev pub HasSoundUser : List ℕ → Files → Type 0
 HasSoundUser folder files = user_at files folder ≡ BadUser → ⊥
 
--- A sound folder.
-pub record IsSound (folder : List ℕ) (files : Files) : Type 0 where
-  pub objects : HasWholeObjects folder files
-  pub identities : HasSoundIdentities folder files
-  pub tracking : HasSoundTracking folder files
-  pub user : HasSoundUser folder files
+-- The parts by name. Each stands by itself: what would have a premise on another part is one part with it.
+pub data Part : Type 0 where
+  Objects : Part
+  Identities : Part
+  Tracking : Part
+  User : Part
+
+-- a folder has a part of soundness
+abbrev pub HasPart : Part → List ℕ → Files → Type 0
+HasPart Objects folder files = HasWholeObjects folder files
+HasPart Identities folder files = HasSoundIdentities folder files
+HasPart Tracking folder files = HasSoundTracking folder files
+HasPart User folder files = HasSoundUser folder files
+
+-- A sound folder has each part.
+abbrev pub IsSound : List ℕ → Files → Type 0
+IsSound folder files = (part : Part) → HasPart part folder files
 
 -- What is written keeps each part of a sound folder, at each moment and whatever the other parts are.
-pub record KeepsParts (folder : List ℕ) (old new : History) : Type 0 where
-  pub objects : HasWholeObjects folder (files_of old) → AllMoments (HasWholeObjects folder) old new
-  pub identities : HasSoundIdentities folder (files_of old) → AllMoments (HasSoundIdentities folder) old new
-  pub tracking : HasSoundTracking folder (files_of old) → AllMoments (HasSoundTracking folder) old new
-  pub user : HasSoundUser folder (files_of old) → AllMoments (HasSoundUser folder) old new
+abbrev pub KeepsParts : List ℕ → History → History → Type 0
+KeepsParts folder old new = (part : Part) → HasPart part folder (files_of old) → AllMoments (HasPart part folder) old new

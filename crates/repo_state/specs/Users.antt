@@ -7,7 +7,9 @@ use Rattle.gb_text.specs.LineEnd.{line_of}
 use Rattle.gb_text.specs.declared.id.Id.{Id}
 use Rattle.gb_store.specs.Files.{Files, Put}
 use Rattle.gb_store.specs.declared.store.Change.{Change}
-use Rattle.repo_state.specs.Sides.{has_ref}
+use Rattle.ref_store.specs.Refs.{Ref, Absent, Head, Bad}
+use Rattle.repo_state.specs.Sides.{has_ref, head_at}
+use Rattle.repo_state.specs.declared.side.HeadEntry.{HeadEntry}
 use Rattle.repo_state.specs.declared.side.Side.TheVariants as side
 
 -- the user: none where no file stands, a local identity, or a file that names none
@@ -33,6 +35,21 @@ user_of files folder (Some text) = local_user files folder (id_of (line_of text)
 -- the user of a folder
 abbrev pub user_at : Files → List ℕ → UserFound
 user_at files folder = user_of files folder (files (joined folder user_place))
+
+-- an id with its head, where its ref reads
+abbrev pub entry_by : Id → Ref → Option HeadEntry
+entry_by id Absent = None
+entry_by id (Head name) = Some (record { id = id; name = name })
+entry_by id Bad = None
+
+-- the user with its head, where there is a user whose ref reads
+abbrev pub entry_of_user : Files → List ℕ → UserFound → Option HeadEntry
+entry_of_user files folder NoUser = None
+entry_of_user files folder (User id) = entry_by id (head_at files folder side.Identities id)
+entry_of_user files folder BadUser = None
+
+abbrev pub user_entry : Files → List ℕ → Option HeadEntry
+user_entry files folder = entry_of_user files folder (user_at files folder)
 
 -- the line of an id: its digits and LF
 abbrev pub id_line : Id → List ℕ

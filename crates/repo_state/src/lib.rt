@@ -1,4 +1,4 @@
-//! A folder as maps of heads, people and the user; what a sound folder is, and what the commands do to one.
+//! A folder as maps of heads, people and the user, and what a sound folder is.
 #![tactic(auto)]
 
 mod env;
@@ -10,13 +10,12 @@ mod side;
 mod user_file;
 
 pub use env::Env;
-pub use laws::{
-    a_done_edit_has_no_refusal, an_empty_folder_is_sound, heads_and_user_are_a_map,
-    ids_are_those_of_the_heads, sound_folders_are_not_damaged, steps_are_determined,
-    writes_keep_folders_sound, writes_lose_nothing, writes_stay_below_their_folder,
-};
+pub use laws::{an_empty_folder_is_sound, heads_and_user_are_a_map, ids_are_those_of_the_heads};
 pub use people::names;
-pub use refs::{damaged, head, heads, ids, set_head, stands};
+pub use refs::{
+    EntityRef, damaged, entity, find, find_head, head, head_change, heads, ids, set_head, stands,
+    whole,
+};
 pub use refusal::{Refusal, Stop};
 pub use side::{HeadEntry, Side};
-pub use user_file::{set_user, user};
+pub use user_file::{set_user, user, user_change, user_head};

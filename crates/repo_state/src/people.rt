@@ -17,11 +17,16 @@ use std::alloc::Global;
 /// ids. At most three objects are read for each. `Damaged`, with the path of the ref, only where a
 /// ref is no ref text or its head has no version.
 pub fn names<S: Store>(alloc: Global, disk: &mut S, folder: &Folder) -> Result<List<Person>, Stop>
-    ensures answers { IsTrue S.tells → Reads (ArePeople (files_of (S.history disk.old)) folder.now) (HasBadPerson (files_of (S.history disk.old)) folder.now) result }
+    ensures answers { IsTrue S.tells
+        → Reads (ArePeople (files_of (S.history disk.old)) folder.now) (HasBadPerson (files_of
+        (S.history disk.old)) folder.now) result }
     ensures only_damaged { OnlyDamaged result }
     ensures unwritten { IsTrue S.tells → S.history disk.new ≡ S.history disk.old }
-    ensures reads { IsTrue S.tells → ReadsPeople (files_of (S.history disk.old)) folder.now (S.object_reads disk.old) (S.object_reads disk.new) }
-    ensures caused { KeepsFaults S.never_fails S.faults (IsErrOf result Stop.Disk) disk.old disk.new }
+    ensures reads { IsTrue S.tells
+        → ReadsPeople (files_of (S.history disk.old)) folder.now (S.object_reads disk.old)
+        (S.object_reads disk.new) }
+    ensures caused { KeepsFaults S.never_fails S.faults
+        (IsErrOf result Stop.Disk) disk.old disk.new }
 {
     let heads = heads(alloc, disk, folder, &Side::Identities)?;
     let people = people_of(alloc, disk, folder, heads.as_slice())?;
@@ -35,11 +40,13 @@ fn people_of<S: Store>(
     folder: &Folder,
     heads: &[HeadEntry],
 ) -> Result<Vec<Person>, Stop>
-    ensures answers { IsTrue S.tells → PeopleOf (files_of (S.history disk.old)) folder.now heads.now result }
+    ensures answers { IsTrue S.tells
+        → PeopleOf (files_of (S.history disk.old)) folder.now heads.now result }
     ensures only_damaged { OnlyDamaged result }
     ensures unwritten { IsTrue S.tells → S.history disk.new ≡ S.history disk.old }
     ensures reads { S.object_reads disk.new ≤ S.object_reads disk.old + 3 * length heads.now }
-    ensures caused { KeepsFaults S.never_fails S.faults (IsErrOf result Stop.Disk) disk.old disk.new }
+    ensures caused { KeepsFaults S.never_fails S.faults
+        (IsErrOf result Stop.Disk) disk.old disk.new }
 {
     let mut people = Vec::new(alloc);
     for entry in heads {
@@ -55,11 +62,13 @@ fn person_of<S: Store>(
     folder: &Folder,
     entry: &HeadEntry,
 ) -> Result<Person, Stop>
-    ensures answers { IsTrue S.tells → PersonOf (files_of (S.history disk.old)) folder.now entry.now result }
+    ensures answers { IsTrue S.tells
+        → PersonOf (files_of (S.history disk.old)) folder.now entry.now result }
     ensures only_damaged { OnlyDamaged result }
     ensures unwritten { IsTrue S.tells → S.history disk.new ≡ S.history disk.old }
     ensures reads { S.object_reads disk.new ≤ S.object_reads disk.old + 3 }
-    ensures caused { KeepsFaults S.never_fails S.faults (IsErrOf result Stop.Disk) disk.old disk.new }
+    ensures caused { KeepsFaults S.never_fails S.faults
+        (IsErrOf result Stop.Disk) disk.old disk.new }
 {
     match read_last(alloc, disk, folder, &entry.id, &entry.name) {
         Ok(person) => Ok(person),

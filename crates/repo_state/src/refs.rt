@@ -8,12 +8,13 @@ ghost use Rattle.gb_text.specs.Folder.{joined};
 ghost use Rattle.ref_store.specs.Listing.{IsRefList};
 ghost use Rattle.ref_store.specs.Refs.{Answers, Head};
 ghost use Rattle.ref_store.specs.Setting.{PutsRef, ref_write};
-ghost use Rattle.repo_state.specs.Answers.{DamagedRef, HasBadRef, HeadOf, HeadsOf, IsBadRef, IsHeadAt, NeverRefused, OnlyDamaged, PutAnswers, Reads};
+ghost use Rattle.repo_state.specs.Answers.{DamagedRef, EntityAnswers, Finds, FindsHead, FindsRef, HasBadRef, HeadOf, HeadsOf, IsBadRef, IsHeadAt, NeverRefused, OnlyDamaged, OnlyMissed, OnlyNotFound, PutAnswers, Reads, WholeAnswers};
+ghost use Rattle.repo_state.specs.Sound.{IsNamedSide};
 ghost use Rattle.repo_state.specs.Sides.{AreHeads, AreIds, dir_of, has_ref, head_at, ref_place};
 
 use crate::refusal::{Refusal, Stop};
 use crate::side::{HeadEntry, Side};
-use gb_store::Store;
+use gb_store::{Change, Store};
 use gb_text::{Folder, Id, List, Memory, Name, Text};
 use ref_store::{RefEntry, RefFault, RefFound, place_of};
 use std::alloc::Global;
@@ -25,14 +26,23 @@ pub fn ids<S: Store>(
     folder: &Folder,
     side: &Side,
 ) -> Result<List<Id>, Stop>
-    ensures answers { IsTrue S.tells → IfOk result (AreIds (files_of (S.history disk.old)) folder.now side.now) }
+    ensures answers { IsTrue S.tells
+        → IfOk result (AreIds (files_of (S.history disk.old)) folder.now side.now) }
     ensures never_refused { NeverRefused result }
     ensures unwritten { IsTrue S.tells → S.history disk.new ≡ S.history disk.old }
     ensures reads { S.object_reads disk.new ≡ S.object_reads disk.old }
-    ensures caused { KeepsFaults S.never_fails S.faults (IsErrOf result Stop.Disk) disk.old disk.new }
+    ensures caused { KeepsFaults S.never_fails S.faults (IsErrOf result Stop.Disk)
+        disk.old disk.new }
 {
     let entries = entries(alloc, disk, folder, side)?;
     Ok(List::from_vec(ids_of(alloc, entries.as_slice())?))
+}
+
+/// An id whose ref stands, and the head that the ref names: none where it is no ref text.
+#[derive(Clone, Copy, Debug, PartialEq, Eq)]
+pub struct EntityRef {
+    pub id: Id,
+    pub head: Option<Name>,
 }
 
 /// Whether a ref of the id stands on a side. What the file holds isn't judged.
@@ -43,17 +53,124 @@ pub fn stands<S: Store>(
     side: &Side,
     id: &Id,
 ) -> Result<bool, Stop>
-    ensures answers { IsTrue S.tells → IfOk result (λ stands. stands ≡ has_ref (files_of (S.history disk.old)) folder.now side.now id.now) }
+    ensures answers { IsTrue S.tells → IfOk result (λ stands. stands
+        ≡ has_ref (files_of (S.history disk.old)) folder.now side.now id.now) }
     ensures never_refused { NeverRefused result }
     ensures unwritten { IsTrue S.tells → S.history disk.new ≡ S.history disk.old }
     ensures reads { S.object_reads disk.new ≡ S.object_reads disk.old }
-    ensures caused { KeepsFaults S.never_fails S.faults (IsErrOf result Stop.Disk) disk.old disk.new }
+    ensures caused { KeepsFaults S.never_fails S.faults (IsErrOf result Stop.Disk)
+        disk.old disk.new }
+{
+    Ok(entity(alloc, disk, folder, side, id)?.is_some())
+}
+
+/// The id that a word finds on a side: its 64 digits, where a ref of the id stands. `NotFound` where
+/// it finds none. What the ref's file holds isn't judged.
+pub fn find<S: Store>(
+    alloc: Global,
+    disk: &mut S,
+    folder: &Folder,
+    side: &Side,
+    word: &str,
+) -> Result<Id, Stop>
+    ensures answers { IsTrue S.tells
+        → Finds (files_of (S.history disk.old)) folder.now side.now word.now result }
+    ensures only_not_found { OnlyNotFound result }
+    ensures unwritten { IsTrue S.tells → S.history disk.new ≡ S.history disk.old }
+    ensures reads { S.object_reads disk.new ≡ S.object_reads disk.old }
+    ensures caused { KeepsFaults S.never_fails S.faults (IsErrOf result Stop.Disk)
+        disk.old disk.new }
+{
+    Ok(find_ref(alloc, disk, folder, side, word)?.id)
+}
+
+/// The entity that a word finds on a side, with its head. `NotFound` where it finds none; `Damaged`,
+/// with the path of the ref, where that is no ref text. The ref is read once.
+pub fn find_head<S: Store>(
+    alloc: Global,
+    disk: &mut S,
+    folder: &Folder,
+    side: &Side,
+    word: &str,
+) -> Result<HeadEntry, Stop>
+    ensures answers { IsTrue S.tells
+        → FindsHead (files_of (S.history disk.old)) folder.now side.now word.now result }
+    ensures only_missed { OnlyMissed result }
+    ensures unwritten { IsTrue S.tells → S.history disk.new ≡ S.history disk.old }
+    ensures reads { S.object_reads disk.new ≡ S.object_reads disk.old }
+    ensures caused { KeepsFaults S.never_fails S.faults (IsErrOf result Stop.Disk)
+        disk.old disk.new }
+{
+    let found = find_ref(alloc, disk, folder, side, word)?;
+    whole(alloc, folder, side, &found)
+}
+
+// The ref that a word finds on a side. What words find is said here alone.
+fn find_ref<S: Store>(
+    alloc: Global,
+    disk: &mut S,
+    folder: &Folder,
+    side: &Side,
+    word: &str,
+) -> Result<EntityRef, Stop>
+    ensures answers { IsTrue S.tells
+        → FindsRef (files_of (S.history disk.old)) folder.now side.now word.now result }
+    ensures only_not_found { OnlyNotFound result }
+    ensures unwritten { IsTrue S.tells → S.history disk.new ≡ S.history disk.old }
+    ensures reads { S.object_reads disk.new ≡ S.object_reads disk.old }
+    ensures caused { KeepsFaults S.never_fails S.faults (IsErrOf result Stop.Disk)
+        disk.old disk.new }
+{
+    let found = match Id::read(word.as_bytes()) {
+        Some(id) => entity(alloc, disk, folder, side, &id)?,
+        None => None,
+    };
+    found.ok_or(Stop::Refused(Refusal::NotFound))
+}
+
+/// The ref of an id, if one stands.
+pub fn entity<S: Store>(
+    alloc: Global,
+    disk: &mut S,
+    folder: &Folder,
+    side: &Side,
+    id: &Id,
+) -> Result<Option<EntityRef>, Stop>
+    ensures answers { IsTrue S.tells
+        → EntityAnswers (files_of (S.history disk.old)) folder.now side.now id.now result }
+    ensures never_refused { NeverRefused result }
+    ensures unwritten { IsTrue S.tells → S.history disk.new ≡ S.history disk.old }
+    ensures reads { S.object_reads disk.new ≡ S.object_reads disk.old }
+    ensures caused { KeepsFaults S.never_fails S.faults (IsErrOf result Stop.Disk)
+        disk.old disk.new }
 {
     match read_ref(alloc, disk, folder, side, id) {
-        Ok(head) => Ok(head.is_some()),
-        Err(RefFault::BadRef(_)) => Ok(true),
+        Ok(None) => Ok(None),
+        Ok(head) => Ok(Some(EntityRef { id: *id, head })),
+        Err(RefFault::BadRef(_)) => Ok(Some(EntityRef {
+            id: *id,
+            head: None,
+        })),
         Err(RefFault::Memory) => Err(Stop::Memory),
         Err(RefFault::Disk) => Err(Stop::Disk),
+    }
+}
+
+/// An entity with the head that its ref names, or the refusal where the ref is no ref text.
+pub fn whole(
+    alloc: Global,
+    folder: &Folder,
+    side: &Side,
+    entity: &EntityRef,
+) -> Result<HeadEntry, Stop>
+    ensures { WholeAnswers folder.now side.now entity.now result }
+{
+    match entity.head {
+        Some(name) => Ok(HeadEntry {
+            id: entity.id,
+            name,
+        }),
+        None => Err(damaged(alloc, folder, side, &entity.id)),
     }
 }
 
@@ -66,12 +183,14 @@ pub fn head<S: Store>(
     side: &Side,
     id: &Id,
 ) -> Result<Option<Name>, Stop>
-    ensures answers { IsTrue S.tells → Reads (IsHeadAt (files_of (S.history disk.old)) folder.now side.now id.now)
+    ensures answers { IsTrue S.tells
+        → Reads (IsHeadAt (files_of (S.history disk.old)) folder.now side.now id.now)
         (IsBadRef (files_of (S.history disk.old)) folder.now side.now id.now) result }
     ensures only_damaged { OnlyDamaged result }
     ensures unwritten { IsTrue S.tells → S.history disk.new ≡ S.history disk.old }
     ensures reads { S.object_reads disk.new ≡ S.object_reads disk.old }
-    ensures caused { KeepsFaults S.never_fails S.faults (IsErrOf result Stop.Disk) disk.old disk.new }
+    ensures caused { KeepsFaults S.never_fails S.faults (IsErrOf result Stop.Disk)
+        disk.old disk.new }
 {
     Ok(read_ref(alloc, disk, folder, side, id)?)
 }
@@ -84,18 +203,36 @@ pub fn heads<S: Store>(
     folder: &Folder,
     side: &Side,
 ) -> Result<List<HeadEntry>, Stop>
-    ensures answers { IsTrue S.tells → Reads (AreHeads (files_of (S.history disk.old)) folder.now side.now)
+    ensures answers { IsTrue S.tells
+        → Reads (AreHeads (files_of (S.history disk.old)) folder.now side.now)
         (HasBadRef (files_of (S.history disk.old)) folder.now side.now) result }
     ensures only_damaged { OnlyDamaged result }
     ensures unwritten { IsTrue S.tells → S.history disk.new ≡ S.history disk.old }
     ensures reads { S.object_reads disk.new ≡ S.object_reads disk.old }
-    ensures caused { KeepsFaults S.never_fails S.faults (IsErrOf result Stop.Disk) disk.old disk.new }
+    ensures caused { KeepsFaults S.never_fails S.faults (IsErrOf result Stop.Disk)
+        disk.old disk.new }
 {
     let entries = entries(alloc, disk, folder, side)?;
     Ok(List::from_vec(heads_of(alloc, folder, side, entries.as_slice())?))
 }
 
-/// Sets the head of an id on a side, by one write.
+/// The write that sets the head of an id on a side. The name of a remote's side is a remote's name.
+pub fn head_change(
+    alloc: Global,
+    folder: &Folder,
+    side: &Side,
+    id: &Id,
+    name: &Name,
+) -> Result<Change, Memory>
+    requires { IsNamedSide side.now }
+    ensures { IfOk result (λ change. change
+        ≡ ref_write folder.now (ref_place side.now id.now) name.now) }
+{
+    let place = place(alloc, side, id)?;
+    ref_store::write_of(alloc, folder, place.as_str(), name)
+}
+
+/// Sets the head of an id on a side, by one write. The name of a remote's side is a remote's name.
 pub fn set_head<S: Store>(
     alloc: Global,
     disk: &mut S,
@@ -104,12 +241,18 @@ pub fn set_head<S: Store>(
     id: &Id,
     name: &Name,
 ) -> Result<(), Stop>
-    ensures answers { IsTrue S.tells → PutAnswers (ref_write folder.now (ref_place side.now id.now) name.now) (S.history disk.old) (S.history disk.new) result }
+    requires { IsNamedSide side.now }
+    ensures answers { IsTrue S.tells
+        → PutAnswers (ref_write folder.now (ref_place side.now id.now) name.now)
+        (S.history disk.old) (S.history disk.new) result }
     ensures never_refused { NeverRefused result }
-    ensures reads_back { IsTrue S.tells → OnOk result (head_at (files_of (S.history disk.new)) folder.now side.now id.now ≡ Head name.now) }
-    ensures wrote { WroteIf S.tells (PutsRef folder.now (ref_place side.now id.now) name.now) (S.history disk.old) (S.history disk.new) }
+    ensures reads_back { IsTrue S.tells → OnOk result
+        (head_at (files_of (S.history disk.new)) folder.now side.now id.now ≡ Head name.now) }
+    ensures wrote { WroteIf S.tells (PutsRef folder.now (ref_place side.now id.now) name.now)
+        (S.history disk.old) (S.history disk.new) }
     ensures reads { S.object_reads disk.new ≡ S.object_reads disk.old }
-    ensures caused { KeepsFaults S.never_fails S.faults (IsErrOf result Stop.Disk) disk.old disk.new }
+    ensures caused { KeepsFaults S.never_fails S.faults (IsErrOf result Stop.Disk)
+        disk.old disk.new }
 {
     let place = place(alloc, side, id)?;
     match ref_store::set(alloc, disk, folder, place.as_str(), name) {
@@ -143,7 +286,8 @@ fn remote_dir(alloc: Global, remote: &str, kind: &str) -> Result<Text, Memory>
 // Where the ref of an id stands. No folder has an object there.
 fn place(alloc: Global, side: &Side, id: &Id) -> Result<Text, Memory>
     ensures place { IfOk result (λ place. place ≡ ref_place side.now id.now) }
-    ensures no_object { (folder : Items ℕ) → IfOk result (λ place. is_object_path (joined folder place) ≡ false) }
+    ensures no_object { (folder : Items ℕ)
+        → IfOk result (λ place. is_object_path (joined folder place) ≡ false) }
 {
     let dir = dir(alloc, side)?;
     place_of(alloc, dir.as_str(), id)
@@ -158,10 +302,13 @@ fn read_ref<S: Store>(
     side: &Side,
     id: &Id,
 ) -> Result<Option<Name>, RefFault>
-    ensures answers { IsTrue S.tells → Answers (joined folder.now (ref_place side.now id.now)) (head_at (files_of (S.history disk.old)) folder.now side.now id.now) result }
+    ensures answers { IsTrue S.tells
+        → Answers (joined folder.now (ref_place side.now id.now))
+        (head_at (files_of (S.history disk.old)) folder.now side.now id.now) result }
     ensures unwritten { IsTrue S.tells → S.history disk.new ≡ S.history disk.old }
     ensures reads { S.object_reads disk.new ≡ S.object_reads disk.old }
-    ensures caused { KeepsFaults S.never_fails S.faults (IsErrOf result RefFault.Disk) disk.old disk.new }
+    ensures caused { KeepsFaults S.never_fails S.faults (IsErrOf result RefFault.Disk)
+        disk.old disk.new }
 {
     let place = place(alloc, side, id)?;
     ref_store::get(alloc, disk, folder, place.as_str())
@@ -174,11 +321,13 @@ fn entries<S: Store>(
     folder: &Folder,
     side: &Side,
 ) -> Result<List<RefEntry>, Stop>
-    ensures entries { IsTrue S.tells → IfOk result (IsRefList (files_of (S.history disk.old)) folder.now (dir_of side.now)) }
+    ensures entries { IsTrue S.tells → IfOk result
+        (IsRefList (files_of (S.history disk.old)) folder.now (dir_of side.now)) }
     ensures never_refused { NeverRefused result }
     ensures unwritten { IsTrue S.tells → S.history disk.new ≡ S.history disk.old }
     ensures reads { S.object_reads disk.new ≡ S.object_reads disk.old }
-    ensures caused { KeepsFaults S.never_fails S.faults (IsErrOf result Stop.Disk) disk.old disk.new }
+    ensures caused { KeepsFaults S.never_fails S.faults (IsErrOf result Stop.Disk)
+        disk.old disk.new }
 {
     let dir = dir(alloc, side)?;
     match ref_store::list(alloc, disk, folder, dir.as_str()) {

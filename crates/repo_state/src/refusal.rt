@@ -24,10 +24,35 @@ pub enum Refusal {
     /// 14: the file at this path breaks its grammar, names a head that has a fault, or is a user
     /// file that names no local identity.
     Damaged(Text),
+    /// 15: so many of the lines that were told are refusals. It has no line of its own.
+    SomeRefused(u64),
     /// 17: the folder word is no folder.
     BadFolder,
     /// 18: this commit of the bug has two parents or more.
     MergeCommit(Name),
+}
+
+impl Refusal {
+    ghost use Rattle.std.specs.Prelude.{◌≡◌};
+    ghost use Rattle.repo_state.specs.Stops.{number_of};
+
+    /// The number by which it is told.
+    pub fn number(&self) -> u64
+        ensures { result ≡ number_of self.now }
+    {
+        match self {
+            Refusal::NoUser => 1,
+            Refusal::NotFound => 2,
+            Refusal::BadText(_) => 4,
+            Refusal::EntityExists(_) => 9,
+            Refusal::NameTaken(_) => 10,
+            Refusal::TooLarge(_) => 13,
+            Refusal::Damaged(_) => 14,
+            Refusal::SomeRefused(_) => 15,
+            Refusal::BadFolder => 17,
+            Refusal::MergeCommit(_) => 18,
+        }
+    }
 }
 
 /// Why a command gave no answer.

@@ -1,5 +1,0 @@
-use Rattle.repo_state.proofs.DamageLemmas.{not_damaged}
-use Rattle.repo_state.proofs.laws.sound_folders_are_not_damaged.Goals as goal
-
-pub returns : goal.returns
-returns c = not_damaged

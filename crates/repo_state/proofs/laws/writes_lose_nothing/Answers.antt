@@ -1,8 +1,0 @@
-use Rattle.repo_state.proofs.SoundLemmas.{head-below, write-grew}
-use Rattle.repo_state.proofs.laws.writes_lose_nothing.Goals as goal
-
-pub returns-clause-objects : goal.returns-clause-objects
-returns-clause-objects c = write-grew
-
-pub returns-clause-heads : goal.returns-clause-heads
-returns-clause-heads c = head-below
