@@ -1,0 +1,148 @@
+-- Nothing is lost by writes, of their own folder or of one apart from it; and folders apart stay sound.
+use Rattle.std.proofs.Common.{◌≡◌, ℕ, false, cond, Option, Some, None, List, [], ◌∷◌, ◌++◌, refl, sym, ◌∙◌, ap, subst}
+use Rattle.gb_text.specs.Digits.{id_of}
+use Rattle.gb_text.specs.Folder.{is_rooted, joined}
+use Rattle.gb_text.specs.LineEnd.{line_of}
+use Rattle.gb_text.specs.Overlap.{Overlap}
+use Rattle.gb_text.specs.declared.id.Id.{Id}
+use Rattle.gb_text.specs.declared.id.Name.{Name}
+use Rattle.gb_store.specs.Files.{Files, History, files_of, written}
+use Rattle.gb_store.specs.Moments.{AllMoments, Wrote}
+use Rattle.gb_store.specs.ObjectPath.{object_place}
+use Rattle.gb_store.specs.declared.store.Change.{Change}
+use Rattle.gb_store.proofs.FrameLemmas.{written-apart}
+use Rattle.gb_store.proofs.MomentLemmas.{AllMoments-from_Wrote}
+use Rattle.object_store.specs.Held.{Objects, objects_in}
+use Rattle.commit_chain.specs.Chain.{Chain}
+use Rattle.commit_chain.specs.declared.chain.Met.{Met}
+use Rattle.commit_chain.proofs.StayLemmas.{Chain_stays}
+use Rattle.ref_store.specs.Refs.{Ref, ref_of}
+use Rattle.repo_state.specs.Sides.{head_at, is_there, ref_place}
+use Rattle.repo_state.specs.Sound.{AreWhole, HasPart, IsSoundIdentity, IsSoundTracking, KeepsParts, Part}
+use Rattle.repo_state.specs.Sound as parts
+use Rattle.repo_state.specs.Users.{BadUser, User, local_user, user_at, user_of, user_place}
+use Rattle.repo_state.specs.declared.side.Side.{Side}
+use Rattle.repo_state.specs.declared.side.Side.TheVariants as side
+use Rattle.repo_steps.specs.Kept.{LosesNothing}
+use Rattle.repo_steps.specs.Kinds.{IsWrite}
+use Rattle.repo_steps.proofs.PlaceLemmas.{place_plain}
+use Rattle.repo_steps.proofs.SoundLemmas.{head-below, write-grew, write-place}
+
+-- ---- steps by the single parent
+
+-- what is below a name that is below a head is below the head
+Chain-then : (objects : Objects) (top middle : Name) (upper lower : List Met) (name : Name) → Chain objects top upper middle → Chain objects middle lower name
+    → Chain objects top (lower ++ upper) name
+Chain-then objects top middle upper [] name first second = subst (Chain objects top upper) (sym second) first
+Chain-then objects top middle upper (met ∷ lower) name first second = (Chain-then objects top middle upper lower met.name first second.0, second.1)
+
+-- ---- nothing is lost
+
+pub LosesNothing-none : (folder : List ℕ) (files : Files) → LosesNothing folder files files
+LosesNothing-none folder files = record {
+  objects = record { stays = λ name text stands. stands };
+  heads = λ id is head stands. record { head = head; is_head = stands; leads = record { above = []; chain = refl } };
+}
+
+pub LosesNothing-then : (folder : List ℕ) (old mid new : Files) → LosesNothing folder old mid → LosesNothing folder mid new → LosesNothing folder old new
+LosesNothing-then folder old mid new first second = record {
+  objects = record { stays = λ name text stands. second.objects.stays name text (first.objects.stays name text stands) };
+  heads = λ id is head stands.
+      let one = first.heads id is head stands in
+      let two = second.heads id is one.head one.is_head in
+      record {
+        head = two.head;
+        is_head = two.is_head;
+        leads = record {
+          above = one.leads.above ++ two.leads.above;
+          chain = Chain-then (objects_in new folder) two.head one.head two.leads.above one.leads.above head two.leads.chain
+              (Chain_stays (objects_in mid folder) (objects_in new folder) second.objects one.head one.leads.above head one.leads.chain);
+        };
+      };
+}
+
+-- by one write in the folder
+write-loses_nothing : (folder : List ℕ) (files : Files) (change : Change) → IsWrite folder files change → LosesNothing folder files (written files change)
+write-loses_nothing folder files change write = record {
+  objects = write-grew folder files change write;
+  heads = λ id is head stands.
+      let later = head-below folder files change write id is head stands in
+      record { head = later.0; is_head = later.1; leads = record { above = later.2.above; chain = later.2.chain } };
+}
+
+-- ---- a folder apart
+
+plain-ref : (of : Side) (id : Id) → is_rooted (ref_place of id) ≡ false
+plain-ref side.Bugs id = refl
+plain-ref side.Identities id = refl
+plain-ref (side.RemoteBugs remote) id = refl
+plain-ref (side.RemoteIdentities remote) id = refl
+
+module _ (folder other : List ℕ) (apart : Overlap folder other → ⊥) (files : Files) (change : Change) (write : IsWrite other files change) where
+  -- a file of the folder is as it was
+  same_file : (rest : List ℕ) → is_rooted rest ≡ false → written files change (joined folder rest) ≡ files (joined folder rest)
+  same_file rest is =
+      let at = write-place other files change write in
+      written-apart files change folder other at.0 rest at.2 (place_plain at.0 at.1) is apart
+
+  same_objects : objects_in (written files change) folder ≡ objects_in files folder
+  same_objects = λ i name. same_file (object_place name) refl i
+
+  same_head : (of : Side) (id : Id) → head_at (written files change) folder of id ≡ head_at files folder of id
+  same_head of id = ap ref_of (same_file (ref_place of id) (plain-ref of id))
+
+  same_user : user_at (written files change) folder ≡ user_at files folder
+  same_user = ap (user_of (written files change) folder) (same_file user_place refl) ∙ by_text (files (joined folder user_place))
+    where
+      local : (id : Option Id) → local_user (written files change) folder id ≡ local_user files folder id
+      local None = refl
+      local (Some id) = ap (λ (r : Ref). cond (is_there r) (User id) BadUser) (same_head side.Identities id)
+
+      by_text : (text : Option (List ℕ)) → user_of (written files change) folder text ≡ user_of files folder text
+      by_text None = refl
+      by_text (Some text) = local (id_of (line_of text))
+
+  keeps-part : (part : Part) → HasPart part folder files → HasPart part folder (written files change)
+  keeps-part parts.Objects has = subst AreWhole (sym same_objects) has
+  keeps-part parts.Identities has = λ id is.
+      subst (IsSoundIdentity (objects_in (written files change) folder) id) (sym (same_head side.Identities id))
+      (subst (λ (objects : Objects). IsSoundIdentity objects id (head_at files folder side.Identities id)) (sym same_objects) (has id is))
+  keeps-part parts.Tracking has = λ remote named id is. (
+    tracking (side.RemoteBugs remote) id (has remote named id is).0,
+    tracking (side.RemoteIdentities remote) id (has remote named id is).1,
+  )
+    where
+      tracking : (of : Side) (id : Id) → IsSoundTracking (objects_in files folder) (head_at files folder of id)
+          → IsSoundTracking (objects_in (written files change) folder) (head_at (written files change) folder of id)
+      tracking of id was =
+          subst (IsSoundTracking (objects_in (written files change) folder)) (sym (same_head of id))
+          (subst (λ (objects : Objects). IsSoundTracking objects (head_at files folder of id)) (sym same_objects) was)
+  keeps-part parts.User has = λ bad. has (sym same_user ∙ bad)
+
+  apart-loses_nothing : LosesNothing folder files (written files change)
+  apart-loses_nothing = record {
+    objects = record { stays = λ name text stands. ap (λ (objects : Objects). objects name) same_objects ∙ stands };
+    heads = λ id is head stands. record { head = head; is_head = same_head side.Identities id ∙ stands; leads = record { above = []; chain = refl } };
+  }
+
+-- ---- over the writes of a call
+
+-- a folder keeps each part, whatever is written by kinds in one apart from it
+pub apart_keeps_parts : (folder other : List ℕ) (old new : History) → (Overlap folder other → ⊥) → Wrote (IsWrite other) old new → KeepsParts folder old new
+apart_keeps_parts folder other old new apart wrote = λ part good.
+    AllMoments-from_Wrote (IsWrite other) (HasPart part folder) (λ files change has write. keeps-part folder other apart files change write part has) old new good wrote
+
+-- a call loses nothing of its folder
+pub loses_nothing : (folder : List ℕ) (old new : History) → Wrote (IsWrite folder) old new → AllMoments (LosesNothing folder (files_of old)) old new
+loses_nothing folder old new wrote =
+    AllMoments-from_Wrote (IsWrite folder) (LosesNothing folder (files_of old))
+    (λ files change so_far write. LosesNothing-then folder (files_of old) files (written files change) so_far (write-loses_nothing folder files change write)) old new
+    (LosesNothing-none folder (files_of old)) wrote
+
+-- and nothing of one apart from it
+pub apart_loses_nothing : (folder other : List ℕ) (old new : History) → (Overlap folder other → ⊥) → Wrote (IsWrite other) old new
+    → AllMoments (LosesNothing folder (files_of old)) old new
+apart_loses_nothing folder other old new apart wrote =
+    AllMoments-from_Wrote (IsWrite other) (LosesNothing folder (files_of old))
+    (λ files change so_far write. LosesNothing-then folder (files_of old) files (written files change) so_far (apart-loses_nothing folder other apart files change write)) old new
+    (LosesNothing-none folder (files_of old)) wrote

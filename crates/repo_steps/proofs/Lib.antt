@@ -1,0 +1,11 @@
+pub mod AddLemmas
+pub mod ClearLemmas
+pub mod DamageLemmas
+pub mod DoneLemmas
+pub mod HeadLemmas
+pub mod KeptLemmas
+pub mod OnlyLemmas
+pub mod PlaceLemmas
+pub mod SoundLemmas
+pub mod StepLemmas
+pub mod WriteLemmas

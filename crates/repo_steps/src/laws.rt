@@ -1,0 +1,127 @@
+//! Laws of the commands that edit, and of the kinds of write, each the contract of a function that
+//! does nothing.
+ghost use Rattle.std.specs.Prelude.{◌≡◌, ◌++◌, false, true, List, ℕ, Result, reverse};
+ghost use Rattle.gb_text.specs.Digits.{IsId};
+ghost use Rattle.gb_text.specs.Folder.{is_rooted, joined};
+ghost use Rattle.gb_text.specs.Overlap.{Overlap};
+ghost use Rattle.gb_text.specs.declared.id.Id.{Id};
+ghost use Rattle.gb_text.specs.declared.id.Name.{Name};
+ghost use Rattle.gb_store.specs.Files.{Files, History, files_of, written};
+ghost use Rattle.gb_store.specs.Moments.{AllMoments, Wrote};
+ghost use Rattle.gb_store.specs.declared.store.Change.{Change};
+ghost use Rattle.object_store.specs.Growth.{OnlyGrew};
+ghost use Rattle.object_store.specs.Held.{objects_in};
+ghost use Rattle.commit_chain.specs.Chain.{Meets};
+ghost use Rattle.ref_store.specs.Refs.{Head};
+ghost use Rattle.repo_state.specs.Sides.{head_at};
+ghost use Rattle.repo_state.specs.Sound.{IsSound, KeepsParts};
+ghost use Rattle.repo_state.specs.Stops.{number_of};
+ghost use Rattle.repo_state.specs.Users.{user_at};
+ghost use Rattle.repo_state.specs.declared.env.Env.{Env as EnvValue};
+ghost use Rattle.repo_state.specs.declared.refusal.Refusal.{Refusal as RefusalValue};
+ghost use Rattle.repo_state.specs.declared.refusal.Refusal.TheVariants as refusal;
+ghost use Rattle.repo_state.specs.declared.refusal.Stop.{Stop as StopValue};
+ghost use Rattle.repo_state.specs.declared.side.Side.{Side as SideValue};
+ghost use Rattle.repo_state.specs.declared.side.Side.TheVariants as side;
+ghost use Rattle.repo_steps.specs.Answers.{EditAnswers, IsDone};
+ghost use Rattle.repo_steps.specs.Doings.{MayStep, Refused, doing_of};
+ghost use Rattle.repo_steps.specs.Kept.{LosesNothing};
+ghost use Rattle.repo_steps.specs.Kinds.{IsPlace, IsWrite, is_dotless};
+ghost use Rattle.repo_steps.specs.Steps.{Steps};
+ghost use Rattle.repo_steps.specs.declared.edit.Edit.{Edit as EditValue};
+
+/// Whatever a command answers, each of its writes is of a kind at its moment.
+pub fn edits_write_by_kinds()
+    ensures { (env : EnvValue) (command : EditValue) (old new : History)
+        (result : Result Id StopValue)
+        → EditAnswers (doing_of env command old) old new result
+        → Wrote (IsWrite env.folder) old new }
+{}
+
+/// A command that was done has made its step, and told its id.
+pub fn done_edits_make_their_step()
+    ensures { (env : EnvValue) (command : EditValue) (old new : History) (id : Id)
+        → IsDone (doing_of env command old) old new id
+        → Steps env command (files_of old) (files_of new) id }
+{}
+
+/// What is written by kinds keeps each part of a folder sound at each moment, wherever it stops. So it
+/// keeps a sound folder sound.
+pub fn writes_keep_folders_sound()
+    ensures parts { (folder : List ℕ) (old new : History) → Wrote (IsWrite folder) old new
+        → KeepsParts folder old new }
+    ensures whole { (folder : List ℕ) (old new : History) → KeepsParts folder old new
+        → IsSound folder (files_of old) → AllMoments (IsSound folder) old new }
+{}
+
+/// A write loses nothing: objects are only added, and below the head of an identity stands what stood
+/// there before it.
+pub fn writes_lose_nothing()
+    ensures objects { (folder : List ℕ) (files : Files) (change : Change)
+        → IsWrite folder files change
+        → OnlyGrew (objects_in files folder) (objects_in (written files change) folder) }
+    ensures heads { (folder : List ℕ) (files : Files) (change : Change)
+        → IsWrite folder files change
+        → (id : Id) → IsId id → (head : Name) → head_at files folder side.Identities id ≡ Head head
+        → (later : Name) × (head_at (written files change) folder side.Identities id ≡ Head later)
+        × Meets (objects_in (written files change) folder) later head }
+{}
+
+/// What is written by kinds loses nothing of its folder, wherever it stops; and calls that lose
+/// nothing, one after the other, lose nothing.
+pub fn calls_lose_nothing()
+    ensures one { (folder : List ℕ) (old new : History) → Wrote (IsWrite folder) old new
+        → AllMoments (LosesNothing folder (files_of old)) old new }
+    ensures then { (folder : List ℕ) (old mid new : Files) → LosesNothing folder old mid
+        → LosesNothing folder mid new → LosesNothing folder old new }
+{}
+
+/// What is written in a folder keeps each part of every folder that does not overlap it, and loses
+/// nothing of that.
+pub fn folders_apart_stay_sound()
+    ensures parts { (folder other : List ℕ) (old new : History) → (Overlap folder other → ⊥)
+        → Wrote (IsWrite other) old new → KeepsParts folder old new }
+    ensures kept { (folder other : List ℕ) (old new : History) → (Overlap folder other → ⊥)
+        → Wrote (IsWrite other) old new
+        → AllMoments (LosesNothing folder (files_of old)) old new }
+{}
+
+/// A write is of an object, a ref or the user below its folder. No such place begins with a slash or
+/// holds a dot, so none leaves the folder by a part `..`.
+pub fn writes_stay_below_their_folder()
+    ensures below { (folder : List ℕ) (files : Files) (change : Change) → IsWrite folder files change
+        → (place : List ℕ) × IsPlace place × (change.path ≡ joined folder place) }
+    ensures plain { (place : List ℕ) → IsPlace place → is_rooted place ≡ false }
+    ensures dotless { (place : List ℕ) → IsPlace place → is_dotless place ≡ true }
+{}
+
+/// A command that nothing keeps from being done has no refusal, and one that is refused has one number
+/// of refusal. So a refusal comes exactly where its reason holds and no earlier one does.
+pub fn refusals_are_determined()
+    ensures done { (env : EnvValue) (command : EditValue) (old : History) (refusal : RefusalValue)
+        → MayStep env command old → Refused env command old refusal → ⊥ }
+    ensures one { (env : EnvValue) (command : EditValue) (old : History)
+        (first second : RefusalValue)
+        → Refused env command old first → Refused env command old second
+        → number_of first ≡ number_of second }
+{}
+
+/// In a sound folder no command is refused for damage. So there it is done wherever no other reason to
+/// refuse it holds, unless the store fails or memory runs out.
+pub fn sound_folders_are_not_damaged()
+    ensures { (env : EnvValue) (command : EditValue) (old : History) (path : List ℕ)
+        → IsSound env.folder (files_of old) → Refused env command old (refusal.Damaged path) → ⊥ }
+{}
+
+/// From the same files, every step of a command tells the same id, and after it each head reads the
+/// same and the user is the same.
+pub fn steps_are_determined()
+    ensures told { (env : EnvValue) (command : EditValue) (old one two : Files) (first second : Id)
+        → Steps env command old one first → Steps env command old two second → first ≡ second }
+    ensures heads { (env : EnvValue) (command : EditValue) (old one two : Files) (first second : Id)
+        → Steps env command old one first → Steps env command old two second
+        → (of : SideValue) (id : Id) → head_at one env.folder of id ≡ head_at two env.folder of id }
+    ensures user { (env : EnvValue) (command : EditValue) (old one two : Files) (first second : Id)
+        → Steps env command old one first → Steps env command old two second
+        → user_at one env.folder ≡ user_at two env.folder }
+{}

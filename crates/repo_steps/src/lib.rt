@@ -1,0 +1,12 @@
+//! The commands that edit a folder: what each does, the kinds of write, and the laws of both.
+#![tactic(auto)]
+
+mod edit;
+mod laws;
+
+pub use edit::{Edit, Plan};
+pub use laws::{
+    calls_lose_nothing, done_edits_make_their_step, edits_write_by_kinds, folders_apart_stay_sound,
+    refusals_are_determined, sound_folders_are_not_damaged, steps_are_determined,
+    writes_keep_folders_sound, writes_lose_nothing, writes_stay_below_their_folder,
+};
