@@ -1,9 +1,1 @@
-pub mod AddLemmas
-pub mod EditLemmas
-pub mod FirstLemmas
-pub mod HeadLemmas
-pub mod NewLemmas
-pub mod OnlyLemmas
-pub mod RoomLemmas
-pub mod SetLemmas
-pub mod WriteLemmas
+pub mod PlanLemmas

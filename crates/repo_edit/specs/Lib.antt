@@ -1,3 +1,3 @@
 pub mod Adding
-pub mod First
+pub mod Carrying
 pub mod Room

@@ -1,8 +1,9 @@
-//! The commands that edit a folder, each one step.
+//! The commands that edit a folder: each is planned by reading alone, and then its writes are made.
 #![tactic(auto)]
 
+mod carry;
 mod people;
 mod room;
 mod version;
 
-pub use people::{user_edit, user_new, user_set};
+pub use people::{edit, user_edit, user_new, user_set};

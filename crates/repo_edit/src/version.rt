@@ -1,18 +1,16 @@
-//! The version that a command makes, and how it is added to an identity.
-ghost use Rattle.std.specs.Prelude.{◌≡◌, ◌≤◌, ◌-◌, ◌^◌, None, IsTrue, IsErrOf};
-ghost use Rattle.gb_text.specs.Rules.{is_line_text, is_title_text};
+//! The version that a command makes, and the writes that add it to an identity.
+ghost use Rattle.std.specs.Prelude.{◌≡◌, ◌++◌, None, IsTrue, IfOk, IsErrOf};
 ghost use Rattle.gb_store.specs.Faults.{KeepsFaults};
-ghost use Rattle.gb_store.specs.Files.{files_of};
-ghost use Rattle.gb_store.specs.Moments.{Wrote};
-ghost use Rattle.repo_state.specs.Edits.{Edit, bad_person, new_text, new_version, nonce_from};
-ghost use Rattle.repo_state.specs.Kinds.{IsWrite};
-ghost use Rattle.repo_state.specs.Steps.{bad_text_of};
-ghost use Rattle.repo_edit.specs.Adding.{AddAnswers, MayAdd};
+ghost use Rattle.repo_state.specs.Users.{user_write};
+ghost use Rattle.repo_steps.specs.Answers.{KeepsToWords};
+ghost use Rattle.repo_steps.specs.Doings.{bad_person, nonce_from};
+ghost use Rattle.repo_edit.specs.Adding.{AddsVersion, first_write};
 
-use gb_store::Store;
-use gb_text::{Id, Name, is_line, is_title};
-use identity::new_version;
-use repo_state::{Env, Refusal, Side, Stop, set_head};
+use gb_store::{Change, Store};
+use gb_text::{Folder, Id, Memory, is_line, is_title};
+use identity::VersionPlan;
+use object_batch::plan_all;
+use repo_state::{Side, Stop, head_change, user_change};
 use sha2::{Digest, Sha256};
 use std::alloc::Global;
 
@@ -40,38 +38,41 @@ pub fn nonce_from(seed: &[u8; 32]) -> [u8; 32]
     hasher.finalize()
 }
 
-/// Adds a version of this name and email to an identity, behind its head if it has one: its objects
-/// are put, and then it is the head.
-pub fn add_version<S: Store>(
+/// The writes that add a planned version to an identity: its objects that don't stand yet, and then
+/// its head.
+pub fn version_writes<S: Store>(
     alloc: Global,
     disk: &mut S,
-    env: &Env,
+    folder: &Folder,
     id: &Id,
-    parent: Option<Name>,
-    name: &str,
-    email: &str,
-) -> Result<(), Stop>
-    requires title { IsTrue (is_title_text name.now) }
-    requires line { IsTrue (is_line_text email.now) }
-    requires moment { env.now.now ≤ 2 ^ 63 - 1 }
-    ensures answers { IsTrue S.tells → AddAnswers env.entry.now (new_text env.entry.now name.now email.now) (new_version env.entry.now name.now email.now) id.now parent
-        (S.history disk.old) (S.history disk.new) result }
-    ensures words { bad_text_of result ≡ None }
-    ensures folder { IsErrOf result (Stop.Refused Refusal.BadFolder) → ⊥ }
-    ensures wrote { IsTrue S.tells → (edit : Edit) → MayAdd env.entry.now edit (new_text env.entry.now name.now email.now) id.now parent (files_of (S.history disk.old))
-        → Wrote (IsWrite env.entry.now edit) (S.history disk.old) (S.history disk.new) }
-    ensures caused { KeepsFaults S.never_fails S.faults (IsErrOf result Stop.Disk) disk.old disk.new }
+    version: &VersionPlan,
+) -> Result<Vec<Change>, Stop>
+    ensures answers { IsTrue S.tells
+        → AddsVersion folder.now id.now version.now (S.history disk.old) result }
+    ensures words { KeepsToWords None result }
+    ensures unwritten { IsTrue S.tells → S.history disk.new ≡ S.history disk.old }
+    ensures caused { KeepsFaults S.never_fails S.faults (IsErrOf result Stop.Disk)
+        disk.old disk.new }
 {
-    let nonce = nonce_from(&env.seed);
-    let made = new_version(
-        alloc,
-        disk,
-        &env.folder,
-        parent,
-        name,
-        email,
-        &nonce,
-        env.now,
-    )?;
-    set_head(alloc, disk, &env.folder, &Side::Identities, id, &made.head)
+    let mut writes = plan_all(alloc, disk, folder, version.objects.as_slice())?.into_vec();
+    let head = version.made.head;
+    writes.push(head_change(alloc, folder, &Side::Identities, id, &head)?)?;
+    Ok(writes)
+}
+
+/// These writes, and that of the user where none was found.
+pub fn with_first_user(
+    alloc: Global,
+    folder: &Folder,
+    found: Option<Id>,
+    id: &Id,
+    writes: Vec<Change>,
+) -> Result<Vec<Change>, Memory>
+    ensures { IfOk result (λ all. all.items ≡ writes.items ++ first_write folder.now found id.now) }
+{
+    let mut writes = writes;
+    if found.is_none() {
+        writes.push(user_change(alloc, folder, id)?)?;
+    }
+    Ok(writes)
 }
