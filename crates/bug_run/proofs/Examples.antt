@@ -3,11 +3,12 @@ use Rattle.std.specs.Prelude.{◌≡◌, codes, [], ◌∷◌, Some, None, pos, 
 use Rattle.std.specs.Fmt.{digits}
 use Rattle.std.proofs.Common.{refl}
 use Rattle.hex.proofs.OnLiterals.{hex_on_literals}
-use Rattle.repo_state.specs.Edits.{UserEdit, UserNew, UserSet}
 use Rattle.repo_state.specs.declared.refusal.Refusal.TheVariants.{BadText, Damaged, EntityExists, TooLarge}
+use Rattle.repo_steps.specs.declared.edit.Edit.TheVariants.{UserEdit, UserNew, UserSet}
 use Rattle.bug_run.specs.Refusals.{refusal_line}
 use Rattle.bug_run.specs.Run.{moment}
-use Rattle.bug_run.specs.Words.{Edits, Log, request_of}
+use Rattle.bug_run.specs.Words.{request_of}
+use Rattle.bug_run.specs.declared.words.Command.TheVariants.{Edit, Log}
 
 -- what words ask
 words_none : request_of [] ≡ None
@@ -28,16 +29,16 @@ words_log_of_two = refl
 words_capital : request_of (codes "f" ∷ codes "Log" ∷ codes "b" ∷ []) ≡ None
 words_capital = refl
 
-words_new : request_of (codes "f" ∷ codes "user-new" ∷ codes "n" ∷ codes "e" ∷ []) ≡ Some (record { folder = codes "f"; command = Edits (UserNew (codes "n") (codes "e")) })
+words_new : request_of (codes "f" ∷ codes "user-new" ∷ codes "n" ∷ codes "e" ∷ []) ≡ Some (record { folder = codes "f"; command = Edit (UserNew (codes "n") (codes "e")) })
 words_new = refl
 
 words_new_without_email : request_of (codes "f" ∷ codes "user-new" ∷ codes "n" ∷ []) ≡ None
 words_new_without_email = refl
 
-words_edit : request_of (codes "f" ∷ codes "user-edit" ∷ codes "n" ∷ [] ∷ []) ≡ Some (record { folder = codes "f"; command = Edits (UserEdit (codes "n") []) })
+words_edit : request_of (codes "f" ∷ codes "user-edit" ∷ codes "n" ∷ [] ∷ []) ≡ Some (record { folder = codes "f"; command = Edit (UserEdit (codes "n") []) })
 words_edit = refl
 
-words_set : request_of (codes "f" ∷ codes "user-set" ∷ codes "i" ∷ []) ≡ Some (record { folder = codes "f"; command = Edits (UserSet (codes "i")) })
+words_set : request_of (codes "f" ∷ codes "user-set" ∷ codes "i" ∷ []) ≡ Some (record { folder = codes "f"; command = Edit (UserSet (codes "i")) })
 words_set = refl
 
 -- moments

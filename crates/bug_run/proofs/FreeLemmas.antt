@@ -1,29 +1,23 @@
 -- A head that has a log meets no merge commit and has no fault.
-use Rattle.std.proofs.Common.{◌≡◌, inl, inr, Option, IsSome, is_some, ℕ, ◌+◌, ◌<◌, zero, suc, List, [], ◌∷◌, length, get_or, Some, None, option_and_then, add-one, refl, sym, ◌∙◌, ap, subst, arith}
+use Rattle.std.proofs.Common.{◌≡◌, IsSome, is_some, ℕ, ◌+◌, ◌<◌, zero, suc, List, [], ◌∷◌, length, get_or, Some, option_and_then, add-one, refl, sym, ◌∙◌, ap, subst, arith}
 use Rattle.gb_text.specs.declared.id.Name.{Name}
 use Rattle.git_object.specs.declared.commit.Commit.{Commit}
-use Rattle.git_object.specs.declared.tree.Tree.{Tree}
-use Rattle.object_store.specs.Held.{Objects, object_at}
-use Rattle.commit_chain.specs.Objects.{as_blob, as_commit, as_tree, blob_at, commit_at, tree_at}
-use Rattle.commit_chain.specs.Chain.{IsCommit, Meets, MeetsCommit, MeetsMerge}
+use Rattle.object_store.specs.Held.{Objects}
+use Rattle.object_store.specs.Typed.{commit_at, tree_at}
+use Rattle.commit_chain.specs.Chain.{IsCommit, MeetsCommit, MeetsMerge}
 use Rattle.commit_chain.specs.declared.chain.Met.{Met}
-use Rattle.commit_chain.proofs.PassLemmas.{Linked-walked, linked_at, no_merge-walked, not_too_long, one_walk, parent_at, root_has, walk_passes}
+use Rattle.commit_chain.proofs.PassLemmas.{Linked-walked, linked_at, no_fault-walked, no_merge-walked, one_walk, parent_at, root_has, walk_passes}
 use Rattle.op_kind.specs.AnyKind.{any_kind}
 use Rattle.op_kind.specs.AnyLaws.{any_keeps_laws}
-use Rattle.op_pack.specs.Heads.{edit_clock_of, head_of, ops_of}
-use Rattle.op_pack.specs.Packs.{pack_at}
-use Rattle.op_pack.specs.declared.fault.PackFault.{PackFault}
-use Rattle.op_pack.specs.declared.head.TreeHead.{TreeHead}
-use Rattle.op_pack.proofs.HeadLaws.{fault_means_none as head_fault_means_none}
-use Rattle.op_pack.proofs.PackLaws.{fault_means_none as text_fault_means_none}
-use Rattle.bug_run.specs.Packs.{PackFails, pack_in, pack_of_head, pack_under}
-use Rattle.bug_run.specs.Walk.{Needs, FaultHolds, clock_at}
+use Rattle.op_pack.specs.Heads.{edit_clock_of}
+use Rattle.commit_pack.specs.Packs.{CommitPackFaultHolds, pack_under}
+use Rattle.commit_pack.specs.declared.fault.CommitPackFault.{CommitPackFault}
+use Rattle.commit_pack.proofs.LawLemmas.{fault-no_pack}
+use Rattle.bug_run.specs.Walk.{LogFaultHolds, clock_at}
 use Rattle.bug_run.specs.Log.{Clocked, HasPack, IsLog}
 use Rattle.bug_run.specs.declared.log.Step.{Step}
 use Rattle.bug_run.specs.declared.fault.WalkFault.{WalkFault}
 use Rattle.bug_run.specs.declared.fault.WalkFault.TheVariants as fault
-use Rattle.bug_run.proofs.PackLemmas.{head_parts}
-use Rattle.bug_run.proofs.StepLemmas.{CannotRead-none}
 use Rattle.bug_run.proofs.LogLemmas.{clock_at-held}
 
 same_commit : (c d : Commit) → Some c ≡ Some d → c ≡ d
@@ -44,7 +38,7 @@ step_at objects (m ∷ ms) (s ∷ ss) (suc k) d e clocked lt =
 
 -- a commit that the walk meets has a pack and a clock, where there is a log
 has_pack : (objects : Objects) (head name : Name) (steps : List Step) (commit : Commit) → IsLog objects head steps → MeetsCommit objects head name commit
-    → IsSome (pack_under objects commit.tree) × ((clock : ℕ) × (option_and_then edit_clock_of (tree_at objects commit.tree) ≡ Some clock))
+    → IsSome (pack_under any_kind objects commit.tree) × ((clock : ℕ) × (option_and_then edit_clock_of (tree_at objects commit.tree) ≡ Some clock))
 has_pack objects head name steps commit log meets =
     let passes = walk_passes objects head name log.walk log.walked meets.meets in
     let met = passes.met in
@@ -55,66 +49,9 @@ has_pack objects head name steps commit log meets =
     let same : is.commit ≡ commit = same_commit is.commit commit (sym is.held ∙ ap (commit_at objects) passes.is ∙ meets.held) in
     let tree : (get_or log.walk k met).tree ≡ commit.tree = ap (λ (m : Met). m.tree) passes.at.2 ∙ is.tree ∙ ap (λ (c : Commit). c.tree) same in
     let step = step_at objects log.walk steps k met none log.clocked passes.at.1 in (
-      subst (λ (t : Name). IsSome (pack_under objects t)) tree step.1,
+      subst (λ (t : Name). IsSome (pack_under any_kind objects t)) tree step.1,
       ((get_or steps k none).clock, ap (λ (t : Name). option_and_then edit_clock_of (tree_at objects t)) (sym tree) ∙ step.2),
     )
-
--- a name that the walk meets holds a commit, where there is a log
-holds_commit : (objects : Objects) (head name : Name) (steps : List Step) → IsLog objects head steps → Meets objects head name → commit_at objects name ≡ None → ⊥
-holds_commit objects head name steps log meets none =
-    let passes = walk_passes objects head name log.walk log.walked meets in
-    let here = linked_at objects head log.walk passes.at.0 passes.met (Linked-walked objects head log.walk log.walked) log.count passes.at.1 in
-    let named : (get_or log.walk passes.at.0 passes.met).name ≡ name = ap (λ (m : Met). m.name) passes.at.2 ∙ passes.is in
-    cc (sym none ∙ ap (commit_at objects) (sym named) ∙ here.1.1.held)
-
--- a tree that a met commit names is held, where there is a log
-holds_tree : (objects : Objects) (head name : Name) (steps : List Step) (commit : Commit) → IsLog objects head steps → MeetsCommit objects head name commit
-    → tree_at objects commit.tree ≡ None → ⊥
-holds_tree objects head name steps commit log meets none =
-    let clock = (has_pack objects head name steps commit log meets).1 in
-    cc (ap (option_and_then edit_clock_of) (sym none) ∙ clock.1)
-
--- the tree of a met commit has a pack, where there is a log
-has_pack_in : (objects : Objects) (head name : Name) (steps : List Step) (commit : Commit) (tree : Tree) → IsLog objects head steps → MeetsCommit objects head name commit
-    → tree_at objects commit.tree ≡ Some tree → IsSome (pack_in objects tree)
-has_pack_in objects head name steps commit tree log meets held =
-    subst (λ (o : Option Tree). IsSome (option_and_then (pack_in objects) o)) held (has_pack objects head name steps commit log meets).0
-
--- a tree without a head, and a head whose name holds no pack's text, has no pack
-no_pack-head : (objects : Objects) (tree : Tree) → head_of tree ≡ None → IsSome (pack_in objects tree) → ⊥
-no_pack-head objects tree none some = let no : IsSome (option_and_then (pack_of_head objects) None) = subst (λ (o : Option TreeHead). IsSome (option_and_then (pack_of_head objects) o)) none some in cc
-
-no_pack-text : (objects : Objects) (tree : Tree) (ops : Name) → ops_of tree ≡ Some ops → ((head : TreeHead) → head.ops ≡ ops → pack_of_head objects head ≡ None) → IsSome (pack_in objects tree) → ⊥
-no_pack-text objects tree ops named none some = each (head_of tree) refl
-  where
-    each : (o : Option TreeHead) → head_of tree ≡ o → ⊥
-    each None e = no_pack-head objects tree e some
-    each (Some head) e =
-        let same : Some head.ops ≡ Some ops = sym (head_parts tree head e).1 ∙ named in
-        let is : head.ops ≡ ops = cc in
-        let no : IsSome (pack_of_head objects head) = subst (λ (o : Option TreeHead). IsSome (option_and_then (pack_of_head objects) o)) e some in
-        cc (sym (ap is_some (none head is)) ∙ no)
-
--- what a tree's file `ops` names holds a blob, where there is a log
-no_blob : (objects : Objects) (tree : Tree) (ops : Name) → ops_of tree ≡ Some ops → blob_at objects ops ≡ None → IsSome (pack_in objects tree) → ⊥
-no_blob objects tree ops named none some =
-    no_pack-text objects tree ops named (λ head is. ap (λ (o : Name). option_and_then (pack_at any_kind head) (blob_at objects o)) is ∙ ap (option_and_then (pack_at any_kind head)) none) some
-
--- a tree that has a pack has none of the faults
-no_failure : (objects : Objects) (tree : Tree) (f : PackFault) → PackFails objects tree f → IsSome (pack_in objects tree) → ⊥
-no_failure objects tree f (inl fails) some = no_pack-head objects tree (head_fault_means_none tree f fails) some
-no_failure objects tree f (inr (inl other)) some = no_blob objects tree other.1.ops other.1.named (ap (option_and_then as_blob) other.1.held ∙ other.1.is_none) some
-no_failure objects tree f (inr (inr text)) some =
-    no_pack-text objects tree text.ops text.named
-    (λ head is. ap (λ (o : Name). option_and_then (pack_at any_kind head) (blob_at objects o)) is ∙ ap (option_and_then (pack_at any_kind head)) text.held ∙ text_fault_means_none any_kind any_keeps_laws head text.text f text.fails) some
-
--- an object that the log needs is held, where there is one
-holds_needed : (objects : Objects) (head name : Name) (steps : List Step) → IsLog objects head steps → Needs objects head name → object_at objects name ≡ None → ⊥
-holds_needed objects head name steps log (inl meets) none = holds_commit objects head name steps log meets (ap (option_and_then as_commit) none)
-holds_needed objects head name steps log (inr (inl needs)) none =
-    holds_tree objects head needs.of steps needs.commit log needs.meets (ap (option_and_then as_tree) (ap (object_at objects) needs.is ∙ none))
-holds_needed objects head name steps log (inr (inr needs)) none =
-    no_blob objects needs.tree name needs.named (ap (option_and_then as_blob) none) (has_pack_in objects head needs.of steps needs.commit needs.tree log needs.meets needs.held)
 
 -- the clocks of a commit and its parent rise, where there is a log
 clocks_rise : (objects : Objects) (head name parent : Name) (steps : List Step) (commit : Commit) (clock below : ℕ) → IsLog objects head steps → MeetsCommit objects head name commit
@@ -146,18 +83,22 @@ clocks_rise objects head name parent steps commit clock below log meets has high
         let up_is : (get_or steps (k + 1) none).clock ≡ (get_or steps (suc k) none).clock = ap (λ (i : ℕ). (get_or steps i none).clock) next in
         omega (arith, rises, up_is, high_is, low_is)
 
-pub no_fault : (objects : Objects) (head : Name) (steps : List Step) (f : WalkFault) → IsLog objects head steps → FaultHolds objects head f → ⊥
-no_fault objects head steps (fault.Missing name) log h = holds_needed objects head name steps log h.0 (CannotRead-none objects name (fault.Missing name) (refl, h.1))
-no_fault objects head steps (fault.Damaged name) log h = holds_needed objects head name steps log h.0 h.1.is_none
-no_fault objects head steps (fault.Large name) log h = holds_needed objects head name steps log h.0 (CannotRead-none objects name (fault.Large name) (refl, h.1))
-no_fault objects head steps (fault.NotCommit name) log h = holds_commit objects head name steps log h.0 (ap (option_and_then as_commit) h.2 ∙ h.3)
-no_fault objects head steps (fault.BadTree name) log h = holds_tree objects head name steps h.0 log h.1 (ap (option_and_then as_tree) h.3 ∙ h.4)
-no_fault objects head steps (fault.BadPack name f) log h = no_failure objects h.2 f h.4 (has_pack_in objects head name steps h.0 h.2 log h.1 h.3)
+-- a commit that the walk meets has no fault of its pack, where there is a log
+no_pack_fault : (objects : Objects) (head name : Name) (steps : List Step) (commit : Commit) (f : CommitPackFault) → IsLog objects head steps
+    → MeetsCommit objects head name commit → CommitPackFaultHolds any_kind objects commit.tree f → ⊥
+no_pack_fault objects head name steps commit f log meets fails =
+    let some = (has_pack objects head name steps commit log meets).0 in
+    cc (sym (ap is_some (fault-no_pack any_kind objects commit.tree any_keeps_laws f fails)) ∙ some)
+
+-- a log has no fault
+pub no_fault : (objects : Objects) (head : Name) (steps : List Step) (f : WalkFault) → IsLog objects head steps → LogFaultHolds objects head f → ⊥
+no_fault objects head steps (fault.Chain f) log h = no_fault-walked objects head log.walk f log.walked log.count h
+no_fault objects head steps (fault.NoPack name f) log h = no_pack_fault objects head name steps h.0 f log h.1 h.2
 no_fault objects head steps (fault.ClockOrder name parent) log h =
     let rises = clocks_rise objects head name parent steps h.0 h.3 h.4 log h.1 h.2 h.5 h.6 in
     omega (arith, rises, h.7)
-no_fault objects head steps fault.TooLong log h = not_too_long objects head log.walk log.walked log.count h
 
+-- nor does its walk meet a merge
 pub no_merge_logged : (objects : Objects) (head name : Name) (steps : List Step) → IsLog objects head steps → MeetsMerge objects head name → ⊥
 no_merge_logged objects head name steps log merge = no_merge-walked objects head log.walk log.walked name merge
 
@@ -175,6 +116,7 @@ one_steps objects (m ∷ ms) (s ∷ ss) (t ∷ ts) first second =
     let step : s ≡ t = grind (arith, name, clock) in
     grind (arith, step, rest)
 
+-- a head has one log
 pub one_log : (objects : Objects) (head : Name) (one two : List Step) → IsLog objects head one → IsLog objects head two → one ≡ two
 one_log objects head one two first second =
     let walk = one_walk objects head first.walk second.walk first.walked second.walked in

@@ -1,7 +1,7 @@
 pub mod AnswerLemmas
 pub mod FreeLemmas
 pub mod LogLemmas
-pub mod PackLemmas
 pub mod StepLemmas
-pub mod SoundLemmas
+pub mod RunLemmas
+pub mod RunsLemmas
 pub mod Examples

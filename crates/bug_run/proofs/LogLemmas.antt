@@ -1,23 +1,24 @@
 -- What a commit of the walk without a good clock says of the whole walk.
-use Rattle.std.proofs.Common.{◌≡◌, ◌⊎◌, inl, inr, ℕ, ◌+◌, ◌<◌, ◌≤◌, zero, suc, List, [], ◌∷◌, ◌++◌, length, take, get_or, Some, option_and_then, Err, refl, sym, ◌∙◌, ap, subst, arith}
+use Rattle.std.proofs.Common.{◌≡◌, ℕ, ◌+◌, ◌<◌, ◌≤◌, zero, suc, List, [], ◌∷◌, ◌++◌, length, take, get_or, Some, option_and_then, Err, refl, sym, ◌∙◌, ap, subst, arith}
 use Rattle.std.proofs.lemmas.List.{get_or_default, take_more}
 use Rattle.gb_text.specs.declared.id.Name.{Name}
 use Rattle.git_object.specs.declared.commit.Commit.{Commit}
-use Rattle.object_store.specs.Held.{Objects, object_at}
-use Rattle.commit_chain.specs.Objects.{tree_at}
-use Rattle.commit_chain.specs.Chain.{IsCommit, Walked, Meets, MeetsCommit}
+use Rattle.object_store.specs.Held.{Objects}
+use Rattle.object_store.specs.Typed.{tree_at}
+use Rattle.commit_chain.specs.Chain.{IsCommit, Walked, Meets}
 use Rattle.commit_chain.specs.declared.chain.Met.{Met}
 use Rattle.commit_chain.proofs.PassLemmas.{Linked, Linked-walked, Linked-above, linked_at, meets_first, no_merge-walked}
+use Rattle.op_kind.specs.AnyKind.{any_kind}
 use Rattle.op_pack.specs.Heads.{edit_clock_of}
-use Rattle.bug_run.specs.Walk.{Needs, FaultHolds, clock_at}
+use Rattle.commit_pack.specs.Packs.{CommitPackFaultHolds}
+use Rattle.bug_run.specs.Walk.{LogFaultHolds, clock_at}
 use Rattle.bug_run.specs.Log.{Clocked, HasPack}
-use Rattle.bug_run.specs.Answers.{CannotRead, HasNoOps, HasNoPack, IsNoTree, SomeHasNoPack, ClockAnswers, ClocksAnswers, RisingAnswers, Falls, WalkRefused}
+use Rattle.bug_run.specs.Answers.{HasNoPack, SomeHasNoPack, ClockAnswers, ClocksAnswers, RisingAnswers, Falls, WalkRefused}
 use Rattle.bug_run.specs.declared.log.Step.{Step}
 use Rattle.bug_run.specs.declared.fault.WalkFault.{WalkFault}
 use Rattle.bug_run.specs.declared.fault.WalkFault.TheVariants as fault
 use Rattle.bug_run.specs.declared.fault.WalkStop.{WalkStop}
 use Rattle.bug_run.specs.declared.fault.WalkStop.TheVariants as stop
-use Rattle.bug_run.proofs.StepLemmas.{FaultHolds-read}
 
 -- one commit and its step more
 pub Clocked-push : (objects : Objects) (mets : List Met) (steps : List Step) (met : Met) (step : Step) → Clocked objects mets steps
@@ -28,33 +29,12 @@ Clocked-push objects (m ∷ ms) [] met step clocked named pack clock = absurd cl
 Clocked-push objects (m ∷ ms) (s ∷ ss) met step clocked named pack clock = (clocked.0, clocked.1, clocked.2, Clocked-push objects ms ss met step clocked.3 named pack clock)
 
 -- a commit that the walk met and that has no pack is a fault of the walk
-FaultHolds-pack : (objects : Objects) (head : Name) (met : Met) (parents : List Name) (f : WalkFault) → Meets objects head met.name → IsCommit objects met parents
-    → HasNoPack objects met f → FaultHolds objects head f
-FaultHolds-pack objects head met parents f meets is h = each f h
-  where
-    met_commit : MeetsCommit objects head met.name is.commit
-    met_commit = record { meets = meets; held = is.held }
-
-    needs : Needs objects head met.tree
-    needs = inr (inl (record { of = met.name; commit = is.commit; meets = met_commit; is = sym is.tree }))
-
-    needs_ops : (f : WalkFault) → (unread : HasNoOps objects met f) → Needs objects head unread.ops
-    needs_ops f unread = inr (inr (record { of = met.name; commit = is.commit; meets = met_commit; tree = unread.tree; held = ap (tree_at objects) (sym is.tree) ∙ unread.held; named = unread.named }))
-
-    either : (f : WalkFault) → IsNoTree objects met f ⊎ HasNoOps objects met f → (IsNoTree objects met f → CannotRead objects met.tree f) → FaultHolds objects head f
-    either f (inl tree) there = FaultHolds-read objects head met.tree f needs (there tree)
-    either f (inr ops) there = FaultHolds-read objects head ops.ops f (needs_ops f ops) ops.fails
-
-    each : (f : WalkFault) → HasNoPack objects met f → FaultHolds objects head f
-    each (fault.Missing n) h = either (fault.Missing n) h (λ x. x)
-    each (fault.Damaged n) h = either (fault.Damaged n) h (λ x. x)
-    each (fault.Large n) h = either (fault.Large n) h (λ x. x)
-    each (fault.NotCommit n) h = either (fault.NotCommit n) h (λ x. x)
-    each (fault.BadTree n) (inl h) = rw h.0 (is.commit, met_commit, h.1, ap (object_at objects) (sym is.tree) ∙ h.2, h.3)
-    each (fault.BadTree n) (inr ops) = absurd ops.fails
-    each (fault.BadPack n f) h = rw h.0 (is.commit, met_commit, h.1, ap (tree_at objects) (sym is.tree) ∙ h.2, h.3)
-    each (fault.ClockOrder n p) h = either (fault.ClockOrder n p) h (λ x. x)
-    each fault.TooLong h = either fault.TooLong h (λ x. x)
+LogFaultHolds-pack : (objects : Objects) (head : Name) (met : Met) (parents : List Name) (f : WalkFault) → Meets objects head met.name → IsCommit objects met parents
+    → HasNoPack objects met f → LogFaultHolds objects head f
+LogFaultHolds-pack objects head met parents (fault.Chain f) meets is h = absurd h
+LogFaultHolds-pack objects head met parents (fault.NoPack n f) meets is h =
+    rw h.0 (is.commit, record { meets = meets; held = is.held }, subst (λ (tree : Name). CommitPackFaultHolds any_kind objects tree f) is.tree h.1)
+LogFaultHolds-pack objects head met parents (fault.ClockOrder n p) meets is h = absurd h
 
 -- so is one among the commits of a whole walk
 pub WalkRefused-clock : (objects : Objects) (head : Name) (walk : List Met) (f : WalkFault) → Walked objects head walk → length walk ≤ 65536
@@ -63,7 +43,7 @@ WalkRefused-clock objects head walk f walked near h =
     let met = h.0 in
     let at = linked_at objects head walk h.1.0 met (Linked-walked objects head walk walked) near h.1.1 in
     let here = subst (λ (m : Met). Meets objects head m.name × ((parents : List Name) × IsCommit objects m parents)) h.1.2 at in
-    (no_merge-walked objects head walk walked, FaultHolds-pack objects head met here.1.0 f here.0 here.1.1 h.2)
+    (no_merge-walked objects head walk walked, LogFaultHolds-pack objects head met here.1.0 f here.0 here.1.1 h.2)
 
 -- the edit clock of a commit that is held
 pub clock_at-held : (objects : Objects) (met : Met) (parents : List Name) (clock : ℕ) → IsCommit objects met parents
@@ -75,7 +55,7 @@ clock_at-held objects met parents clock is e =
 -- a clock that is not above that of the parent is a fault of the walk
 falls_at : (objects : Objects) (head : Name) (walk : List Met) (steps : List Step) (k j : ℕ) (d : Step) → Linked objects head walk → length walk ≤ 65536 → Clocked objects walk steps
     → j ≡ k + 1 → j < length steps → (get_or steps j d).clock ≤ (get_or steps k d).clock
-    → FaultHolds objects head (fault.ClockOrder (get_or steps j d).name (get_or steps k d).name)
+    → LogFaultHolds objects head (fault.ClockOrder (get_or steps j d).name (get_or steps k d).name)
 falls_at objects head [] steps k j d linked near clocked next lt le = absurd linked
 falls_at objects head (m ∷ ms) [] k j d linked near clocked next lt le = absurd (omega (arith, lt))
 falls_at objects head (m ∷ []) (s ∷ []) k j d linked near clocked next lt le = absurd (omega (arith, next, lt))
@@ -88,7 +68,7 @@ falls_at objects head (m ∷ n ∷ ms) (s ∷ t ∷ ss) zero j d linked near clo
     let one : j ≡ 1 = omega (arith, next) in
     let fall : t.clock ≤ s.clock = rw one at le in
     let meets : Meets objects head n.name = meets_first objects head n ms (Linked-above objects head m n ms linked) (omega (arith, near)) in
-    let holds : FaultHolds objects head (fault.ClockOrder n.name m.name) = (is.commit, record { meets = meets; held = is.held }, is.has, t.clock, s.clock, high, low, fall) in
+    let holds : LogFaultHolds objects head (fault.ClockOrder n.name m.name) = (is.commit, record { meets = meets; held = is.held }, is.has, t.clock, s.clock, high, low, fall) in
     rw (one, clocked.3.0, clocked.0) holds
 falls_at objects head (m ∷ n ∷ ms) (s ∷ t ∷ ss) (suc k) zero d linked near clocked next lt le = absurd (omega (arith, next))
 falls_at objects head (m ∷ n ∷ ms) (s ∷ t ∷ ss) (suc k) (suc j) d linked near clocked next lt le =
@@ -99,7 +79,7 @@ pub WalkRefused-falls : (objects : Objects) (head : Name) (walk : List Met) (ste
     → Clocked objects walk steps → Falls steps f → WalkRefused objects head (stop.Fault f)
 WalkRefused-falls objects head walk steps f walked near clocked falls =
     let holds = falls_at objects head walk steps falls.0 (falls.0 + 1) falls.1 (Linked-walked objects head walk walked) near clocked refl falls.2 falls.4 in
-    (no_merge-walked objects head walk walked, subst (FaultHolds objects head) (sym falls.3) holds)
+    (no_merge-walked objects head walk walked, subst (LogFaultHolds objects head) (sym falls.3) holds)
 
 -- what keeps the clock of one of these commits from being read keeps the clocks from being read
 pub ClocksAnswers-at : (objects : Objects) (walk : List Met) (k : ℕ) (d : Met) (s : WalkStop) → k < length walk → ClockAnswers objects (get_or walk k d) (Err s)

@@ -1,8 +1,9 @@
 pub mod Answers
 pub mod Log
-pub mod Packs
+pub mod Printed
 pub mod Refusals
 pub mod Run
+pub mod Runs
 pub mod Stops
 pub mod Told
 pub mod Walk

@@ -4,7 +4,6 @@
 mod fault;
 mod laws;
 mod log;
-mod name;
 mod pack;
 mod print;
 mod refusal;
@@ -14,6 +13,6 @@ mod top;
 mod words;
 
 pub use fault::WalkFault;
-pub use laws::{a_log_has_no_fault, logs_are_determined};
+pub use laws::{a_log_has_no_fault, logs_are_determined, runs_keep_folders};
 pub use status::Status;
 pub use top::run;

@@ -1,19 +1,20 @@
 //! The log of a bug.
-ghost use Rattle.std.specs.Prelude.{◌≡◌, ◌≤◌, ◌+◌, ◌*◌, ◌++◌, List, length, IsTrue, IfOk, OnOk, IsErrOf, string_bytes};
+ghost use Rattle.std.specs.Prelude.{◌≡◌, ◌≤◌, ◌+◌, ◌*◌, ◌++◌, List, None, length, IsTrue, IfOk, OnOk, IsErrOf, string_bytes};
 ghost use Rattle.gb_store.specs.Faults.{KeepsFaults};
 ghost use Rattle.gb_store.specs.Files.{files_of};
-ghost use Rattle.object_store.specs.Held.{objects_in};
+ghost use Rattle.object_store.specs.Held.{objects_after};
 ghost use Rattle.bug_run.specs.Answers.{ClocksAnswers, RisingAnswers, StepsAnswers};
-ghost use Rattle.bug_run.specs.Log.{LogAnswers, MayRefuse, WalkTold, log_line, log_text_of};
+ghost use Rattle.repo_steps.specs.Answers.{KeepsToWords};
+ghost use Rattle.bug_run.specs.Log.{LogAnswers, WalkTold, log_line, log_text_of};
+ghost use Rattle.commit_chain.specs.declared.chain.TheConstants.{MOST_COMMITS};
 ghost use Rattle.bug_run.specs.declared.log.Step.{Step as StepValue};
 
 use crate::fault::{WalkFault, WalkStop};
-use crate::name::{push_name, push_number};
 use crate::pack::clock_of;
 use commit_chain::{Met, walk};
 use gb_store::Store;
-use gb_text::{Folder, Id, Memory, Name, Text};
-use repo_state::{Refusal, Side, Stop, damaged, head};
+use gb_text::{Folder, Memory, Name, Text, push_line_end, push_name, push_number};
+use repo_state::{HeadEntry, Refusal, Side, Stop, damaged, find_head};
 use std::alloc::{AllocError, Global};
 
 /// A commit of a bug and its edit clock.
@@ -26,45 +27,43 @@ pub struct Step {
 /// The log of the bug with this id: a line for each commit of its chain, from the root to the
 /// head.
 pub fn log<S: Store>(alloc: Global, disk: &mut S, folder: &Folder, bug: &str) -> Result<Text, Stop>
-    ensures answers { IsTrue S.tells → LogAnswers (files_of (S.history disk.old)) folder.now bug.now result }
-    ensures refusals { MayRefuse result }
+    ensures answers { IsTrue S.tells
+        → LogAnswers (files_of (S.history disk.old)) folder.now bug.now result }
+    ensures words { KeepsToWords None result }
     ensures unwritten { IsTrue S.tells → S.history disk.new ≡ S.history disk.old }
-    ensures reads { S.object_reads disk.new ≤ S.object_reads disk.old + 196608 }
+    ensures reads { S.object_reads disk.new ≤ S.object_reads disk.old + 3 * MOST_COMMITS }
     ensures once { IfOk result (λ text. (steps : List StepValue) × (text ≡ log_text_of steps)
         × (S.object_reads disk.new ≤ S.object_reads disk.old + 3 * length steps)) }
-    ensures caused { KeepsFaults S.never_fails S.faults (IsErrOf result Stop.Disk) disk.old disk.new }
+    ensures caused { KeepsFaults S.never_fails S.faults (IsErrOf result Stop.Disk)
+        disk.old disk.new }
 {
-    let Some(id) = Id::read(bug.as_bytes()) else {
-        return Err(Stop::Refused(Refusal::NotFound));
-    };
-    match head(alloc, disk, folder, &Side::Bugs, &id)? {
-        Some(head) => log_from(alloc, disk, folder, &id, &head),
-        None => Err(Stop::Refused(Refusal::NotFound)),
-    }
+    let bug = find_head(alloc, disk, folder, &Side::Bugs, bug)?;
+    log_from(alloc, disk, folder, &bug)
 }
 
-// The log of the bug with this id and this head.
+// The log of this bug.
 fn log_from<S: Store>(
     alloc: Global,
     disk: &mut S,
     folder: &Folder,
-    id: &Id,
-    head: &Name,
+    bug: &HeadEntry,
 ) -> Result<Text, Stop>
-    ensures answers { IsTrue S.tells → WalkTold (files_of (S.history disk.old)) folder.now id.now head.now result }
-    ensures refusals { MayRefuse result }
+    ensures answers { IsTrue S.tells
+        → WalkTold (files_of (S.history disk.old)) folder.now bug.now result }
+    ensures words { KeepsToWords None result }
     ensures unwritten { IsTrue S.tells → S.history disk.new ≡ S.history disk.old }
-    ensures reads { S.object_reads disk.new ≤ S.object_reads disk.old + 196608 }
+    ensures reads { S.object_reads disk.new ≤ S.object_reads disk.old + 3 * MOST_COMMITS }
     ensures once { IfOk result (λ text. (steps : List StepValue) × (text ≡ log_text_of steps)
         × (S.object_reads disk.new ≤ S.object_reads disk.old + 3 * length steps)) }
-    ensures caused { KeepsFaults S.never_fails S.faults (IsErrOf result Stop.Disk) disk.old disk.new }
+    ensures caused { KeepsFaults S.never_fails S.faults (IsErrOf result Stop.Disk)
+        disk.old disk.new }
 {
-    match steps_from(alloc, disk, folder, head) {
+    match steps_from(alloc, disk, folder, &bug.name) {
         Ok(steps) => Ok(log_text(alloc, &steps)?),
         Err(WalkStop::Memory) => Err(Stop::Memory),
         Err(WalkStop::Disk) => Err(Stop::Disk),
         Err(WalkStop::Merge(name)) => Err(Stop::Refused(Refusal::MergeCommit(name))),
-        Err(WalkStop::Fault(_)) => Err(damaged(alloc, folder, &Side::Bugs, id)),
+        Err(WalkStop::Fault(_)) => Err(damaged(alloc, folder, &Side::Bugs, &bug.id)),
     }
 }
 
@@ -75,11 +74,14 @@ fn steps_from<S: Store>(
     folder: &Folder,
     head: &Name,
 ) -> Result<Vec<Step>, WalkStop>
-    ensures answers { IsTrue S.tells → StepsAnswers (objects_in (files_of (S.history disk.old)) folder.now) head.now result }
+    ensures answers { IsTrue S.tells
+        → StepsAnswers (objects_after (S.history disk.old) folder.now) head.now result }
     ensures unwritten { IsTrue S.tells → S.history disk.new ≡ S.history disk.old }
-    ensures reads { S.object_reads disk.new ≤ S.object_reads disk.old + 196608 }
-    ensures once { IfOk result (λ steps. S.object_reads disk.new ≤ S.object_reads disk.old + 3 * length steps.items) }
-    ensures caused { KeepsFaults S.never_fails S.faults (IsErrOf result WalkStop.Disk) disk.old disk.new }
+    ensures reads { S.object_reads disk.new ≤ S.object_reads disk.old + 3 * MOST_COMMITS }
+    ensures once { IfOk result
+        (λ steps. S.object_reads disk.new ≤ S.object_reads disk.old + 3 * length steps.items) }
+    ensures caused { KeepsFaults S.never_fails S.faults (IsErrOf result WalkStop.Disk)
+        disk.old disk.new }
 {
     let walk = walk(alloc, disk, folder, head)?;
     let steps = clocks(alloc, disk, folder, &walk)?;
@@ -94,11 +96,13 @@ fn clocks<S: Store>(
     folder: &Folder,
     walk: &[Met],
 ) -> Result<Vec<Step>, WalkStop>
-    ensures answers { IsTrue S.tells → ClocksAnswers (objects_in (files_of (S.history disk.old)) folder.now) walk.now result }
+    ensures answers { IsTrue S.tells
+        → ClocksAnswers (objects_after (S.history disk.old) folder.now) walk.now result }
     ensures unwritten { IsTrue S.tells → S.history disk.new ≡ S.history disk.old }
     ensures reads { S.object_reads disk.new ≤ S.object_reads disk.old + 2 * length walk.now }
     ensures each { IfOk result (λ steps. length steps.items ≡ length walk.now) }
-    ensures caused { KeepsFaults S.never_fails S.faults (IsErrOf result WalkStop.Disk) disk.old disk.new }
+    ensures caused { KeepsFaults S.never_fails S.faults (IsErrOf result WalkStop.Disk)
+        disk.old disk.new }
 {
     let mut steps = Vec::new(alloc);
     for met in walk {
@@ -140,10 +144,8 @@ fn log_text(alloc: Global, steps: &[Step]) -> Result<Text, Memory>
 fn push_line(text: &mut String, step: &Step) -> Result<(), AllocError>
     ensures { OnOk result (string_bytes text.new ≡ string_bytes text.old ++ log_line step.now) }
 {
-    let clock = step.clock;
-    push_number(text, clock)?;
+    push_number(text, step.clock)?;
     text.push_str(" ")?;
     push_name(text, &step.name)?;
-    text.push_str("\n")?;
-    Ok(())
+    push_line_end(text)
 }

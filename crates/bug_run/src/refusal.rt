@@ -1,10 +1,9 @@
 //! The lines that tell refusals.
 ghost use Rattle.std.specs.Prelude.{◌≡◌, ◌++◌, IfOk, OnOk, codes, decimal, string_bytes};
 ghost use Rattle.hex.specs.Hex.{encode_lower};
-ghost use Rattle.bug_run.specs.Refusals.{refusal_line};
+ghost use Rattle.bug_run.specs.Refusals.{refusal_line, refusal_words};
 
-use crate::name::{push_id, push_name, push_number};
-use gb_text::{Id, Memory, Name, Text};
+use gb_text::{Id, Memory, Name, Text, push_id, push_name, push_number};
 use repo_state::Refusal;
 use std::alloc::{AllocError, Global};
 
@@ -13,52 +12,59 @@ pub fn refusal_line(alloc: Global, refusal: &Refusal) -> Result<Text, Memory>
     ensures { IfOk result (λ line. line ≡ refusal_line refusal.now) }
 {
     let mut line = String::new(alloc);
-    match refusal {
-        Refusal::NoUser => line.push_str("refused 1 no user\n")?,
-        Refusal::NotFound => line.push_str("refused 2 not found\n")?,
-        Refusal::BadText(place) => push_with_number(&mut line, "refused 4 bad text ", *place)?,
-        Refusal::EntityExists(id) => push_with_id(&mut line, "refused 9 entity exists ", id)?,
-        Refusal::NameTaken(name) => push_with_name(&mut line, "refused 10 name taken ", name)?,
-        Refusal::TooLarge(count) => push_with_number(&mut line, "refused 13 too large ", *count)?,
-        Refusal::Damaged(path) => push_with_text(&mut line, "refused 14 damaged ", path.as_str())?,
-        Refusal::BadFolder => line.push_str("refused 17 bad folder\n")?,
-        Refusal::MergeCommit(name) => push_with_name(&mut line, "refused 18 merge commit ", name)?,
-    }
+    line.push_str("refused ")?;
+    push_number(&mut line, refusal.number())?;
+    line.push_str(" ")?;
+    push_words(&mut line, refusal)?;
+    line.push_str("\n")?;
     Ok(Text::from_string(line))
 }
 
-// Adds a line of words and a number.
-fn push_with_number(line: &mut String, words: &str, number: u64) -> Result<(), AllocError>
-    ensures { OnOk result (string_bytes line.new ≡ string_bytes line.old ++ words.now ++ decimal number ++ codes "\n") }
+// Adds what a refusal says behind its number.
+fn push_words(line: &mut String, refusal: &Refusal) -> Result<(), AllocError>
+    ensures { OnOk result (string_bytes line.new
+        ≡ string_bytes line.old ++ refusal_words refusal.now) }
 {
-    line.push_str(words)?;
-    push_number(line, number)?;
-    line.push_str("\n")
+    match refusal {
+        Refusal::NoUser => line.push_str("no user"),
+        Refusal::NotFound => line.push_str("not found"),
+        Refusal::BadText(place) => push_counted(line, "bad text ", *place),
+        Refusal::EntityExists(id) => push_with_id(line, "entity exists ", id),
+        Refusal::NameTaken(name) => push_with_name(line, "name taken ", name),
+        Refusal::TooLarge(count) => push_counted(line, "too large ", *count),
+        Refusal::Damaged(path) => {
+            line.push_str("damaged ")?;
+            line.push_str(path.as_str())
+        }
+        Refusal::SomeRefused(count) => push_counted(line, "some refused ", *count),
+        Refusal::BadFolder => line.push_str("bad folder"),
+        Refusal::MergeCommit(name) => push_with_name(line, "merge commit ", name),
+    }
 }
 
-// Adds a line of words and an id.
+// Adds words and a number.
+fn push_counted(line: &mut String, words: &str, number: u64) -> Result<(), AllocError>
+    ensures { OnOk result (string_bytes line.new
+        ≡ string_bytes line.old ++ (words.now ++ decimal number)) }
+{
+    line.push_str(words)?;
+    push_number(line, number)
+}
+
+// Adds words and an id.
 fn push_with_id(line: &mut String, words: &str, id: &Id) -> Result<(), AllocError>
-    ensures { OnOk result (string_bytes line.new ≡ string_bytes line.old ++ words.now ++ encode_lower id.now.bytes ++ codes "\n") }
+    ensures { OnOk result (string_bytes line.new
+        ≡ string_bytes line.old ++ (words.now ++ encode_lower id.now.bytes)) }
 {
     line.push_str(words)?;
-    push_id(line, id)?;
-    line.push_str("\n")
+    push_id(line, id)
 }
 
-// Adds a line of words and a name.
+// Adds words and a name.
 fn push_with_name(line: &mut String, words: &str, name: &Name) -> Result<(), AllocError>
-    ensures { OnOk result (string_bytes line.new ≡ string_bytes line.old ++ words.now ++ encode_lower name.now.bytes ++ codes "\n") }
+    ensures { OnOk result (string_bytes line.new
+        ≡ string_bytes line.old ++ (words.now ++ encode_lower name.now.bytes)) }
 {
     line.push_str(words)?;
-    push_name(line, name)?;
-    line.push_str("\n")
-}
-
-// Adds a line of words and a text.
-fn push_with_text(line: &mut String, words: &str, text: &str) -> Result<(), AllocError>
-    ensures { OnOk result (string_bytes line.new ≡ string_bytes line.old ++ words.now ++ text.now ++ codes "\n") }
-{
-    line.push_str(words)?;
-    line.push_str(text)?;
-    line.push_str("\n")
+    push_name(line, name)
 }

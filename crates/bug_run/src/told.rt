@@ -1,4 +1,4 @@
-//! What a command tells where it is done.
+//! What a command answers where it is done.
 ghost use Rattle.std.specs.Prelude.{◌≡◌};
 ghost use Rattle.repo_state.specs.Users.{id_line};
 
@@ -9,6 +9,14 @@ use gb_text::{Id, Text};
 pub enum Told {
     Text(Text),
     Id(Id),
+}
+
+/// What a command answers where it is done.
+#[derive(Debug, Drop)]
+pub struct Answer {
+    pub told: Told,
+    /// How many of its lines tell refusals.
+    pub refused: u64,
 }
 
 /// The line of an id: its 64 digits and a line feed.

@@ -1,21 +1,22 @@
 //! The top call.
-ghost use Rattle.std.specs.Prelude.{◌≡◌, ◌↔◌, ◌≤◌, ◌-◌, ◌^◌, IsTrue, IsErrOf, Some, map, string_bytes};
+ghost use Rattle.std.specs.Prelude.{◌≡◌, ◌↔◌, ◌≤◌, IsTrue, IsErrOf, map, string_bytes};
 ghost use Rattle.gb_store.specs.Faults.{KeepsFaults};
 ghost use Rattle.gb_store.specs.Moments.{WroteIf};
-ghost use Rattle.repo_state.specs.Steps.{bad_text_of};
-ghost use Rattle.bug_run.specs.Run.{CommandAnswers, CommandWrites, Printed, RequestAnswers, RunAnswers, RunStaysSound, RunWrites, bad_word_in, moment, status_of, text_of};
-ghost use Rattle.bug_run.specs.Told.{as_text};
-ghost use Rattle.bug_run.specs.Words.{asked, command_asked, request_of};
+ghost use Rattle.repo_steps.specs.Answers.{KeepsToWords};
+ghost use Rattle.bug_run.specs.Printed.{Printed};
+ghost use Rattle.bug_run.specs.Run.{CommandAnswers, RequestAnswers, RunAnswers, RunStaysSound, RunWrites, bad_word_of, call_of, moment, status_for, status_of, text_of};
+ghost use Rattle.bug_run.specs.Told.{as_said, told_text};
+ghost use Rattle.bug_run.specs.Words.{request_of};
 
 use crate::log::log;
 use crate::print::print;
 use crate::refusal::refusal_line;
 use crate::status::Status;
-use crate::told::{Told, id_line};
+use crate::told::{Answer, Told, id_line};
 use crate::words::{Command, Request, read_words};
 use gb_store::{Sink, Store};
-use gb_text::{Folder, FolderFault};
-use repo_edit::{user_edit, user_new, user_set};
+use gb_text::{Folder, FolderFault, LIMIT};
+use repo_edit::edit;
 use repo_state::{Env, Refusal, Stop};
 use std::alloc::Global;
 
@@ -31,18 +32,27 @@ pub fn run<S: Store, K: Sink>(
     now: i64,
     seed: [u8; 32],
 ) -> Status
-    ensures answers { RunAnswers S.tells K.tells (request_of (map string_bytes words.now)) (moment now) seed
-        (S.history disk.old) (S.history disk.new) (K.written out.old) (K.written out.new) result }
-    ensures wrote { WroteIf S.tells (RunWrites (request_of (map string_bytes words.now)) (moment now) seed) (S.history disk.old) (S.history disk.new) }
-    ensures sound { IsTrue S.tells → RunStaysSound (request_of (map string_bytes words.now)) (S.history disk.old) (S.history disk.new) }
-    ensures disk { KeepsFaults S.never_fails S.faults (result ≡ Status.DiskFault) disk.old disk.new }
-    ensures sink { KeepsFaults K.never_fails K.faults (result ≡ Status.OutFault) out.old out.new }
+    ensures answers { RunAnswers
+        (call_of S.tells K.tells (map string_bytes words.now) now seed)
+        (S.history disk.old) (S.history disk.new)
+        (K.written out.old) (K.written out.new) result }
+    ensures wrote { WroteIf S.tells (RunWrites (request_of (map string_bytes words.now)))
+        (S.history disk.old) (S.history disk.new) }
+    ensures sound { IsTrue S.tells → RunStaysSound (request_of (map string_bytes words.now))
+        (S.history disk.old) (S.history disk.new) }
+    ensures disk { KeepsFaults S.never_fails S.faults (result ≡ Status.DiskFault)
+        disk.old disk.new }
+    ensures sink { KeepsFaults K.never_fails K.faults (result ≡ Status.OutFault)
+        out.old out.new }
 {
-    let Some(request) = read_words(words) else {
-        return print(alloc, out, USAGE.as_bytes(), Status::Usage);
-    };
-    let outcome = perform(alloc, disk, &request, moment_of(now), seed);
-    tell(alloc, out, outcome)
+    match read_words(alloc, words) {
+        Ok(Some(request)) => {
+            let outcome = perform(alloc, disk, &request, moment_of(now), seed);
+            tell(alloc, out, outcome)
+        }
+        Ok(None) => print(alloc, out, USAGE.as_bytes(), Status::Usage),
+        Err(_) => Status::Memory,
+    }
 }
 
 /// What is told where the words give no command.
@@ -51,7 +61,7 @@ pub const USAGE: &str = "usage: gitbug FOLDER COMMAND ARGUMENTS\n";
 // A moment, where a negative one counts as 0.
 fn moment_of(now: i64) -> u64
     ensures value { result ≡ moment now }
-    ensures within { result ≤ 2 ^ 63 - 1 }
+    ensures within { result ≤ LIMIT }
 {
     u64::try_from(now).unwrap_or(0)
 }
@@ -60,16 +70,17 @@ fn moment_of(now: i64) -> u64
 fn perform<S: Store>(
     alloc: Global,
     disk: &mut S,
-    request: &Request<'_>,
+    request: &Request,
     now: u64,
     seed: [u8; 32],
-) -> Result<Told, Stop>
-    requires moment { now ≤ 2 ^ 63 - 1 }
-    ensures answers { RequestAnswers S.tells (asked request.now) now seed (S.history disk.old) (S.history disk.new) (as_text result) }
-    ensures wrote { WroteIf S.tells (RunWrites (Some (asked request.now)) now seed) (S.history disk.old) (S.history disk.new) }
-    ensures caused { KeepsFaults S.never_fails S.faults (IsErrOf result Stop.Disk) disk.old disk.new }
+) -> Result<Answer, Stop>
+    requires moment { now ≤ LIMIT }
+    ensures answers { RequestAnswers S.tells request.now now seed
+        (S.history disk.old) (S.history disk.new) (as_said result) }
+    ensures caused { KeepsFaults S.never_fails S.faults (IsErrOf result Stop.Disk)
+        disk.old disk.new }
 {
-    let folder = match Folder::read(alloc, request.folder) {
+    let folder = match Folder::read(alloc, request.folder.as_str()) {
         Ok(folder) => folder,
         Err(FolderFault::BadFolder) => return Err(Stop::Refused(Refusal::BadFolder)),
         Err(FolderFault::Memory) => return Err(Stop::Memory),
@@ -83,34 +94,45 @@ fn carry_out<S: Store>(
     alloc: Global,
     disk: &mut S,
     env: &Env,
-    command: &Command<'_>,
-) -> Result<Told, Stop>
-    requires moment { env.now.now ≤ 2 ^ 63 - 1 }
-    ensures answers { IsTrue S.tells → CommandAnswers env.entry.now (command_asked command.now) (S.history disk.old) (S.history disk.new) (as_text result) }
-    ensures words { bad_text_of result ≡ bad_word_in (command_asked command.now) }
-    ensures folder { IsErrOf result (Stop.Refused Refusal.BadFolder) → ⊥ }
-    ensures wrote { WroteIf S.tells (CommandWrites env.entry.now (command_asked command.now)) (S.history disk.old) (S.history disk.new) }
-    ensures caused { KeepsFaults S.never_fails S.faults (IsErrOf result Stop.Disk) disk.old disk.new }
+    command: &Command,
+) -> Result<Answer, Stop>
+    requires moment { env.now.now ≤ LIMIT }
+    ensures answers { IsTrue S.tells → CommandAnswers env.entry.now command.now
+        (S.history disk.old) (S.history disk.new) (as_said result) }
+    ensures words { KeepsToWords (bad_word_of env.entry.now command.now (S.history disk.old))
+        (as_said result) }
+    ensures caused { KeepsFaults S.never_fails S.faults (IsErrOf result Stop.Disk)
+        disk.old disk.new }
 {
     match command {
-        Command::Log { bug } => Ok(Told::Text(log(alloc, disk, &env.folder, bug)?)),
-        Command::UserNew { name, email } => Ok(Told::Id(user_new(alloc, disk, env, name, email)?)),
-        Command::UserEdit { name, email } => {
-            Ok(Told::Id(user_edit(alloc, disk, env, name, email)?))
+        Command::Log { bug } => {
+            let text = log(alloc, disk, &env.folder, bug.as_str())?;
+            Ok(all_done(Told::Text(text)))
         }
-        Command::UserSet { id } => Ok(Told::Id(user_set(alloc, disk, env, id)?)),
+        Command::Edit(command) => {
+            let id = edit(alloc, disk, env, command)?;
+            Ok(all_done(Told::Id(id)))
+        }
     }
 }
 
+// What is answered where no line is a refusal.
+fn all_done(told: Told) -> Answer
+    ensures { result ≡ record { told = told; refused = 0 } }
+{
+    Answer { told, refused: 0 }
+}
+
 // Tells the text of an answer, and answers its status.
-fn tell<K: Sink>(alloc: Global, out: &mut K, outcome: Result<Told, Stop>) -> Status
-    ensures answers { Printed K.tells (text_of (as_text outcome)) (status_of (as_text outcome)) (K.written out.old) (K.written out.new) result }
+fn tell<K: Sink>(alloc: Global, out: &mut K, outcome: Result<Answer, Stop>) -> Status
+    ensures answers { Printed K.tells (text_of (as_said outcome)) (status_of (as_said outcome))
+        (K.written out.old) (K.written out.new) result }
     ensures disk { result ≡ Status.DiskFault ↔ IsErrOf outcome Stop.Disk }
-    ensures caused { KeepsFaults K.never_fails K.faults (result ≡ Status.OutFault) out.old out.new }
+    ensures caused { KeepsFaults K.never_fails K.faults (result ≡ Status.OutFault)
+        out.old out.new }
 {
     match outcome {
-        Ok(Told::Text(text)) => print(alloc, out, text.as_str().as_bytes(), Status::Done),
-        Ok(Told::Id(id)) => print(alloc, out, &id_line(&id), Status::Done),
+        Ok(answer) => tell_answer(alloc, out, answer),
         Err(Stop::Memory) => Status::Memory,
         Err(Stop::Disk) => Status::DiskFault,
         Err(Stop::Refused(refusal)) => match refusal_line(alloc, &refusal) {
@@ -122,5 +144,31 @@ fn tell<K: Sink>(alloc: Global, out: &mut K, outcome: Result<Told, Stop>) -> Sta
             ),
             Err(_) => Status::Memory,
         },
+    }
+}
+
+// Tells what a command that was done tells.
+fn tell_answer<K: Sink>(alloc: Global, out: &mut K, answer: Answer) -> Status
+    ensures answers { Printed K.tells (told_text answer.told) (status_for answer.refused)
+        (K.written out.old) (K.written out.new) result }
+    ensures disk { result ≡ Status.DiskFault → ⊥ }
+    ensures caused { KeepsFaults K.never_fails K.faults (result ≡ Status.OutFault)
+        out.old out.new }
+{
+    let status = status_for(answer.refused);
+    match answer.told {
+        Told::Text(text) => print(alloc, out, text.as_str().as_bytes(), status),
+        Told::Id(id) => print(alloc, out, &id_line(&id), status),
+    }
+}
+
+// The status of a command that was done, by the number of its lines that are refusals.
+fn status_for(refused: u64) -> Status
+    ensures { result ≡ status_for refused }
+{
+    if refused == 0 {
+        Status::Done
+    } else {
+        Status::Refused(Refusal::SomeRefused(refused))
     }
 }

@@ -1,68 +1,80 @@
 //! The command that words give.
-ghost use Rattle.std.specs.Prelude.{◌≡◌, map, string_bytes};
-ghost use Rattle.std.specs.Option.{option_map};
-ghost use Rattle.bug_run.specs.Words.{asked, command_asked, request_of, with_one, with_two};
+ghost use Rattle.std.specs.Prelude.{◌≡◌, IfOk, OnErr, IsSome, map, string_bytes};
+ghost use Rattle.bug_run.specs.Words.{request_of, with_one, with_two};
+
+use gb_text::{Memory, Text};
+use repo_steps::Edit;
+use std::alloc::Global;
 
 /// A command, with its arguments.
-#[derive(Clone, Copy, Debug)]
-pub enum Command<'a> {
+#[derive(Debug, Drop)]
+pub enum Command {
     /// The log of the bug with this id.
-    Log { bug: &'a str },
-    /// A new identity with this name and email.
-    UserNew { name: &'a str, email: &'a str },
-    /// A new version of the user, with this name and email.
-    UserEdit { name: &'a str, email: &'a str },
-    /// The identity with this id becomes the user.
-    UserSet { id: &'a str },
+    Log { bug: Text },
+    /// An edit of the folder.
+    Edit(Edit),
 }
 
 /// A command, and the word of the folder that it is for.
-#[derive(Clone, Copy, Debug)]
-pub struct Request<'a> {
-    pub folder: &'a str,
-    pub command: Command<'a>,
+#[derive(Debug, Drop)]
+pub struct Request {
+    pub folder: Text,
+    pub command: Command,
 }
 
 /// What the words ask: a folder, the name of a command, and as many arguments as the command has.
 /// None where they give no command. All words but the name are taken as they stand.
-pub fn read_words(words: &[String]) -> Option<Request<'_>>
-    ensures { option_map asked result ≡ request_of (map string_bytes words.now) }
+pub fn read_words(alloc: Global, words: &[String]) -> Result<Option<Request>, Memory>
+    ensures read { IfOk result (λ asked. asked ≡ request_of (map string_bytes words.now)) }
+    ensures memory { OnErr result (IsSome (request_of (map string_bytes words.now))) }
 {
     let (folder, command) = match words {
-        [folder, name, one] => (folder, with_one(name.as_str(), one.as_str())?),
-        [folder, name, one, two] => (folder, with_two(name.as_str(), one.as_str(), two.as_str())?),
-        _ => return None,
+        [folder, name, one] => (folder, with_one(alloc, name.as_str(), one.as_str())?),
+        [folder, name, one, two] => {
+            (
+                folder,
+                with_two(alloc, name.as_str(), one.as_str(), two.as_str())?,
+            )
+        }
+        _ => return Ok(None),
     };
-    Some(Request {
-        folder: folder.as_str(),
-        command,
-    })
+    let Some(command) = command else {
+        return Ok(None);
+    };
+    let folder = Text::from_str(alloc, folder.as_str())?;
+    Ok(Some(Request { folder, command }))
 }
 
 // The command of this name that has one argument.
-fn with_one<'a>(name: &str, one: &'a str) -> Option<Command<'a>>
-    ensures { option_map command_asked result ≡ with_one name.now one.now }
+fn with_one(alloc: Global, name: &str, one: &str) -> Result<Option<Command>, Memory>
+    ensures read { IfOk result (λ command. command ≡ with_one name.now one.now) }
+    ensures memory { OnErr result (IsSome (with_one name.now one.now)) }
 {
     match name {
-        "log" => Some(Command::Log { bug: one }),
-        "user-set" => Some(Command::UserSet { id: one }),
-        _ => None,
+        "log" => Ok(Some(Command::Log {
+            bug: Text::from_str(alloc, one)?,
+        })),
+        "user-set" => Ok(Some(Command::Edit(Edit::UserSet {
+            id: Text::from_str(alloc, one)?,
+        }))),
+        _ => Ok(None),
     }
 }
 
 // The command of this name that has two arguments.
-fn with_two<'a>(name: &str, one: &'a str, two: &'a str) -> Option<Command<'a>>
-    ensures { option_map command_asked result ≡ with_two name.now one.now two.now }
+fn with_two(alloc: Global, name: &str, one: &str, two: &str) -> Result<Option<Command>, Memory>
+    ensures read { IfOk result (λ command. command ≡ with_two name.now one.now two.now) }
+    ensures memory { OnErr result (IsSome (with_two name.now one.now two.now)) }
 {
     match name {
-        "user-new" => Some(Command::UserNew {
-            name: one,
-            email: two,
-        }),
-        "user-edit" => Some(Command::UserEdit {
-            name: one,
-            email: two,
-        }),
-        _ => None,
+        "user-new" => Ok(Some(Command::Edit(Edit::UserNew {
+            name: Text::from_str(alloc, one)?,
+            email: Text::from_str(alloc, two)?,
+        }))),
+        "user-edit" => Ok(Some(Command::Edit(Edit::UserEdit {
+            name: Text::from_str(alloc, one)?,
+            email: Text::from_str(alloc, two)?,
+        }))),
+        _ => Ok(None),
     }
 }

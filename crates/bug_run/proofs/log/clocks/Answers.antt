@@ -4,7 +4,7 @@ use Rattle.std.specs.declared.alloc.Global.{Global}
 use Rattle.gb_store.specs.Files.{History, files_of}
 use Rattle.gb_store.proofs.FaultLemmas.{KeepsFaults_then}
 use Rattle.object_store.specs.Held.{objects_in}
-use Rattle.commit_chain.specs.Objects.{tree_at}
+use Rattle.object_store.specs.Typed.{tree_at}
 use Rattle.op_pack.specs.Heads.{edit_clock_of}
 use Rattle.bug_run.specs.Log.{Clocked, HasPack}
 use Rattle.bug_run.specs.Answers.{ClockAnswers, ClocksAnswers}

@@ -1,15 +1,55 @@
-use Rattle.std.proofs.Common.{rules}
-use Rattle.gb_store.proofs.FaultLemmas.{KeepsFaults_as}
-use Rattle.bug_run.proofs.SoundLemmas.{run_stays_sound}
+use Rattle.std.proofs.Common.{◌≡◌, rules, ℕ, List, Some, None, map, string_bytes, refl, subst}
+use Rattle.gb_store.proofs.MomentLemmas.{Wrote-none}
+use Rattle.bug_run.specs.Printed.{Printed}
+use Rattle.bug_run.specs.Refusals.{usage_text}
+use Rattle.bug_run.specs.Run.{RequestAnswers, RunWrites, call_of, moment}
+use Rattle.bug_run.specs.Told.{as_said}
+use Rattle.bug_run.specs.Words.{request_of}
+use Rattle.bug_run.specs.declared.status.Status.TheVariants as status
+use Rattle.bug_run.proofs.RunLemmas.{answered, run_stays_sound, run_wrote, unasked, unread}
 use Rattle.bug_run.proofs.top.run.Goals as goal
 
-pub returns-clause-wrote : goal.returns-clause-wrote
-returns-clause-wrote g c = search rules
+pub returns-in-Ok-Some-clause-answers : goal.returns-in-Ok-Some-clause-answers
+returns-in-Ok-Some-clause-answers g c =
+    let old = g.S.Store.history c.args.disk.now in
+    let new = g.S.Store.history c.perform-outcome.new.disk in
+    let request = c.in-Ok-Some.request in
+    let said = as_said c.perform-outcome.result in
+    let is : request_of (map string_bytes c.args.words.now) ≡ Some request = search rules in
+    let value : c.moment_of.result ≡ moment c.args.now = search rules in
+    answered (call_of g.S.Store.tells g.K.Sink.tells (map string_bytes c.args.words.now) c.args.now c.args.seed) request old new
+    (g.K.Sink.written c.args.out.now) (g.K.Sink.written c.tell.new.out) c.tell.result said is
+    (subst (λ (n : ℕ). RequestAnswers g.S.Store.tells request n c.args.seed old new said) value c.perform-outcome.ensures.answers)
+    c.tell.ensures.answers
 
-pub returns-clause-sound : goal.returns-clause-sound
-returns-clause-sound g c = λ tells.
-    run_stays_sound _ _ _ (g.S.Store.history c.args.disk.now) (g.S.Store.history c.perform-outcome.new.disk) ((returns-clause-wrote g c).wrote tells)
+pub returns-in-Ok-Some-clause-wrote : goal.returns-in-Ok-Some-clause-wrote
+returns-in-Ok-Some-clause-wrote g c = record {
+  wrote = λ tells.
+      run_wrote (call_of g.S.Store.tells g.K.Sink.tells (map string_bytes c.args.words.now) c.args.now c.args.seed) (g.S.Store.history c.args.disk.now)
+      (g.S.Store.history c.perform-outcome.new.disk) (g.K.Sink.written c.args.out.now) (g.K.Sink.written c.tell.new.out) c.tell.result tells
+      (returns-in-Ok-Some-clause-answers g c);
+}
 
-pub returns-clause-disk : goal.returns-clause-disk
-returns-clause-disk g c =
-    KeepsFaults_as g.S.Store.never_fails g.S.Store.faults _ _ c.args.disk.now c.perform-outcome.new.disk c.perform-outcome.ensures.caused c.tell.ensures.disk.0 c.tell.ensures.disk.1
+pub returns-in-Ok-Some-clause-sound : goal.returns-in-Ok-Some-clause-sound
+returns-in-Ok-Some-clause-sound g c = λ tells.
+    run_stays_sound (request_of (map string_bytes c.args.words.now)) (g.S.Store.history c.args.disk.now) (g.S.Store.history c.perform-outcome.new.disk)
+    ((returns-in-Ok-Some-clause-wrote g c).wrote tells)
+
+pub returns-in-Ok-None-clause-answers : goal.returns-in-Ok-None-clause-answers
+returns-in-Ok-None-clause-answers g c =
+    let none : request_of (map string_bytes c.args.words.now) ≡ None = search rules in
+    let text : c.as_bytes.result.now ≡ usage_text = search rules in
+    unasked (call_of g.S.Store.tells g.K.Sink.tells (map string_bytes c.args.words.now) c.args.now c.args.seed) (g.S.Store.history c.args.disk.now)
+    (g.K.Sink.written c.args.out.now) (g.K.Sink.written c.print.new.out) c.print.result none
+    (subst (λ (t : List ℕ). Printed g.K.Sink.tells t status.Usage (g.K.Sink.written c.args.out.now) (g.K.Sink.written c.print.new.out) c.print.result) text c.print.ensures.printed)
+
+pub returns-in-Err-clause-answers : goal.returns-in-Err-clause-answers
+returns-in-Err-clause-answers g c =
+    unread (call_of g.S.Store.tells g.K.Sink.tells (map string_bytes c.args.words.now) c.args.now c.args.seed) (g.S.Store.history c.args.disk.now)
+    (g.K.Sink.written c.args.out.now) c.in-Err.ensures.memory
+
+pub returns-in-Err-clause-sound : goal.returns-in-Err-clause-sound
+returns-in-Err-clause-sound g c = λ tells.
+    let old = g.S.Store.history c.args.disk.now in
+    let asked = request_of (map string_bytes c.args.words.now) in
+    run_stays_sound asked old old (Wrote-none (RunWrites asked) old old refl)
