@@ -1,0 +1,36 @@
+//! The status that the program ends with.
+ghost use Rattle.std.specs.Prelude.{◌≡◌};
+ghost use Rattle.std.specs.Process.{exit_status};
+ghost use Rattle.gitbug_edge.specs.Exit.{exit_number, started_number};
+
+use bug_run::Status;
+use std::io;
+use std::process::ExitCode;
+
+/// What the program ends with: the number of the status of its run, or 6 where the words, the clock or the random bytes
+/// could not be had.
+pub fn exit_code(started: &io::Result<Status>) -> ExitCode
+    ensures { exit_status result ≡ started_number started.now }
+{
+    match started {
+        Ok(status) => ExitCode::from(exit_number(status)),
+        Err(_) => ExitCode::from(NOT_STARTED),
+    }
+}
+
+// The number where a run could not be started.
+const NOT_STARTED: u8 = 6;
+
+// The number of a status.
+fn exit_number(status: &Status) -> u8
+    ensures { result ≡ exit_number status.now }
+{
+    match status {
+        Status::Done => 0,
+        Status::Refused(_) => 1,
+        Status::Usage => 2,
+        Status::DiskFault => 3,
+        Status::Memory => 4,
+        Status::OutFault => 5,
+    }
+}

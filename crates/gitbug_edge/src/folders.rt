@@ -1,0 +1,228 @@
+//! The real folders of a run: what stands in them, and what is put.
+ghost use Rattle.std.specs.Prelude.{◌≡◌, ℕ, List, IfOk, IfErr};
+ghost use Rattle.std.specs.Cmp.Lexicographic.{slice_cmp};
+ghost use Rattle.std.specs.IoError.{error_kind};
+ghost use Rattle.std.specs.List.Sorted.{IsStrictlySortedBy};
+ghost use Rattle.std.specs.Ordering.{nat_cmp};
+ghost use Rattle.gb_store.specs.Files.{IsWithin};
+
+use crate::claim::{Claim, Purpose};
+use crate::disk;
+use crate::lock::{Locking, Locks};
+use crate::place::{Kind, folder_of};
+use crate::settled::Settled;
+use crate::unsynced::Unsynced;
+use crate::ways::Ways;
+use gb_store::Content;
+use gb_text::{Name, Text, without_line_end};
+use std::alloc::Global;
+use std::collections::BTreeSet;
+use std::io;
+use std::io::ErrorKind;
+use std::rt::Files;
+
+/// The folders that the words name, and what a run knows of them.
+#[derive(Drop)]
+pub struct Folders {
+    claims: Vec<Claim>,
+    locks: Locks,
+    ways: Ways,
+    unsynced: Unsynced,
+    settled: Settled,
+    cleaned: BTreeSet<String>,
+}
+
+impl Folders {
+    /// The folders that are claimed, of which nothing is known. Takes no memory.
+    pub fn new(alloc: Global, claims: Vec<Claim>) -> Folders {
+        Folders {
+            claims,
+            locks: Locks::none(alloc),
+            ways: Ways::new(alloc),
+            unsynced: Unsynced::new(alloc),
+            settled: Settled::new(alloc),
+            cleaned: BTreeSet::new(alloc),
+        }
+    }
+
+    /// What stands at a path.
+    pub fn read<R: Locking>(
+        &mut self,
+        rt: &R,
+        alloc: Global,
+        path: &str,
+        limit: u64,
+    ) -> io::Result<Content>
+        ensures within { IfOk result (IsWithin limit) }
+    {
+        self.locks.take(rt, alloc, &self.claims)?;
+        let claim = claim_of(&self.claims, path)?;
+        if !self.ways.stands(rt, alloc, claim, folder_of(path))? {
+            return Ok(Content::Absent);
+        }
+        let content = disk::read(rt, alloc, path, limit)?;
+        if claim.purpose == Purpose::Write && Kind::of(path) == Kind::Other {
+            self.note_found(rt, alloc, path, &content)?;
+        }
+        Ok(content)
+    }
+
+    /// The names of the plain files right in a folder.
+    pub fn list<R: Locking + AllocGlobal + Clone + Drop>(
+        &mut self,
+        rt: &R,
+        alloc: Global,
+        dir: &str,
+    ) -> io::Result<Vec<Text>>
+        ensures { IfOk result (λ names. IsStrictlySortedBy (slice_cmp nat_cmp) names.items) }
+    {
+        self.locks.take(rt, alloc, &self.claims)?;
+        let claim = claim_of(&self.claims, dir)?;
+        if !self.ways.stands(rt, alloc, claim, dir)? {
+            return Ok(Vec::new(alloc));
+        }
+        disk::list(rt, alloc, dir)
+    }
+
+    /// Puts a file. One that may name objects does not reach the disk before them, and has reached it afterwards.
+    pub fn put<R: Locking + AllocGlobal + Clone + Drop>(
+        &mut self,
+        rt: &R,
+        alloc: Global,
+        path: &str,
+        bytes: &[u8],
+    ) -> io::Result<()> {
+        let kind = Kind::of(path);
+        let folder = folder_of(path);
+        self.locks.take(rt, alloc, &self.claims)?;
+        let claim = claim_of(&self.claims, path)?;
+        self.ways
+            .enter(rt, alloc, claim, folder, &mut self.unsynced)?;
+        self.clean(rt, alloc, folder)?;
+        self.prepare(rt, alloc, kind, path, bytes)?;
+        let done = disk::put(rt, alloc, folder, path, bytes);
+        if done.is_err() {
+            self.settled.forget(path);
+        }
+        done?;
+        self.sync_written(rt, alloc, kind)
+    }
+
+    /// Removes a file, and has that reach the disk as a put does.
+    pub fn remove<R: Locking>(&mut self, rt: &R, alloc: Global, path: &str) -> io::Result<()> {
+        let kind = Kind::of(path);
+        let folder = folder_of(path);
+        self.locks.take(rt, alloc, &self.claims)?;
+        let claim = claim_of(&self.claims, path)?;
+        if !self.ways.stands(rt, alloc, claim, folder)? {
+            return Ok(());
+        }
+        if kind == Kind::Other {
+            self.unsynced.add(alloc, folder)?;
+        }
+        if !disk::remove(rt, path)? {
+            return Ok(());
+        }
+        self.sync_written(rt, alloc, kind)
+    }
+
+    /// Removes the folders that were made for this run's locks and have stayed empty.
+    pub fn leave<R: Files>(&mut self, rt: &R) {
+        self.locks.leave(rt);
+    }
+
+    // What was found at a path may be named by what is put later. It stands, but whether its folder has reached the disk
+    // nobody knows. What a ref names reached the disk before the ref stood.
+    fn note_found<R: Files>(
+        &mut self,
+        rt: &R,
+        alloc: Global,
+        path: &str,
+        content: &Content,
+    ) -> io::Result<()> {
+        let Content::Whole(text) = content else {
+            return Ok(());
+        };
+        let claim = claim_of(&self.claims, path)?;
+        let folder = folder_of(path);
+        self.ways
+            .enter(rt, alloc, claim, folder, &mut self.unsynced)?;
+        self.unsynced.add(alloc, folder)?;
+        match head_in(text.as_slice()) {
+            Some(head) => self.settled.add_head(alloc, claim, &head),
+            None => Ok(()),
+        }
+    }
+
+    // Has what a file may name reach the disk before it is put. An object names what no ref leads to yet, which may wait.
+    fn prepare<R: Files>(
+        &mut self,
+        rt: &R,
+        alloc: Global,
+        kind: Kind,
+        path: &str,
+        bytes: &[u8],
+    ) -> io::Result<()> {
+        let claim = claim_of(&self.claims, path)?;
+        match kind {
+            Kind::Row => return Ok(()),
+            Kind::Object => self.settled.add_put(alloc, claim, path, bytes)?,
+            Kind::Other => {
+                if let Some(head) = head_in(bytes) {
+                    self.settled.settle(
+                        rt,
+                        alloc,
+                        claim,
+                        &head,
+                        &mut self.ways,
+                        &mut self.unsynced,
+                    )?;
+                }
+                self.unsynced.sync(rt, alloc, &self.claims)?;
+            }
+        }
+        Ok(self.unsynced.add(alloc, folder_of(path))?)
+    }
+
+    // Removes what killed runs left in a folder, once. A run that may not be alone leaves it.
+    fn clean<R: Files + AllocGlobal + Clone + Drop>(
+        &mut self,
+        rt: &R,
+        alloc: Global,
+        folder: &str,
+    ) -> io::Result<()> {
+        if !self.locks.are_alone() || self.cleaned.contains(folder) {
+            return Ok(());
+        }
+        self.cleaned.insert(String::from_str(alloc, folder)?)?;
+        disk::remove_temporaries(rt, folder)
+    }
+
+    // Has what was written reach the disk, but for what may wait. The write was made, so no error is want of memory.
+    fn sync_written<R: Files>(&mut self, rt: &R, alloc: Global, kind: Kind) -> io::Result<()>
+        ensures failed { IfErr result (λ e. error_kind e ≡ ErrorKind.Other) }
+    {
+        if kind != Kind::Other {
+            return Ok(());
+        }
+        match self.unsynced.sync(rt, alloc, &self.claims) {
+            Ok(()) => Ok(()),
+            Err(_) => Err(io::Error::from(ErrorKind::Other)),
+        }
+    }
+}
+
+// The object that the text of a ref names.
+fn head_in(text: &[u8]) -> Option<Name> {
+    Name::read(without_line_end(text))
+}
+
+// The folder that the words name and below which a path lies. No other path is read or written.
+fn claim_of<'a>(claims: &'a [Claim], path: &str) -> io::Result<&'a Claim> {
+    for claim in claims {
+        if claim.covers(path) {
+            return Ok(claim);
+        }
+    }
+    Err(io::Error::from(ErrorKind::PermissionDenied))
+}

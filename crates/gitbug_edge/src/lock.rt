@@ -1,0 +1,185 @@
+//! The locks of a run on the folders that its words name.
+use crate::again::again;
+use crate::claim::{Claim, Purpose};
+use crate::disk;
+use crate::ways::front_at;
+use std::alloc::Global;
+use std::fs::{File, Metadata, TryLockError};
+use std::io::ErrorKind;
+use std::random::RandomSource;
+use std::rt::{Clock, Files};
+use std::time::Duration;
+use std::{fs, io, thread};
+
+// How often the locks are tried, and what is waited between two tries at least and at most. It is half a minute in all.
+const TRIES: u32 = 3_000;
+
+const PAUSE_MICROS: u64 = 5_000;
+
+const MORE_PAUSE_MICROS: u64 = 10_000;
+
+/// What the locks of a run need of the system.
+pub trait Locking: Files<File = File> + Clock + RandomSource {}
+
+impl<R: Files<File = File> + Clock + RandomSource> Locking for R {}
+
+/// The open folders on which a run holds a lock, until it ends in whatever way.
+#[derive(Drop)]
+pub struct Locks {
+    held: Vec<Held>,
+    made: Vec<String>,
+    is_complete: bool,
+    is_locked: bool,
+}
+
+// An open folder, and which one it is.
+#[derive(Drop)]
+struct Held {
+    entry: Metadata,
+    _folder: File,
+}
+
+impl Locks {
+    /// No lock. Takes no memory.
+    pub fn none(alloc: Global) -> Locks {
+        Locks {
+            held: Vec::new(alloc),
+            made: Vec::new(alloc),
+            is_complete: false,
+            is_locked: false,
+        }
+    }
+
+    /// Whether no other run is at work in the folders in which this one writes.
+    pub fn are_alone(&self) -> bool {
+        self.is_complete && self.is_locked
+    }
+
+    /// Takes the lock of each folder that stands, and makes the folders in which the run writes. All locks are taken at once
+    /// or none, so that two runs over the same two folders don't wait for each other. Once all are held nothing is done.
+    pub fn take<R: Locking>(&mut self, rt: &R, alloc: Global, claims: &[Claim]) -> io::Result<()> {
+        if self.is_complete {
+            return Ok(());
+        }
+        for _ in 0..TRIES {
+            if self.try_all(rt, alloc, claims)? {
+                return Ok(());
+            }
+            pause(rt)?;
+        }
+        Err(io::Error::from(ErrorKind::WouldBlock))
+    }
+
+    /// Removes the folders that were made for a lock and are empty still.
+    pub fn leave<R: Files>(&mut self, rt: &R) {
+        for _ in 0..self.made.len() {
+            if let Some(folder) = self.made.pop() {
+                let _ = fs::remove_dir(rt, folder.as_str());
+            }
+        }
+    }
+
+    // Takes all locks, or none where another run holds one. Folders to be written come first, so that a folder that two
+    // words name is locked for both.
+    fn try_all<R: Locking>(&mut self, rt: &R, alloc: Global, claims: &[Claim]) -> io::Result<bool> {
+        self.held.clear();
+        self.is_complete = true;
+        self.is_locked = true;
+        for purpose in [Purpose::Write, Purpose::Read] {
+            for claim in claims {
+                if claim.purpose == purpose && !self.try_one(rt, alloc, claim)? {
+                    self.held.clear();
+                    self.is_complete = false;
+                    return Ok(false);
+                }
+            }
+        }
+        Ok(true)
+    }
+
+    // Takes the lock of a folder, and says whether no other run holds it.
+    fn try_one<R: Locking>(&mut self, rt: &R, alloc: Global, claim: &Claim) -> io::Result<bool> {
+        let Some(folder) = self.open(rt, alloc, claim)? else {
+            self.is_complete = false;
+            return Ok(true);
+        };
+        let entry = again(|| folder.metadata())?;
+        if self
+            .held
+            .iter()
+            .any(|held| disk::is_same(&held.entry, &entry))
+        {
+            return Ok(true);
+        }
+        match try_lock(&folder, claim.purpose) {
+            Ok(()) => {}
+            Err(TryLockError::WouldBlock) => return Ok(false),
+            // The file system has no locks.
+            Err(TryLockError::Error(_)) => self.is_locked = false,
+        }
+        let still = disk::target_at(rt, claim.path())?;
+        if !still.is_some_and(|still| disk::is_same(&still, &entry)) {
+            return Ok(false);
+        }
+        self.held.push(Held {
+            entry,
+            _folder: folder,
+        })?;
+        Ok(true)
+    }
+
+    // Opens a folder. Where it is to be written and is missing, it is made.
+    fn open<R: Files<File = File>>(
+        &mut self,
+        rt: &R,
+        alloc: Global,
+        claim: &Claim,
+    ) -> io::Result<Option<File>> {
+        let found = disk::open_folder(rt, alloc, claim.path())?;
+        if found.is_some() || claim.purpose == Purpose::Read {
+            return Ok(found);
+        }
+        match self.make(rt, alloc, claim.path()) {
+            Err(e) if e.kind() == ErrorKind::OutOfMemory => Err(e),
+            Err(_) => Ok(None),
+            Ok(()) => disk::open_folder(rt, alloc, claim.path()),
+        }
+    }
+
+    // Makes a folder with those above it.
+    fn make<R: Files>(&mut self, rt: &R, alloc: Global, folder: &str) -> io::Result<()> {
+        for end in 0..folder.len() {
+            if let Some(front) = front_at(folder, end) {
+                self.make_one(rt, alloc, front)?;
+            }
+        }
+        self.make_one(rt, alloc, folder)
+    }
+
+    fn make_one<R: Files>(&mut self, rt: &R, alloc: Global, folder: &str) -> io::Result<()> {
+        if disk::target_at(rt, folder)?.is_some() {
+            return Ok(());
+        }
+        let name = String::from_str(alloc, folder)?;
+        if disk::make_folder(rt, folder)? {
+            self.made.push(name)?;
+        }
+        Ok(())
+    }
+}
+
+fn try_lock(folder: &File, purpose: Purpose) -> Result<(), TryLockError> {
+    match purpose {
+        Purpose::Read => folder.try_lock_shared(),
+        Purpose::Write => folder.try_lock(),
+    }
+}
+
+// Waits a little, for another time each time.
+fn pause<R: Locking>(rt: &R) -> io::Result<()> {
+    let mut bytes = [0u8; 8];
+    again(|| rt.fill_bytes(&mut bytes))?;
+    let more = u64::from_le_bytes(bytes) % MORE_PAUSE_MICROS;
+    thread::sleep(rt, Duration::from_micros(PAUSE_MICROS + more));
+    Ok(())
+}
