@@ -325,14 +325,14 @@ fn stopped(alloc: Global, call: u64, after: bool) -> Result<(u8, u8, usize), Fai
 #[test]
 fn a_failed_call_stops_an_edit(rt: HostRuntime) -> Result<(), Fail> {
     let alloc = rt.alloc();
-    for call in 0..13 {
-        let refused = if call < 11 { DONE } else { REFUSED };
+    for call in 0..10 {
+        let refused = if call < 8 { DONE } else { REFUSED };
         assert_eq!(rt;
             stopped(alloc, call, false)?,
-            (DISK_FAULT, if call < 12 { DONE } else { REFUSED }, 1)
+            (DISK_FAULT, if call < 9 { DONE } else { REFUSED }, 1)
         );
         assert_eq!(rt; stopped(alloc, call, true)?, (DISK_FAULT, refused, 1));
     }
-    assert_eq!(rt; stopped(alloc, 13, false)?.0, DONE);
+    assert_eq!(rt; stopped(alloc, 10, false)?.0, DONE);
     Ok(())
 }
