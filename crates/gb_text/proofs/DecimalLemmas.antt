@@ -14,11 +14,13 @@ use Rattle.gb_text.specs.Decimal.{IsDecimal, decimal_of}
 by_value : IsNumeralModel (AllDigits 10) (digits_value 10)
 by_value = record { to = λ ds are. are; from = λ ds are. are; same = λ ds are. refl }
 
+-- what reads as a number is its decimal
 pub decimal_of-is : (text : List ℕ) (n : ℕ) → decimal_of text ≡ Some n → IsDecimal text n
 decimal_of-is text n e =
     let facts : (n < 2 ^ 64) × (text ≡ decimal n) = grind (arith, common_steps, bytes_eq-Decides (decimal (digits_value 10 text)) text) in
     record { below = facts.0; prints = facts.1 }
 
+-- a decimal reads as its number
 pub decimal_of-decimal : (text : List ℕ) (n : ℕ) → IsDecimal text n → decimal_of text ≡ Some n
 decimal_of-decimal text n is =
     let value : digits_value 10 (decimal n) ≡ n = digits_value-decimal by_value n is.below in

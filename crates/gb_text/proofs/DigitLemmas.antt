@@ -1,5 +1,5 @@
 -- Digits of bytes read back, and only digits read.
-use Rattle.std.proofs.Common.{◌≡◌, ◌≢◌, ℕ, ◌*◌, cond, List, length, Option, Some, None, Result, Ok, Err, refl, sym, ◌∙◌, ap, arith}
+use Rattle.std.proofs.Common.{◌≡◌, ℕ, ◌*◌, cond, List, length, Option, Some, None, Result, Ok, Err, refl, sym, ◌∙◌, ap, arith}
 use Rattle.std.proofs.lemmas.Grind.{common_steps}
 use Rattle.std.proofs.lemmas.Slice.Eq.{bytes_eq-Decides}
 use Rattle.std.specs.Option.{option_and_then, option_map}
@@ -19,9 +19,6 @@ printed_as-is n text bytes found e = grind (arith, common_steps, bytes_eq-Decide
 printed_as-self : (n : ℕ) (bytes : List ℕ) → length bytes ≡ n → printed_as n (encode_lower bytes) bytes ≡ Some bytes
 printed_as-self n bytes e = grind (arith, common_steps, bytes_eq-Decides (encode_lower bytes) (encode_lower bytes))
 
-printed_as-other : (n : ℕ) (text bytes : List ℕ) → length bytes ≢ n → printed_as n text bytes ≡ None
-printed_as-other n text bytes other = grind (arith, common_steps)
-
 -- the digits of n bytes read as these
 pub bytes_of_digits-encode_lower : (n : ℕ) (bytes : List ℕ) → length bytes ≡ n → IsBytes bytes → bytes_of_digits n (encode_lower bytes) ≡ Some bytes
 bytes_of_digits-encode_lower n bytes sized are =
@@ -29,7 +26,7 @@ bytes_of_digits-encode_lower n bytes sized are =
     ∙ printed_as-self n bytes sized
 
 -- what reads is n bytes, and the text is their digits
-pub bytes_of_digits-is : (n : ℕ) (text bytes : List ℕ) → bytes_of_digits n text ≡ Some bytes
+bytes_of_digits-is : (n : ℕ) (text bytes : List ℕ) → bytes_of_digits n text ≡ Some bytes
     → (length bytes ≡ n) × IsBytes bytes × (text ≡ encode_lower bytes)
 bytes_of_digits-is n text bytes e = each (decode_of text) refl
   where
@@ -104,10 +101,6 @@ pub name_digits-same : (one two : Name) → IsName one → IsName two → encode
 name_digits-same one two first second e =
     let same : Some one ≡ Some two = sym (name_of-encode_lower one first) ∙ ap name_of e ∙ name_of-encode_lower two second in
     cc
-
--- an id has 64 digits
-pub id_digits-sized : (id : Id) → IsId id → length (encode_lower id.bytes) ≡ 64
-id_digits-sized id is = length-encode_with lower_digits id.bytes ∙ ap (λ (n : ℕ). 2 * n) is.sized
 
 -- a name has 40 digits
 pub name_digits-sized : (name : Name) → IsName name → length (encode_lower name.bytes) ≡ 40

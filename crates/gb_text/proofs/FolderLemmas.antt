@@ -7,12 +7,7 @@ use Rattle.std.proofs.lemmas.List.{map-append}
 use Rattle.std.specs.List.{join_with_byte}
 use Rattle.gb_text.specs.Folder.{counts}
 
--- the first part stands alone, and each further one behind a byte
-pub join_with_byte-first : (c : ℕ) (xs : List (List ℕ)) (x : List ℕ) → length xs ≡ 0 → join_with_byte c (xs ++ x ∷ []) ≡ x
-join_with_byte-first c [] x e = refl
-join_with_byte-first c (y ∷ ys) x e = cc e
-
-pub join_with_byte-more : (c : ℕ) (xs : List (List ℕ)) (x : List ℕ) → 0 < length xs → join_with_byte c (xs ++ x ∷ []) ≡ join_with_byte c xs ++ c ∷ x
+join_with_byte-more : (c : ℕ) (xs : List (List ℕ)) (x : List ℕ) → 0 < length xs → join_with_byte c (xs ++ x ∷ []) ≡ join_with_byte c xs ++ c ∷ x
 join_with_byte-more c [] x lt = absurd (omega (arith, lt))
 join_with_byte-more c (y ∷ []) x lt = refl
 join_with_byte-more c (y ∷ z ∷ zs) x lt =
@@ -52,6 +47,7 @@ joined-more root (y ∷ ys) x first e =
     ∙ append_assoc root (join_with_byte 47 (y ∷ ys)) (47 ∷ x)
     ∙ ap (λ (t : List ℕ). root ++ t) (sym (join_with_byte-more 47 (y ∷ ys) x (omega arith)))
 
+-- a list with one part more has some
 pub length-push : (xs : List (List ℕ)) (x : List ℕ) → (length (xs ++ x ∷ []) == 0) ≡ false
 length-push [] x = refl
 length-push (y ∷ ys) x = grind (arith, common_steps)

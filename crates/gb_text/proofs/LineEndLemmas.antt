@@ -20,7 +20,7 @@ AllDigits-drop (suc k) [] all = tt
 AllDigits-drop (suc k) (c ∷ cs) all = AllDigits-drop k cs all.1
 
 -- digits end in no line feed
-pub line_of-digits : (text : List ℕ) → AllDigits 10 text → line_of text ≡ text
+line_of-digits : (text : List ℕ) → AllDigits 10 text → line_of text ≡ text
 line_of-digits text all = each (bytes_eq (drop (length text - 1) text) (10 ∷ [])) refl
   where
     each : (b : Bool) → bytes_eq (drop (length text - 1) text) (10 ∷ []) ≡ b → cond b (take (length text - 1) text) text ≡ text

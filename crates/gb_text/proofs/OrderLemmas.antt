@@ -30,9 +30,6 @@ digit-is (suc (suc (suc (suc (suc (suc (suc (suc (suc (suc (suc (suc (suc (suc z
 digit-is (suc (suc (suc (suc (suc (suc (suc (suc (suc (suc (suc (suc (suc (suc (suc zero))))))))))))))) lt = refl
 digit-is (suc (suc (suc (suc (suc (suc (suc (suc (suc (suc (suc (suc (suc (suc (suc (suc n)))))))))))))))) lt = absurd (omega arith)
 
-digit-less : (m n : ℕ) → m < 16 → n < 16 → m < n → digit m < digit n
-digit-less m n a b lt = grind (arith, nat_tests, digit-is m a, digit-is n b)
-
 digit-order : (m n : ℕ) → m < 16 → n < 16 → nat_cmp (digit m) (digit n) ≡ nat_cmp m n
 digit-order m n a b = grind (arith, nat_tests, digit-is m a, digit-is n b)
 

@@ -13,7 +13,7 @@ abbrev pub agree : List (List ℕ) → List (List ℕ) → Bool
 agree xs ys = list_all (λ (pair : List ℕ × List ℕ). bytes_eq pair.0 pair.1) (zip xs ys)
 
 -- lists that agree, one of which begins with the other
-pub fronts_of_agree : (xs ys : List (List ℕ)) → agree xs ys ≡ true → IsFront xs ys ⊎ IsFront ys xs
+fronts_of_agree : (xs ys : List (List ℕ)) → agree xs ys ≡ true → IsFront xs ys ⊎ IsFront ys xs
 fronts_of_agree [] ys e = inl (ys, refl)
 fronts_of_agree (x ∷ xs) [] e = inr (x ∷ xs, refl)
 fronts_of_agree (x ∷ xs) (y ∷ ys) e = more (fronts_of_agree xs ys (and_parts (bytes_eq x y) (agree xs ys) e).1)
@@ -34,12 +34,14 @@ agree_of_back [] [] = refl
 agree_of_back [] (y ∷ rest) = refl
 agree_of_back (x ∷ xs) rest = let later = agree_of_back xs rest in grind (arith, common_steps, bytes_eq-Decides x x)
 
-pub agree_of_fronts : (xs ys : List (List ℕ)) → IsFront xs ys ⊎ IsFront ys xs → agree xs ys ≡ true
+agree_of_fronts : (xs ys : List (List ℕ)) → IsFront xs ys ⊎ IsFront ys xs → agree xs ys ≡ true
 agree_of_fronts xs ys (inl front) = ap (agree xs) front.1 ∙ agree_of_front xs front.0
 agree_of_fronts xs ys (inr front) = ap (λ (zs : List (List ℕ)). agree zs ys) front.1 ∙ agree_of_back ys front.0
 
+-- folders whose steps agree as far as both go overlap
 pub Overlap-from_agree : (one two : List ℕ) → is_rooted one ≡ is_rooted two → agree (steps_of one) (steps_of two) ≡ true → Overlap one two
 Overlap-from_agree one two same e = record { same_root = same; front = fronts_of_agree (steps_of one) (steps_of two) e }
 
+-- the steps of folders that overlap agree as far as both go
 pub agree-Overlap : (one two : List ℕ) → Overlap one two → agree (steps_of one) (steps_of two) ≡ true
 agree-Overlap one two over = agree_of_fronts (steps_of one) (steps_of two) over.front

@@ -32,7 +32,7 @@ abbrev pub NoSlash : List ℕ → Type 0
 NoSlash text = list_any (λ c. c == 47) text ≡ false
 
 -- a text without a slash is one part
-pub parts_of-no_slash : (text : List ℕ) → NoSlash text → parts_of text ≡ text ∷ []
+parts_of-no_slash : (text : List ℕ) → NoSlash text → parts_of text ≡ text ∷ []
 parts_of-no_slash [] none = refl
 parts_of-no_slash (c ∷ cs) none =
     let here = or_parts (c == 47) (list_any (λ d. d == 47) cs) none in

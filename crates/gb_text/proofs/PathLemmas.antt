@@ -10,7 +10,7 @@ use Rattle.gb_text.specs.Overlap.{Overlap, IsFront, steps_of}
 use Rattle.gb_text.proofs.PartLemmas.{parts_of-at_slash}
 
 -- the empty folder, the root and any other one
-pub by_folder : (P : List ℕ → List ℕ → Type 0) (folder : List ℕ) → P [] [] → P (codes "/") [] → P folder (codes "/") → P folder (joint folder)
+by_folder : (P : List ℕ → List ℕ → Type 0) (folder : List ℕ) → P [] [] → P (codes "/") [] → P folder (codes "/") → P folder (joint folder)
 by_folder P folder here root other = each (bytes_eq folder (codes "")) refl (bytes_eq folder (codes "/")) refl
   where
     each : (a : Bool) → bytes_eq folder (codes "") ≡ a → (b : Bool) → bytes_eq folder (codes "/") ≡ b → P folder (joint folder)
@@ -19,13 +19,13 @@ by_folder P folder here root other = each (bytes_eq folder (codes "")) refl (byt
     each false e false f = rw (e, f) other
 
 -- the steps of a path below a folder: those of the folder, then those of the rest
-pub steps_of-joined : (folder rest : List ℕ) → steps_of (joined folder rest) ≡ steps_of folder ++ steps_of rest
+steps_of-joined : (folder rest : List ℕ) → steps_of (joined folder rest) ≡ steps_of folder ++ steps_of rest
 steps_of-joined folder rest =
     by_folder (λ (f j : List ℕ). steps_of (f ++ j ++ rest) ≡ steps_of f ++ steps_of rest) folder refl refl
     (ap steps_of (append_assoc folder (codes "/") rest) ∙ ap (filter counts) (parts_of-at_slash folder rest) ∙ filter-append counts (parts_of folder) (parts_of rest))
 
 -- a path below a folder is rooted where the folder is
-pub is_rooted-joined : (folder rest : List ℕ) → is_rooted rest ≡ false → is_rooted (joined folder rest) ≡ is_rooted folder
+is_rooted-joined : (folder rest : List ℕ) → is_rooted rest ≡ false → is_rooted (joined folder rest) ≡ is_rooted folder
 is_rooted-joined [] rest plain = plain
 is_rooted-joined (c ∷ cs) rest plain = refl
 
@@ -55,9 +55,11 @@ Overlap-joined one two rest other plain also e = record {
       (sym (steps_of-joined one rest) ∙ ap steps_of e ∙ steps_of-joined two other);
 }
 
+-- a folder overlaps itself
 pub Overlap-itself : (one : List ℕ) → Overlap one one
 Overlap-itself one = record { same_root = refl; front = inl ([], sym (append-nil (steps_of one))) }
 
+-- folders overlap one another
 pub Overlap-mutual : (one two : List ℕ) → Overlap one two → Overlap two one
 Overlap-mutual one two over = record { same_root = sym over.same_root; front = swapped over.front }
   where

@@ -132,7 +132,8 @@ folder_of-line c cs rooted steps line up root are =
     ∙ ap (λ (b : Bool). Some (folder_text b (filter counts (parts_of (c ∷ cs))))) root
     ∙ ap (λ (l : List (List ℕ)). Some (folder_text rooted l)) are
 
-empty_is_line : is_line_text [] ≡ true
+-- the empty text is a line
+pub empty_is_line : is_line_text [] ≡ true
 unfolding chars
 empty_is_line = refl
 

@@ -2,7 +2,7 @@
 ghost use Rattle.std.specs.Prelude.{◌≡◌, ◌++◌, ◌↔◌, IsTrue, IfOk, OnOk, map, filter, string_bytes, codes, if◌then◌else◌};
 ghost use Rattle.std.specs.List.{join_with_byte, list_all, zip};
 ghost use Rattle.std.specs.Str.{bytes_eq};
-ghost use Rattle.gb_text.specs.Folder.{joined, parts_of, counts, goes_up, is_bad_folder, is_rooted};
+ghost use Rattle.gb_text.specs.Folder.{joined, joint, parts_of, counts, goes_up, is_bad_folder, is_rooted};
 ghost use Rattle.gb_text.specs.Overlap.{Overlap, steps_of};
 
 use crate::{Memory, Text, is_line};
@@ -68,12 +68,25 @@ impl Folder {
     pub fn join(&self, alloc: Global, rest: &str) -> Result<Text, Memory>
         ensures { IfOk result (λ path. path ≡ joined self.now rest.now) }
     {
-        let mut path = String::from_str(alloc, self.text.as_str())?;
-        if !path.is_empty() && path.as_str() != "/" {
-            path.push_str("/")?;
-        }
+        let mut path = self.path_with_room(alloc, rest.len())?;
         path.push_str(rest)?;
         Ok(Text::from_string(path))
+    }
+
+    /// What a path of a file below the folder begins with: the folder's text, and a slash where
+    /// that text is neither empty nor `/`. There is room for so many bytes behind it, which then
+    /// take no memory of their own.
+    pub fn path_with_room(&self, alloc: Global, room: usize) -> Result<String, Memory>
+        ensures { IfOk result (λ path. string_bytes path ≡ self.now ++ joint self.now) }
+    {
+        let folder = self.text.as_str();
+        let size = folder.len().saturating_add(1).saturating_add(room);
+        let mut path = String::with_capacity(alloc, size)?;
+        path.push_str(folder)?;
+        if !folder.is_empty() && folder != "/" {
+            path.push_str("/")?;
+        }
+        Ok(path)
     }
 
     /// The folder's text, without a slash at its end but in `/`.

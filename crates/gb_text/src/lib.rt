@@ -25,7 +25,7 @@ pub use list::List;
 pub use memory::Memory;
 pub use owned::{Bytes, Text};
 pub use rules::{is_line, is_message, is_title};
-pub use writer::{push_id, push_line_end, push_name, push_number};
+pub use writer::{push_ascii, push_id, push_line_end, push_name, push_number};
 
 #[cfg(test)]
 mod tests;

@@ -41,8 +41,8 @@ pub fn push_line_end(text: &mut String) -> Result<(), AllocError>
     text.push_str("\n")
 }
 
-// Adds characters that are a byte each.
-fn push_ascii(text: &mut String, digits: &[u8]) -> Result<(), AllocError>
+/// Adds characters that are a byte each.
+pub fn push_ascii(text: &mut String, digits: &[u8]) -> Result<(), AllocError>
     requires { IsAscii digits.now }
     ensures { OnOk result (string_bytes text.new ≡ string_bytes text.old ++ digits.now) }
 {
