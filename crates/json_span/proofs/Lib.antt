@@ -11,6 +11,7 @@ pub mod TakenStrings
 pub mod TakenNumbers
 pub mod PassLaws
 pub mod FrontLaws
+pub mod BareLaws
 pub mod TakenLists
 pub mod SplitLaws
 pub mod CutLaws

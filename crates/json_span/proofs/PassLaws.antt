@@ -1,10 +1,10 @@
 -- Bytes that leave the state as it is are passed in one step.
-use Rattle.std.proofs.Common.{◌≡◌, ℕ, ◌+◌, ◌≤◌, List, [], ◌∷◌, ◌++◌, length, take, drop, Bool, true, false, cond, Option, Some, None, refl, sym, ap, subst, ◌∙◌, arith, map}
+use Rattle.std.proofs.Common.{◌≡◌, ℕ, ◌+◌, List, [], ◌∷◌, ◌++◌, length, take, drop, Bool, true, cond, Option, Some, None, refl, sym, ap, ◌∙◌, arith, map}
 use Rattle.std.proofs.Math.Seq.{take-add}
 use Rattle.std.proofs.lemmas.List.{take-append-drop, drop-drop}
 use Rattle.std.specs.Option.{option_map}
 use Rattle.json_span.specs.Grammar.{Each, is_plain, is_digit, is_space}
-use Rattle.json_span.specs.Machine.{◌>>=◌, State, step, start, run, read, split_of, within, marked, finished, also, number_goes, go_to, text_step, ends_string, string_step, behind, number_step}
+use Rattle.json_span.specs.Machine.{◌>>=◌, State, step, start, run, read, within, marked, finished, also, number_goes, go_to, string_step, behind, number_step}
 use Rattle.json_span.specs.Steps.{AllStay}
 use Rattle.json_span.specs.declared.Member.{Member}
 use Rattle.json_span.specs.declared.marks.Marks.{Marks}

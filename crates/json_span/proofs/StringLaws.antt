@@ -3,7 +3,7 @@ use Rattle.std.proofs.Common.{◌≡◌, ℕ, zero, suc, Bool, true, false, cond
 use Rattle.std.proofs.lemmas.Bool.{eqb-true}
 use Rattle.std.proofs.lemmas.Bool.Decides.{nat_tests}
 use Rattle.json_span.specs.Grammar.{is_plain, is_escape, is_hex, Chars, no_chars, plain_char, escaped_char, unicode_char}
-use Rattle.json_span.specs.Machine.{hex_step, string_step, ends_string}
+use Rattle.json_span.specs.Machine.{string_step, ends_string}
 use Rattle.json_span.specs.declared.state.StringAt.{StringAt}
 use Rattle.json_span.specs.declared.state.StringAt.TheVariants.{Plain, Escaped, Four, Three, Two, One}
 use Rattle.std.proofs.lemmas.Option.{cond_some}

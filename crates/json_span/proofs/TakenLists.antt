@@ -195,6 +195,10 @@ value_on : (ks : List Kind) (d b : ℕ) → is_space b ≡ false → step Value 
 unfolding step begin_step
 value_on ks d b p = rw p refl
 
+-- Before a value a digit but for zero begins a number.
+pub value_digit : (ks : List Kind) (d b : ℕ) → is_digit b ≡ true → eqb b 48 ≡ false → step Value ks d b ≡ go_to (Number InInteger) ks d
+value_digit ks d b is no_zero = value_on ks d b (digit_tests b is).s ∙ digit_begins ks d b is no_zero
+
 colon_on : (ks : List Kind) (d : ℕ) → step Colon ks d 58 ≡ go_to Value ks d
 unfolding step begin_step
 colon_on ks d = refl

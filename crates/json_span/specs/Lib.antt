@@ -1,5 +1,6 @@
 pub mod Grammar
 pub mod Machine
+pub mod Bare
 pub mod Nest
 pub mod Steps
 pub mod Stops

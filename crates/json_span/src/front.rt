@@ -45,8 +45,8 @@ pub fn plain_front(text: &[u8]) -> usize
     front + plain_bytes(&text[front..])
 }
 
-// The same, byte by byte.
-fn plain_bytes(text: &[u8]) -> usize
+/// The same, byte by byte.
+pub fn plain_bytes(text: &[u8]) -> usize
     ensures within { result ≤ length text.now }
     ensures each { Each is_plain (take result text.now) }
 {

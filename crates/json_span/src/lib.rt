@@ -4,6 +4,7 @@
 ghost use Rattle.std.specs.Prelude.{◌≡◌, ◌+◌, ◌≤◌, length, take, drop};
 ghost use Rattle.json_span.specs.Grammar.{LiesIn, cut_of};
 
+mod bare;
 mod bytes;
 mod front;
 mod laws;

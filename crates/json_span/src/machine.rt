@@ -1,10 +1,12 @@
 //! Reading a text of JSON byte by byte (RFC 8259).
 
-ghost use Rattle.std.specs.Prelude.{◌≡◌, ◌≤◌, List, ℕ, length, take};
+ghost use Rattle.std.specs.Prelude.{◌≡◌, ◌≤◌, List, ℕ, Some, length, take};
 ghost use Rattle.json_span.specs.Grammar.{open_of, close_of};
 ghost use Rattle.json_span.specs.Steps.{state_of, stepped, gone_to, AllStay};
 ghost use Rattle.json_span.specs.declared.state.Kind.{Kind as KindValue};
-ghost use Rattle.json_span.specs.Machine.{start, push, value_begin, part_begin, fresh_step, after_step, step, text_step, literal_step, begin_step, is_done, within, number_goes};
+ghost use Rattle.json_span.specs.Machine.{start, push, value_begin, part_begin, fresh_step, after_step, step, text_step, literal_step, begin_step, is_done, within, number_goes, go_to};
+ghost use Rattle.json_span.specs.Nest.{is_deep};
+ghost use Rattle.json_span.specs.Bare.{awaits_name};
 
 use crate::bytes::{digit, escape, exponent_letter, hex, plain, sign, space};
 use crate::front::{digit_front, plain_front, space_front};
@@ -482,6 +484,31 @@ impl Machine {
             At::Number(_) => Within::InNumber,
             _ => Within::Outside,
         }
+    }
+
+    /// An object's member may begin here.
+    pub fn awaits_name(&self) -> bool
+        ensures { result ≡ awaits_name self.now.at self.now.nest.0 }
+    {
+        match (self.at, self.nest.innermost()) {
+            (At::Fresh, Some(Kind::Object)) => true,
+            (At::Part, Some(Kind::Object)) => true,
+            _ => false,
+        }
+    }
+
+    /// More lists are open than the outermost.
+    pub fn is_deep(&self) -> bool
+        ensures { result ≡ is_deep self.now.nest.0 }
+    {
+        self.nest.is_deep()
+    }
+
+    /// Goes on from another place, with the same brackets open.
+    pub fn stand(&mut self, at: At)
+        ensures { Some (state_of self.new) ≡ go_to at self.old.nest.0 self.old.nest.1 }
+    {
+        self.at = at;
     }
 
     /// The outermost list is closed.

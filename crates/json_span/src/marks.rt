@@ -22,7 +22,7 @@ pub struct Marks {
 }
 
 /// The span from a place to another.
-fn span_to(from: usize, to: usize) -> Span
+pub fn span_to(from: usize, to: usize) -> Span
     requires { from ≤ to }
     ensures { result ≡ span_to from to }
 {
@@ -41,6 +41,14 @@ impl Marks {
             name: Span { at: 0, len: 0 },
             from: 0,
         }
+    }
+
+    /// A value with this name began at a place.
+    pub fn of_value(name: Span, from: usize) -> Marks
+        ensures name { result.name ≡ name }
+        ensures from { result.from ≡ from }
+    {
+        Marks { name, from }
     }
 
     /// The marks once the byte at a place is read.

@@ -10,11 +10,15 @@ ghost use Rattle.json_span.specs.declared.Member.{Member as MemberValue};
 ghost use Rattle.json_span.specs.declared.Span.{Span as SpanValue};
 ghost use Rattle.json_span.specs.declared.SpanFault.TheVariants.{Memory};
 
+use crate::bare::bare_member;
 use crate::machine::Machine;
 use crate::marks::Marks;
 use crate::state::Kind;
 use crate::{Member, Span, SpanFault};
 use std::alloc::Global;
+
+// How many parts a list has room for at first: most objects have no more members.
+const ROOM: usize = 8;
 
 /// What a list keeps of each part.
 trait Kept: Drop {
@@ -47,11 +51,26 @@ fn split<P: Kept>(alloc: Global, kind: Kind, text: &[u8]) -> Result<Vec<P>, Span
         ≡ Some v.items) }
     ensures refused { IfErr result (Stops kind text.now) }
 {
-    let mut parts = Vec::new(alloc);
+    let mut parts = Vec::with_capacity(alloc, ROOM)?;
     let mut machine = Machine::new(kind);
     let mut marks = Marks::new();
     let mut place = machine.passed(text);
     'bytes: while place < text.len() {
+        if machine.awaits_name() {
+            if let Some(bare) = bare_member(text, place) {
+                if !machine.is_deep() {
+                    if bare.is_whole() {
+                        parts.push(P::keep(bare.member))?;
+                        marks = Marks::new();
+                    } else {
+                        marks = Marks::of_value(bare.member.name, bare.member.value.at);
+                    }
+                }
+                machine.stand(bare.at);
+                place = bare.end;
+                continue;
+            }
+        }
         let before = machine.within();
         if !machine.step(text[place]) {
             return Err(SpanFault::NotSplit(place));
