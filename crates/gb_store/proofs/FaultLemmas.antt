@@ -2,16 +2,6 @@
 use Rattle.std.proofs.Common.{ℕ, Bool, arith, ◌∙◌}
 use Rattle.gb_store.specs.Faults.{KeepsFaults}
 
--- A failure that is told by another name.
-pub KeepsFaults_as : {S : Type 0} (never_fails : S → Bool) (faults : S → ℕ) (failed whole : Type 0) (old new : S)
-    → KeepsFaults never_fails faults failed old new → (whole → failed) → (failed → whole) → KeepsFaults never_fails faults whole old new
-KeepsFaults_as never_fails faults failed whole old new keeps causes told = record {
-  counts = keeps.counts;
-  cause = λ fails. keeps.cause (causes fails);
-  told = λ calm. keeps.told (λ fails. calm (told fails));
-  calm = λ calm. let rest = keeps.calm calm in (λ fails. rest.0 (causes fails), rest.1);
-}
-
 -- A call that did not fail, and one after it. The whole fails where the second does.
 pub KeepsFaults_then : {S : Type 0} (never_fails : S → Bool) (faults : S → ℕ) (failed whole : Type 0) (old mid new : S)
     → KeepsFaults never_fails faults ⊥ old mid → KeepsFaults never_fails faults failed mid new → (whole → failed) → (failed → whole)

@@ -108,6 +108,7 @@ module _ (changes : List Change) (dir : List ℕ) where
   listed-holds (first ∷ es) (suc i) entry name at e =
       Contains-append_right (option_to_list (entry_name changes dir first)) (listed changes dir es) name (listed-holds es i entry name at e)
 
+-- what the index lists is the listing
 pub IsListing-listed : (latest : BTreeMap (String Global) ℕ) (changes : List Change) (dir : List ℕ) → IsOrdered string_cmp latest
     → IsIndex latest changes → IsListing (files_of (reverse changes)) dir (listed changes dir latest.entries)
 IsListing-listed latest changes dir ordered index = record {

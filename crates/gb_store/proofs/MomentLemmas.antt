@@ -1,7 +1,6 @@
 -- How a list of writes grows, and what holds at each of its moments.
 use Rattle.std.proofs.Common.{◌≡◌, ◌⊎◌, Bool, IsTrue, List, [], ◌∷◌, ◌++◌, length, sym, ◌∙◌, ap, subst, inl, inr, append_assoc, arith, length-append, refl, ℕ, ◌-◌, ◌≤◌, take, drop, reverse}
 use Rattle.std.proofs.lemmas.List.{append_cancel_right, drop-append-le, take-append-drop, reverse-append}
-use Rattle.std.proofs.Math.Seq.{drop-append_seam}
 use Rattle.gb_text.proofs.PathLemmas.{append_cases}
 use Rattle.gb_store.specs.declared.store.Change.{Change}
 use Rattle.gb_store.specs.Files.{History, Files, files_of, written}
@@ -9,34 +8,34 @@ use Rattle.gb_store.specs.Moments.{MaybeWrote, at_moment, EachWrite, WroteBy, Wr
 
 module _ (Rule : History → List Change → Change → Type 0) where
   -- writes after writes
-  pub EachWrite-append : (old early late : List Change) → AllowsFromEarlier Rule → EachWrite Rule old early → EachWrite Rule (early ++ old) late → EachWrite Rule old (late ++ early)
+  EachWrite-append : (old early late : List Change) → AllowsFromEarlier Rule → EachWrite Rule old early → EachWrite Rule (early ++ old) late → EachWrite Rule old (late ++ early)
   EachWrite-append old early [] from first then = first
   EachWrite-append old early (change ∷ late) from first then = (EachWrite-append old early late from first then.0, from old early late change then.1)
 
   -- the earlier of some writes
-  pub EachWrite-early : (old early late : List Change) → EachWrite Rule old (late ++ early) → EachWrite Rule old early
+  EachWrite-early : (old early late : List Change) → EachWrite Rule old (late ++ early) → EachWrite Rule old early
   EachWrite-early old early [] each = each
   EachWrite-early old early (change ∷ late) each = EachWrite-early old early late each.0
 
   -- the later of some writes
-  pub EachWrite-late : (old early late : List Change) → AllowsFromLater Rule → EachWrite Rule old (late ++ early) → EachWrite Rule (early ++ old) late
+  EachWrite-late : (old early late : List Change) → AllowsFromLater Rule → EachWrite Rule old (late ++ early) → EachWrite Rule (early ++ old) late
   EachWrite-late old early [] from each = tt
   EachWrite-late old early (change ∷ late) from each = (EachWrite-late old early late from each.0, from old early late change each.1)
 
   -- what each allowed write keeps holds in the end
-  pub EachWrite-keeps : (Good : Files → Type 0) (old : History) → ((earlier : List Change) (change : Change) → Good (files_of (earlier ++ old)) → Rule old earlier change → Good (written (files_of (earlier ++ old)) change))
+  EachWrite-keeps : (Good : Files → Type 0) (old : History) → ((earlier : List Change) (change : Change) → Good (files_of (earlier ++ old)) → Rule old earlier change → Good (written (files_of (earlier ++ old)) change))
       → (writes : List Change) → Good (files_of old) → EachWrite Rule old writes → Good (files_of (writes ++ old))
   EachWrite-keeps Good old keeps [] good each = good
   EachWrite-keeps Good old keeps (change ∷ writes) good each = keeps writes change (EachWrite-keeps Good old keeps writes good each.0) each.1
 
   -- a wider rule allows it too
-  pub EachWrite-wider : (Wide : History → List Change → Change → Type 0) (old : History) → ((earlier : List Change) (change : Change) → Rule old earlier change → Wide old earlier change)
+  EachWrite-wider : (Wide : History → List Change → Change → Type 0) (old : History) → ((earlier : List Change) (change : Change) → Rule old earlier change → Wide old earlier change)
       → (writes : List Change) → EachWrite Rule old writes → EachWrite Wide old writes
   EachWrite-wider Wide old wider [] each = tt
   EachWrite-wider Wide old wider (change ∷ writes) each = (EachWrite-wider Wide old wider writes each.0, wider writes change each.1)
 
 -- no write
-pub WroteBy-none : (Rule : History → List Change → Change → Type 0) (old new : History) → new ≡ old → WroteBy Rule old new
+WroteBy-none : (Rule : History → List Change → Change → Type 0) (old new : History) → new ≡ old → WroteBy Rule old new
 WroteBy-none Rule old new same = record { writes = []; grew = same; each = tt }
 
 -- one write that is allowed, made or not
@@ -64,9 +63,10 @@ WroteBy-wider Rule Wide old new wider wrote = record {
 -- ---- rules by the files alone
 
 -- such a rule does not see where the call began
-pub at_moment-from_earlier : (May : Files → Change → Type 0) → AllowsFromEarlier (at_moment May)
+at_moment-from_earlier : (May : Files → Change → Type 0) → AllowsFromEarlier (at_moment May)
 at_moment-from_earlier May = λ old early late change may. subst (λ (ws : History). May (files_of ws) change) (sym (append_assoc late early old)) may
 
+-- what a moment allows does not look at what was written before it
 pub at_moment-from_later : (May : Files → Change → Type 0) → AllowsFromLater (at_moment May)
 at_moment-from_later May = λ old early late change may. subst (λ (ws : History). May (files_of ws) change) (append_assoc late early old) may
 
@@ -87,18 +87,10 @@ pub Wrote-wider : (May Might : Files → Change → Type 0) (old new : History) 
     → Wrote May old new → Wrote Might old new
 Wrote-wider May Might old new wider wrote = WroteBy-wider (at_moment May) (at_moment Might) old new (λ earlier. wider (files_of (earlier ++ old))) wrote
 
--- no write, in a store that may tell its content
-pub WroteIf_none : (tells : Bool) (May : Files → Change → Type 0) (old new : History) → (IsTrue tells → new ≡ old) → WroteIf tells May old new
-WroteIf_none tells May old new same = record { wrote = λ t. Wrote-none May old new (same t) }
-
 -- one write that is allowed, made or not, in such a store
 pub WroteIf_one : (tells : Bool) (May : Files → Change → Type 0) (change : Change) (old new : History)
     → (IsTrue tells → May (files_of old) change) → (IsTrue tells → MaybeWrote change old new) → WroteIf tells May old new
 WroteIf_one tells May change old new may made = record { wrote = λ t. Wrote-one May change old new (may t) (made t) }
-
--- one call after another, in such a store
-pub WroteIf_then : (tells : Bool) (May : Files → Change → Type 0) (old mid new : History) → WroteIf tells May old mid → WroteIf tells May mid new → WroteIf tells May old new
-WroteIf_then tells May old mid new first then = record { wrote = λ t. Wrote-then May old mid new (first.wrote t) (then.wrote t) }
 
 -- ---- moments
 
@@ -152,6 +144,7 @@ IsMoment-of_first old mid new moment at then = record {
   after = then.after ∙ ap (λ (h : History). then.later ++ h) at.after ∙ sym (append_assoc then.later at.later moment);
 }
 
+-- a moment of the second part is one of both
 pub IsMoment-of_second : (old mid new moment : History) → IsMoment old mid old → IsMoment mid new moment → IsMoment old new moment
 IsMoment-of_second old mid new moment first at = record {
   later = at.later;
@@ -199,14 +192,9 @@ IsMoment-first_writes old new count at low high = record {
   after = sym (take-append-drop (length new - count) new);
 }
 
--- a moment is a cut
-pub IsMoment-is : (old new moment : History) → IsMoment old new moment → moment ≡ first_writes (length moment) new
-IsMoment-is old new moment at =
-    let count : length new - length moment ≡ length at.later = omega (arith, ap length at.after, length-append at.later moment) in
-    sym (ap (λ (k : ℕ). drop k new) count ∙ ap (drop (length at.later)) at.after ∙ drop-append_seam at.later moment)
-
 -- ---- writes in order
 
+-- a front of a list of writes was made
 pub WroteSome-there : (writes : List Change) (old new : History) → WroteSome writes old new
     → (done : List Change) × (later : List Change) × (writes ≡ done ++ later) × (new ≡ reverse done ++ old)
 WroteSome-there [] old new same = ([], [], refl, same)
@@ -219,6 +207,7 @@ WroteSome-there (change ∷ rest) old new (inr some) =
       ih.3 ∙ sym (ap (λ (ws : List Change). ws ++ old) (reverse-append (change ∷ []) ih.0) ∙ append_assoc (reverse ih.0) (change ∷ []) old),
     )
 
+-- writes in front of others are a front
 pub WroteSome-back : (writes : List Change) (old new : History) (done later : List Change) → writes ≡ done ++ later → new ≡ reverse done ++ old → WroteSome writes old new
 WroteSome-back [] old new [] later e grew = grew
 WroteSome-back [] old new (x ∷ done) later e grew = absurd (cc)

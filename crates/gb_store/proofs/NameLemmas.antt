@@ -17,13 +17,14 @@ name_only-is : (o : Option (List ℕ)) (n : List ℕ) → name_only o ≡ Some n
 name_only-is None n e = cc
 name_only-is (Some m) n e = grind (arith, common_steps)
 
+-- a name right below a folder is the rest of the path
 pub name_below-is : (dir path name : List ℕ) → name_below dir path ≡ Some name → (path ≡ dir ++ 47 ∷ name) × (list_any (λ c. c == 47) name ≡ false)
 name_below-is dir path name e =
     let parts = name_only-is (after_prefix (dir ++ 47 ∷ []) path) name e in
     (after_prefix-is (dir ++ 47 ∷ []) path name parts.0 ∙ append_assoc dir (47 ∷ []) name, parts.1)
 
 -- what `name_below` answers at such a path
-pub name_below-at : (dir name : List ℕ) → name_below dir (dir ++ 47 ∷ name) ≡ cond (list_any (λ c. c == 47) name) None (Some name)
+name_below-at : (dir name : List ℕ) → name_below dir (dir ++ 47 ∷ name) ≡ cond (list_any (λ c. c == 47) name) None (Some name)
 name_below-at dir name =
     ap name_only (ap (after_prefix (dir ++ 47 ∷ [])) (sym (append_assoc dir (47 ∷ []) name)) ∙ after_prefix-append (dir ++ 47 ∷ []) name)
 
@@ -35,5 +36,6 @@ name_below-none dir path other = each (name_below dir path) refl
     each None e = e
     each (Some name) e = absurd (other name (name_below-is dir path name e).0)
 
+-- the rest of a path is a name right below where it has no slash
 pub name_below-at_slash : (dir path name : List ℕ) → path ≡ dir ++ 47 ∷ name → (b : Bool) → list_any (λ c. c == 47) name ≡ b → name_below dir path ≡ cond b None (Some name)
 name_below-at_slash dir path name e b h = ap (name_below dir) e ∙ name_below-at dir name ∙ ap (λ (x : Bool). cond x None (Some name)) h

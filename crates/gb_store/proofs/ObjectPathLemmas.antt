@@ -1,17 +1,20 @@
 -- Paths of objects, by their parts, by their form and by their last bytes.
-use Rattle.std.proofs.Common.{◌≡◌, ◌⊎◌, ℕ, ◌+◌, ◌*◌, ◌-◌, ◌<◌, ◌≤◌, ◌==◌, suc, Bool, true, false, ◌&&◌, ◌||◌, cond, List, [], ◌∷◌, ◌++◌, length, take, drop, reverse, refl, sym, ◌∙◌, ap, inl, inr, append_assoc, arith, length-append, length-drop, drop-cons}
-use Rattle.std.specs.Prelude.{codes, slice_index, nat_le, is_some, ◌/◌, ◌%◌}
+use Rattle.std.proofs.Common.{◌≡◌, ◌⊎◌, ℕ, ◌+◌, ◌*◌, ◌-◌, ◌≤◌, ◌==◌, Bool, true, false, ◌&&◌, ◌||◌, List, [], ◌∷◌, ◌++◌, length, take, drop, reverse, refl, sym, ◌∙◌, ap, inl, inr, append_assoc, arith, length-append, length-drop, drop-cons}
+use Rattle.std.specs.Prelude.{codes, slice_index, nat_le}
 use Rattle.std.proofs.Common.{eqb-true}
+use Rattle.std.proofs.lemmas.Bool.{and_parts}
+use Rattle.gb_text.proofs.AsciiLemmas.{encode_lower-digits}
+use Rattle.gb_text.proofs.PartLemmas.{parts_of-at_slash}
 use Rattle.std.proofs.lemmas.List.{take-append-drop, take_more, reverse-append, reverse-reverse, length-take-le, drop-drop}
 use Rattle.std.proofs.lemmas.Bool.Decides.{nat_tests}
 use Rattle.std.proofs.lemmas.List.Splits.{join_with_byte-slice_split, slice_split-cons_no}
 use Rattle.std.proofs.lemmas.Slice.Eq.{bytes_eq-Decides}
 use Rattle.std.proofs.Math.Seq.{drop-append_seam}
-use Rattle.std.specs.List.{list_all, slice_split, onto_first, join_with_byte}
+use Rattle.std.specs.List.{list_all, onto_first, join_with_byte}
 use Rattle.std.specs.Str.{bytes_eq}
 use Rattle.std.proofs.lemmas.List.Folds.{list_all-append}
-use Rattle.hex.specs.Hex.{IsBytes, encode_lower, encode_with, is_hex_digit, lower_digits}
-use Rattle.hex.proofs.HexLemmas.{IsDigits-lower_digits, length-encode_with}
+use Rattle.hex.specs.Hex.{encode_lower, is_hex_digit, lower_digits}
+use Rattle.hex.proofs.HexLemmas.{length-encode_with}
 use Rattle.gb_text.specs.Digits.{IsName}
 use Rattle.gb_text.specs.declared.id.Name.{Name}
 use Rattle.gb_text.specs.Folder.{parts_of, joint, joined}
@@ -20,33 +23,6 @@ use Rattle.gb_store.specs.ObjectTail.{is_object_tail, has_object_tail}
 
 -- ---- parts
 
-onto_first-append : (x : ℕ) (l m : List (List ℕ)) → 0 < length l → onto_first x (l ++ m) ≡ onto_first x l ++ m
-onto_first-append x [] m some = absurd (omega arith)
-onto_first-append x (part ∷ parts) m some = refl
-
-slice_split-some : (p : ℕ → Bool) (xs : List ℕ) → 0 < length (slice_split p xs)
-slice_split-some p [] = omega arith
-slice_split-some p (x ∷ xs) = each (p x) (slice_split p xs)
-  where
-    each : (b : Bool) (l : List (List ℕ)) → 0 < length (cond b ([] ∷ l) (onto_first x l))
-    each true l = omega arith
-    each false [] = omega arith
-    each false (y ∷ ys) = omega arith
-
--- a cut at a slash
-parts_of-at_slash : (xs ys : List ℕ) → parts_of (xs ++ 47 ∷ ys) ≡ parts_of xs ++ parts_of ys
-parts_of-at_slash [] ys = refl
-parts_of-at_slash (x ∷ xs) ys = each (x == 47) (parts_of-at_slash xs ys)
-  where
-    each : (b : Bool) → parts_of (xs ++ 47 ∷ ys) ≡ parts_of xs ++ parts_of ys
-        → cond b ([] ∷ parts_of (xs ++ 47 ∷ ys)) (onto_first x (parts_of (xs ++ 47 ∷ ys))) ≡ cond b ([] ∷ parts_of xs) (onto_first x (parts_of xs)) ++ parts_of ys
-    each true later = ap (λ (l : List (List ℕ)). [] ∷ l) later
-    each false later = ap (onto_first x) later ∙ onto_first-append x (parts_of xs) (parts_of ys) (slice_split-some (λ c. c == 47) xs)
-
-both : (a b : Bool) → (a && b) ≡ true → (a ≡ true) × (b ≡ true)
-both true b e = (refl, e)
-both false b e = absurd (cc)
-
 digit_is_no_slash : (c : ℕ) → is_hex_digit c ≡ true → (c == 47) ≡ false
 digit_is_no_slash c digit = grind (arith, nat_tests)
 
@@ -54,7 +30,7 @@ digit_is_no_slash c digit = grind (arith, nat_tests)
 parts_of-digits : (text : List ℕ) → list_all is_hex_digit text ≡ true → parts_of text ≡ text ∷ []
 parts_of-digits [] digits = refl
 parts_of-digits (c ∷ cs) digits =
-    let here = both (is_hex_digit c) (list_all is_hex_digit cs) digits in
+    let here = and_parts (is_hex_digit c) (list_all is_hex_digit cs) digits in
     slice_split-cons_no (λ c. c == 47) c cs (digit_is_no_slash c here.0) ∙ ap (onto_first c) (parts_of-digits cs here.1)
 
 -- what follows the front of an object's path
@@ -75,7 +51,7 @@ unfolding is_object_path
 is_object_path-form path form = each form.begins
   where
     parts : parts_of (tail_of form.fan form.rest) ≡ codes "objects" ∷ form.fan ∷ form.rest ∷ []
-    parts = parts_of-tail form.fan form.rest (both (length form.fan == 2) (list_all is_hex_digit form.fan) form.fan_digits).1 (both (length form.rest == 38) (list_all is_hex_digit form.rest) form.rest_digits).1
+    parts = parts_of-tail form.fan form.rest (and_parts (length form.fan == 2) (list_all is_hex_digit form.fan) form.fan_digits).1 (and_parts (length form.rest == 38) (list_all is_hex_digit form.rest) form.rest_digits).1
 
     each : IsFront form.front → ends_as_object (reverse (parts_of path)) ≡ true
     each (inl none) =
@@ -119,8 +95,8 @@ form_of_parts path ends = each (reverse (parts_of path)) refl ends
     each (rest ∷ []) e ends = absurd (cc ends)
     each (rest ∷ fan ∷ []) e ends = absurd (cc ends)
     each (rest ∷ fan ∷ dir ∷ more) e ends =
-        let first = both (is_digits 38 rest) (is_digits 2 fan && bytes_eq dir (codes "objects")) ends in
-        let second = both (is_digits 2 fan) (bytes_eq dir (codes "objects")) first.1 in
+        let first = and_parts (is_digits 38 rest) (is_digits 2 fan && bytes_eq dir (codes "objects")) ends in
+        let second = and_parts (is_digits 2 fan) (bytes_eq dir (codes "objects")) first.1 in
         let dir_is : dir ≡ codes "objects" = (bytes_eq-Decides dir (codes "objects")).0 second.1 in
         let parts : parts_of path ≡ reverse more ++ dir ∷ fan ∷ rest ∷ [] = sym (reverse-reverse (parts_of path)) ∙ ap reverse e ∙ three_in_front rest fan dir more in
         let whole : path ≡ front_of (reverse more) ++ (dir ++ 47 ∷ (fan ++ 47 ∷ rest)) =
@@ -150,7 +126,7 @@ two_digits [] rest f r = absurd (cc f)
 two_digits (a ∷ []) rest f r = absurd (cc f)
 two_digits (a ∷ b ∷ []) rest f r = rw (f, r) refl
 two_digits (a ∷ b ∷ c ∷ cs) rest f r =
-    let long : length (a ∷ b ∷ c ∷ cs) ≡ 2 = eqb-true _ _ (both (length (a ∷ b ∷ c ∷ cs) == 2) (list_all is_hex_digit (a ∷ b ∷ c ∷ cs)) f).0 in
+    let long : length (a ∷ b ∷ c ∷ cs) ≡ 2 = eqb-true _ _ (and_parts (length (a ∷ b ∷ c ∷ cs) == 2) (list_all is_hex_digit (a ∷ b ∷ c ∷ cs)) f).0 in
     absurd (omega arith)
 
 length-tail_of : (fan rest : List ℕ) → length fan ≡ 2 → length rest ≡ 38 → length (tail_of fan rest) ≡ 49
@@ -185,10 +161,10 @@ has_tail-append front tail long begins good =
         ap (λ (k : ℕ). slice_index (front ++ tail) k) size ∙ ap (λ (t : List ℕ). slice_index t (length above.0)) is ∙ index-at above.0 tail in
         or_right (length (front ++ tail) == 49) (slice_index (front ++ tail) (length (front ++ tail) - 50) == 47) (ap (λ (c : ℕ). c == 47) at)
 
-pub has_object_tail-form : (path : List ℕ) → IsObjectPath path → has_object_tail path ≡ true
+has_object_tail-form : (path : List ℕ) → IsObjectPath path → has_object_tail path ≡ true
 has_object_tail-form path form =
-    let fan = both (length form.fan == 2) (list_all is_hex_digit form.fan) form.fan_digits in
-    let rest = both (length form.rest == 38) (list_all is_hex_digit form.rest) form.rest_digits in
+    let fan = and_parts (length form.fan == 2) (list_all is_hex_digit form.fan) form.fan_digits in
+    let rest = and_parts (length form.rest == 38) (list_all is_hex_digit form.rest) form.rest_digits in
     let is : path ≡ form.front ++ tail_of form.fan form.rest = form.is ∙ simp append_assoc in
     ap has_object_tail is ∙ has_tail-append form.front (tail_of form.fan form.rest)
     (length-tail_of form.fan form.rest (eqb-true _ _ fan.0) (eqb-true _ _ rest.0)) form.begins (two_digits form.fan form.rest form.fan_digits rest.1)
@@ -197,9 +173,9 @@ has_object_tail-form path form =
 tail_parts : (tail : List ℕ) → length tail ≡ 49 → is_object_tail tail ≡ true
     → (tail ≡ tail_of (take 2 (drop 8 tail)) (drop 11 tail)) × (is_digits 2 (take 2 (drop 8 tail)) ≡ true) × (is_digits 38 (drop 11 tail) ≡ true)
 tail_parts tail long good =
-    let first = both (bytes_eq (take 8 tail) (codes "objects/")) (list_all is_hex_digit (take 2 (drop 8 tail)) && ((slice_index tail 10 == 47) && list_all is_hex_digit (drop 11 tail))) good in
-    let second = both (list_all is_hex_digit (take 2 (drop 8 tail))) ((slice_index tail 10 == 47) && list_all is_hex_digit (drop 11 tail)) first.1 in
-    let third = both (slice_index tail 10 == 47) (list_all is_hex_digit (drop 11 tail)) second.1 in
+    let first = and_parts (bytes_eq (take 8 tail) (codes "objects/")) (list_all is_hex_digit (take 2 (drop 8 tail)) && ((slice_index tail 10 == 47) && list_all is_hex_digit (drop 11 tail))) good in
+    let second = and_parts (list_all is_hex_digit (take 2 (drop 8 tail))) ((slice_index tail 10 == 47) && list_all is_hex_digit (drop 11 tail)) first.1 in
+    let third = and_parts (slice_index tail 10 == 47) (list_all is_hex_digit (drop 11 tail)) second.1 in
     let word : take 8 tail ≡ codes "objects/" = (bytes_eq-Decides (take 8 tail) (codes "objects/")).0 first.0 in
     let slash : slice_index tail 10 ≡ 47 = eqb-true _ _ third.0 in
     let eight : length (drop 8 tail) ≡ 41 = omega (arith, length-drop 8 tail) in
@@ -231,11 +207,11 @@ front_before path long begins = each (length path == 49) refl begins
         )
 
 -- such last bytes have the form
-pub form_of_tail : (path : List ℕ) → has_object_tail path ≡ true → IsObjectPath path
+form_of_tail : (path : List ℕ) → has_object_tail path ≡ true → IsObjectPath path
 form_of_tail path has =
     let tail = drop (length path - 49) path in
-    let first = both (nat_le 49 (length path)) (((length path == 49) || (slice_index path (length path - 50) == 47)) && is_object_tail tail) has in
-    let second = both ((length path == 49) || (slice_index path (length path - 50) == 47)) (is_object_tail tail) first.1 in
+    let first = and_parts (nat_le 49 (length path)) (((length path == 49) || (slice_index path (length path - 50) == 47)) && is_object_tail tail) has in
+    let second = and_parts ((length path == 49) || (slice_index path (length path - 50) == 47)) (is_object_tail tail) first.1 in
     let long : 49 ≤ length path = grind (arith, nat_tests) in
     let size : length tail ≡ 49 = omega (arith, length-drop (length path - 49) path) in
     let parts = tail_parts tail size second.1 in
@@ -254,24 +230,12 @@ same_answer true b there back = sym (there refl)
 same_answer false true there back = let no : false ≡ true = back refl in no
 same_answer false false there back = refl
 
+-- the last bytes tell just as the parts do
 pub has_object_tail-is : (path : List ℕ) → has_object_tail path ≡ is_object_path path
 has_object_tail-is path =
     same_answer (has_object_tail path) (is_object_path path) (λ has. is_object_path-form path (form_of_tail path has)) (λ is. has_object_tail-form path (form_of_parts path is))
 
 -- ---- the place of an object
-
-lower_digit_is_digit : (d : ℕ) → d < 16 → is_hex_digit (slice_index lower_digits d) ≡ true
-lower_digit_is_digit d lt = ap is_some (IsDigits-lower_digits d lt)
-
-encode_lower-digits : (bytes : List ℕ) → IsBytes bytes → list_all is_hex_digit (encode_lower bytes) ≡ true
-unfolding encode_with
-encode_lower-digits [] are = refl
-encode_lower-digits (b ∷ rest) are =
-    let fits : b < 256 = are 0 in
-    let high : b / 16 < 16 = omega arith in
-    let low : b % 16 < 16 = omega arith in
-    three (is_hex_digit (slice_index lower_digits (b / 16))) (is_hex_digit (slice_index lower_digits (b % 16))) (list_all is_hex_digit (encode_lower rest))
-    (lower_digit_is_digit (b / 16) high) (lower_digit_is_digit (b % 16) low) (encode_lower-digits rest (λ k. are (suc k)))
 
 front_joint : (folder : List ℕ) → IsFront (folder ++ joint folder)
 front_joint folder = each (bytes_eq folder (codes "")) refl (bytes_eq folder (codes "/")) refl
@@ -291,7 +255,7 @@ object_place-form folder name is =
     let text = encode_lower name.bytes in
     let digits : list_all is_hex_digit text ≡ true = encode_lower-digits name.bytes is.bytes in
     let size : length text ≡ 40 = length-encode_with lower_digits name.bytes ∙ ap (λ (n : ℕ). 2 * n) is.sized in
-    let parts = both (list_all is_hex_digit (take 2 text)) (list_all is_hex_digit (drop 2 text)) (sym (list_all-append is_hex_digit (take 2 text) (drop 2 text)) ∙ ap (list_all is_hex_digit) (take-append-drop 2 text) ∙ digits) in
+    let parts = and_parts (list_all is_hex_digit (take 2 text)) (list_all is_hex_digit (drop 2 text)) (sym (list_all-append is_hex_digit (take 2 text) (drop 2 text)) ∙ ap (list_all is_hex_digit) (take-append-drop 2 text) ∙ digits) in
     let fan : length (take 2 text) ≡ 2 = length-take-le 2 text (omega arith) in
     let rest : length (drop 2 text) ≡ 38 = omega (arith, length-drop 2 text) in
     record {

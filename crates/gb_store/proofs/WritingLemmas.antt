@@ -22,6 +22,7 @@ one_more changes i change old mid new below is before made =
     ∙ sym (ap (λ (ws : List Change). ws ++ old) (reverse-append (take i changes) (change ∷ [])))
     ∙ ap (λ (ws : List Change). reverse ws ++ old) (sym all)
 
+-- a list of writes that stops at one made those before it
 pub writes_stop : (changes : List Change) (i : ℕ) (change : Change) (old mid new : History) (e : StoreFault) → i < length changes → change ≡ get_or changes i change
     → mid ≡ reverse (take i changes) ++ old → WriteAnswers change mid new (Err e) → WritesAnswers changes old new (Err e)
 writes_stop changes i change old mid new fault.Memory below is before same = front_made changes i old new (same ∙ before)

@@ -16,7 +16,8 @@ pub fn names(
     dir: &str,
 ) -> Result<Vec<Text>, Memory>
     requires { IsIndex latest.now changes.now }
-    ensures { IfOk result (λ names. IsListing (files_of (reverse changes.now)) dir.now names.items) }
+    ensures { IfOk result
+        (λ names. IsListing (files_of (reverse changes.now)) dir.now names.items) }
 {
     let mut names = Vec::new(alloc);
     // What is below the folder lies between these, since `0` is the byte after `/`.

@@ -23,7 +23,13 @@ impl Model for MemSink {
 
     ghost Value = { SinkState };
 
-    ghost view = { λ s. record { written = s.bytes.items; fails = s.fails; step = s.step; calls = s.calls; faults = s.faults } };
+    ghost view = { λ s. record {
+      written = s.bytes.items;
+      fails = s.fails;
+      step = s.step;
+      calls = s.calls;
+      faults = s.faults;
+    } };
 
     ghost invariant = { λ s. 1 ≤ s.step };
 }

@@ -44,7 +44,13 @@ impl Model for MemStore {
 
     ghost use Rattle.gb_store.specs.MemIndex.{IsIndex};
 
-    ghost view = { λ s. record { history = reverse s.changes.items; fails = s.fails; calls = s.calls; faults = s.faults; reads = s.reads } };
+    ghost view = { λ s. record {
+      history = reverse s.changes.items;
+      fails = s.fails;
+      calls = s.calls;
+      faults = s.faults;
+      reads = s.reads;
+    } };
 
     ghost invariant = { λ s. IsIndex s.latest s.changes.items };
 }
@@ -196,7 +202,8 @@ impl Store for MemStore {
 
     fn read(&mut self, alloc: Global, path: &str, limit: u64) -> Result<Content, StoreFault>
         ensures state { self.new ≡ after_read path.now self.old }
-        ensures answer { ReadAnswers self.old result (λ content. TellsFile (file_at self.old.history path.now) limit content) }
+        ensures answer { ReadAnswers self.old result
+            (λ content. TellsFile (file_at self.old.history path.now) limit content) }
         ensures within { IfOk result (IsWithin limit) }
         ensures caused { KeepsFaults has_no_fails fault_count (IsErrOf result StoreFault.Failed)
             self.old self.new }
@@ -212,7 +219,8 @@ impl Store for MemStore {
 
     fn list(&mut self, alloc: Global, dir: &str) -> Result<List<Text>, StoreFault>
         ensures state { self.new ≡ after_call self.old }
-        ensures answer { ReadAnswers self.old result (λ names. IsListing (files_of self.old.history) dir.now names) }
+        ensures answer { ReadAnswers self.old result
+            (λ names. IsListing (files_of self.old.history) dir.now names) }
         ensures caused { KeepsFaults has_no_fails fault_count (IsErrOf result StoreFault.Failed)
             self.old self.new }
     {

@@ -44,7 +44,8 @@ pub trait Store {
     /// What stands at the path: nothing, a file of at most `limit` bytes, or one that has more.
     /// Makes no write.
     fn read(&mut self, alloc: Global, path: &str, limit: u64) -> Result<Content, StoreFault>
-        ensures found { IsTrue tells → IfOk result (TellsFile (file_at (history self.old) path.now) limit) }
+        ensures found { IsTrue tells
+            → IfOk result (TellsFile (file_at (history self.old) path.now) limit) }
         ensures within { IfOk result (IsWithin limit) }
         ensures unwritten { IsTrue tells → history self.new ≡ history self.old }
         ensures reads { object_reads self.new ≡ reads_after path.now (object_reads self.old) }
@@ -54,7 +55,8 @@ pub trait Store {
     /// The names without `/` of the files that stand right in a folder, each once, in byte order:
     /// none where the folder is absent. Makes no write.
     fn list(&mut self, alloc: Global, dir: &str) -> Result<List<Text>, StoreFault>
-        ensures names { IsTrue tells → IfOk result (IsListing (files_of (history self.old)) dir.now) }
+        ensures names { IsTrue tells
+            → IfOk result (IsListing (files_of (history self.old)) dir.now) }
         ensures unwritten { IsTrue tells → history self.new ≡ history self.old }
         ensures reads { object_reads self.new ≡ object_reads self.old }
         ensures caused { KeepsFaults never_fails faults (IsErrOf result StoreFault.Failed)
@@ -65,7 +67,8 @@ pub trait Store {
     fn put(&mut self, alloc: Global, path: &str, bytes: &[u8]) -> Result<(), StoreFault>
         ensures done { IsTrue tells → OnOk result (history self.new ≡ Put path.now bytes.now
             ∷ history self.old) }
-        ensures maybe { IsTrue tells → MaybeWrote (Put path.now bytes.now) (history self.old) (history self.new) }
+        ensures maybe { IsTrue tells
+            → MaybeWrote (Put path.now bytes.now) (history self.old) (history self.new) }
         ensures memory { IsTrue tells → IsErrOf result StoreFault.Memory
             → history self.new ≡ history self.old }
         ensures reads { object_reads self.new ≡ object_reads self.old }
@@ -77,7 +80,8 @@ pub trait Store {
     fn remove(&mut self, alloc: Global, path: &str) -> Result<(), StoreFault>
         ensures done { IsTrue tells → OnOk result (history self.new ≡ Removed path.now
             ∷ history self.old) }
-        ensures maybe { IsTrue tells → MaybeWrote (Removed path.now) (history self.old) (history self.new) }
+        ensures maybe { IsTrue tells
+            → MaybeWrote (Removed path.now) (history self.old) (history self.new) }
         ensures memory { IsTrue tells → IsErrOf result StoreFault.Memory
             → history self.new ≡ history self.old }
         ensures reads { object_reads self.new ≡ object_reads self.old }

@@ -22,7 +22,10 @@ impl From<StoreFault> for ReadFault {
     ghost use Rattle.gb_store.specs.declared.fault.StoreFault.TheVariants as store;
     ghost use Rattle.gb_store.specs.declared.tests.callers.ReadFault.TheVariants as read;
 
-    ghost from_gives = { elim [ store.Memory ↦ λ e. e ≡ read.Memory | store.Failed ↦ λ e. e ≡ read.Disk ] };
+    ghost from_gives = { elim [
+      | store.Memory ↦ λ e. e ≡ read.Memory
+      | store.Failed ↦ λ e. e ≡ read.Disk
+    ] };
 
     fn from(fault: StoreFault) -> Self {
         match fault {
@@ -63,7 +66,9 @@ fn put_two<S: Store>(
 ) -> Result<(), StoreFault>
     ensures done { IsTrue S.tells → OnOk result (S.history disk.new ≡ Put second.now two.now
         ∷ Put first.now one.now ∷ S.history disk.old) }
-    ensures some { IsTrue S.tells → WroteSome (Put first.now one.now ∷ Put second.now two.now ∷ []) (S.history disk.old) (S.history disk.new) }
+    ensures some { IsTrue S.tells
+        → WroteSome (Put first.now one.now ∷ Put second.now two.now ∷ [])
+        (S.history disk.old) (S.history disk.new) }
     ensures caused { KeepsFaults S.never_fails S.faults
         (IsErrOf result StoreFault.Failed) disk.old disk.new }
 {
