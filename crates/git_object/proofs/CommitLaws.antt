@@ -1,4 +1,5 @@
 -- A commit that is read has this text, and the text of a commit is read.
+use Rattle.std.proofs.lemmas.Option.{same_Some}
 use Rattle.std.proofs.Common.{◌≡◌, ◌≢◌, ℕ, suc, ◌/◌, ◌%◌, ◌<◌, Bool, true, false, cond, eqb, List, [], ◌∷◌, ◌++◌, length, get_or, Option, Some, None, refl, sym, ap, subst, ◌∙◌, append_assoc, arith, length-append}
 use Rattle.std.specs.Prelude.{codes}
 use Rattle.std.specs.List.{flat_map, AllByRecursion}
@@ -10,7 +11,7 @@ use Rattle.gb_text.proofs.DigitLemmas.{name_of-is, name_of-encode_lower}
 use Rattle.git_object.specs.declared.commit.Commit.{Commit}
 use Rattle.git_object.specs.Grammar.{Lacks, IsLine, ended, parent_line, commit_text, IsCommitText, HasGoodTexts}
 use Rattle.git_object.specs.Reading.{◌>>=◌, strip, cut_at, lines_at, named_at, tree_at, text_at, parent_after, parent_at, all_at, commit_of}
-use Rattle.git_object.proofs.CutLaws.{nil_length, some_length, lacks_by_test, index_lacks, bind_some, some_is, strip_again, strip_takes, cut_takes, cut_again}
+use Rattle.git_object.proofs.CutLaws.{nil_length, some_length, lacks_by_test, index_lacks, bind_some, strip_again, strip_takes, cut_takes, cut_again}
 use Rattle.git_object.proofs.RepeatLaws.{Steps, Lists, TakesSome, takes_some, many_takes, all_again}
 use Rattle.git_object.proofs.LineLaws.{Whole, lines_again, lines_whole}
 
@@ -24,16 +25,16 @@ unfolding encode_with
 digits_no_end [] = tt
 digits_no_end (b ∷ bs) = (digit_no_end (b / 16), (digit_no_end (b % 16), digits_no_end bs))
 
-pub named_takes : (bytes : List ℕ) (y : Name × List ℕ) → named_at bytes ≡ Some y → IsName y.0 × (bytes ≡ encode_lower y.0.bytes ++ 10 ∷ y.1)
+named_takes : (bytes : List ℕ) (y : Name × List ℕ) → named_at bytes ≡ Some y → IsName y.0 × (bytes ≡ encode_lower y.0.bytes ++ 10 ∷ y.1)
 unfolding named_at
 named_takes bytes y e =
     let l = bind_some (cut_at 10 bytes) (λ line. name_of line.0 >>= λ name. Some (name, line.1)) y e in
     let n = bind_some (name_of l.0.0) (λ name. Some (name, l.0.1)) y l.2 in
     let cuts = cut_takes 10 bytes l.0 l.1 in
     let name = name_of-is l.0.0 n.0 n.1 in
-    subst (λ (w : Name × List ℕ). IsName w.0 × (bytes ≡ encode_lower w.0.bytes ++ 10 ∷ w.1)) (some_is (n.0, l.0.1) y n.2) (name.0, cuts.parts ∙ ap (λ (t : List ℕ). t ++ 10 ∷ l.0.1) name.1)
+    subst (λ (w : Name × List ℕ). IsName w.0 × (bytes ≡ encode_lower w.0.bytes ++ 10 ∷ w.1)) (same_Some (n.0, l.0.1) y n.2) (name.0, cuts.parts ∙ ap (λ (t : List ℕ). t ++ 10 ∷ l.0.1) name.1)
 
-pub named_again : (n : Name) (rest : List ℕ) → IsName n → named_at (encode_lower n.bytes ++ 10 ∷ rest) ≡ Some (n, rest)
+named_again : (n : Name) (rest : List ℕ) → IsName n → named_at (encode_lower n.bytes ++ 10 ∷ rest) ≡ Some (n, rest)
 unfolding named_at
 named_again n rest is = rw (cut_again 10 (encode_lower n.bytes) rest (digits_no_end n.bytes), name_of-encode_lower n is) refl
 
@@ -54,7 +55,7 @@ parent_taken (Some after) bytes at x rest e =
     let t = named_takes after n.0 n.1 in
     let front = strip_takes (codes "parent ") bytes after at in
     let same = some_pair_parts (Some n.0.0) (Some x) n.0.1 rest n.2 in
-    let same_name : n.0.0 ≡ x = some_is n.0.0 x same.0 in
+    let same_name : n.0.0 ≡ x = same_Some n.0.0 x same.0 in
     let same_rest : n.0.1 ≡ rest = same.1 in
     let whole : bytes ≡ parent_line n.0.0 ++ n.0.1 = front ∙ ap (λ (r : List ℕ). codes "parent " ++ r) t.1 ∙ sym (line_apart (codes "parent ") (encode_lower n.0.0.bytes) n.0.1) in
     (subst (λ (w : Name). IsName w) same_name t.0, whole ∙ ap (λ (w : Name). parent_line w ++ n.0.1) same_name ∙ ap (λ (r : List ℕ). parent_line x ++ r) same_rest)
@@ -63,7 +64,7 @@ parent_ended : (o : Option (List ℕ)) (bytes : List ℕ) → strip (codes "pare
 parent_ended None bytes at rest e = record { same = (some_pair_parts {A = Option Name} None None bytes rest e).1; other = at }
 parent_ended (Some after) bytes at rest e = (let n = bind_some (named_at after) (λ n. Some (Some n.0, n.1)) (None, rest) e in let first = (some_pair_parts (Some n.0.0) None n.0.1 rest n.2).0 in absurd cc)
 
-pub parent_steps : Steps parent_at parent_line IsName NoParent
+parent_steps : Steps parent_at parent_line IsName NoParent
 unfolding parent_at
 parent_steps = record {
   item_takes = λ bytes x rest e. parent_taken (strip (codes "parent ") bytes) bytes refl x rest e;
@@ -72,11 +73,13 @@ parent_steps = record {
   end_again = λ bytes rest ends. (let other = ends.other in rw other (ap (λ (r : List ℕ). Some (None, r)) ends.same));
 }
 
+-- a parent's line takes a byte at least
 pub parent_takes_some : TakesSome parent_at
 parent_takes_some = takes_some parent_at parent_line IsName NoParent parent_steps (λ x. omega (arith, length-append (codes "parent " ++ encode_lower x.bytes) (10 ∷ [])))
 
 -- ---- lines with a word
 
+-- what reads as the line of a tree is that line
 pub tree_takes : (bytes : List ℕ) (y : Name × List ℕ) → tree_at bytes ≡ Some y → IsName y.0 × (bytes ≡ ended (codes "tree " ++ encode_lower y.0.bytes) ++ y.1)
 unfolding tree_at
 tree_takes bytes y e =
@@ -84,15 +87,15 @@ tree_takes bytes y e =
     let t = named_takes r.0 y r.2 in
     (t.0, strip_takes (codes "tree ") bytes r.0 r.1 ∙ ap (λ (v : List ℕ). codes "tree " ++ v) t.1 ∙ sym (line_apart (codes "tree ") (encode_lower y.0.bytes) y.1))
 
-pub tree_again : (n : Name) (rest : List ℕ) → IsName n → tree_at (ended (codes "tree " ++ encode_lower n.bytes) ++ rest) ≡ Some (n, rest)
+tree_again : (n : Name) (rest : List ℕ) → IsName n → tree_at (ended (codes "tree " ++ encode_lower n.bytes) ++ rest) ≡ Some (n, rest)
 unfolding tree_at
 tree_again n rest is = ap tree_at (line_apart (codes "tree ") (encode_lower n.bytes) rest) ∙ named_again n rest is
 
 choose_none : (b : Bool) (l y : List ℕ × List ℕ) → cond b None (Some l) ≡ Some y → (b ≡ false) × (l ≡ y)
 choose_none true l y e = absurd cc
-choose_none false l y e = (refl, some_is l y e)
+choose_none false l y e = (refl, same_Some l y e)
 
-pub text_takes : (word bytes : List ℕ) (y : List ℕ × List ℕ) → text_at word bytes ≡ Some y → IsLine y.0 × (bytes ≡ ended (word ++ y.0) ++ y.1)
+text_takes : (word bytes : List ℕ) (y : List ℕ × List ℕ) → text_at word bytes ≡ Some y → IsLine y.0 × (bytes ≡ ended (word ++ y.0) ++ y.1)
 unfolding text_at
 text_takes word bytes y e =
     let r = bind_some (strip word bytes) (λ rest. cut_at 10 rest >>= λ line. cond (eqb (length line.0) 0) None (Some line)) y e in
@@ -103,7 +106,7 @@ text_takes word bytes y e =
     let whole : bytes ≡ ended (word ++ l.0.0) ++ l.0.1 = strip_takes word bytes r.0 r.1 ∙ ap (λ (v : List ℕ). word ++ v) cuts.parts ∙ sym (line_apart word l.0.0 l.0.1) in
     subst (λ (w : List ℕ × List ℕ). IsLine w.0 × (bytes ≡ ended (word ++ w.0) ++ w.1)) ends.1 (is, whole)
 
-pub text_again : (word line rest : List ℕ) → IsLine line → text_at word (ended (word ++ line) ++ rest) ≡ Some (line, rest)
+text_again : (word line rest : List ℕ) → IsLine line → text_at word (ended (word ++ line) ++ rest) ≡ Some (line, rest)
 unfolding text_at
 text_again word line rest is = ap (text_at word) (line_apart word line rest) ∙ rw (strip_again word (line ++ 10 ∷ rest), cut_again 10 line rest is.no_end, some_length line is.some) refl
 
@@ -129,6 +132,7 @@ commit_made bytes t p a k m c tree parents author committer more is =
     let text : bytes ≡ commit_text (made t p a k m) = joined bytes (ended (codes "tree " ++ encode_lower t.0.bytes)) (flat_map parent_line p.0) (ended (codes "author " ++ a.0)) (ended (codes "committer " ++ k.0)) m.0 (10 ∷ m.1) t.1 p.1 a.1 k.1 tree.1 (parents.whole ∙ ap (λ (v : List ℕ). flat_map parent_line p.0 ++ v) parents.ends.same) author.1 committer.1 more.parts in
     subst (λ (w : Commit). IsCommitText bytes w) is (record { tree = tree.0; parents = parents.each; texts = record { author = author.0; committer = committer.0; more = more.lines }; text = text })
 
+-- what reads as a commit is the text of it
 pub commit_takes : (bytes : List ℕ) (c : Commit) → commit_of bytes ≡ Some c → IsCommitText bytes c
 unfolding commit_of
 commit_takes bytes c e =
@@ -138,9 +142,9 @@ commit_takes bytes c e =
     let k = bind_some (text_at (codes "committer ") a.0.1) (λ committer. lines_at true committer.1 >>= λ more. Some (made t.0 p.0 a.0 committer more)) c a.2 in
     let m = bind_some (lines_at true k.0.1) (λ more. Some (made t.0 p.0 a.0 k.0 more)) c k.2 in
     commit_made bytes t.0 p.0 a.0 k.0 m.0 c (tree_takes bytes t.0 t.1) (many_takes parent_at parent_line IsName NoParent parent_steps (suc (length t.0.1)) t.0.1 p.0 p.1)
-    (text_takes (codes "author ") p.0.1 a.0 a.1) (text_takes (codes "committer ") a.0.1 k.0 k.1) (lines_whole k.0.1 m.0 m.1) (some_is (made t.0 p.0 a.0 k.0 m.0) c m.2)
+    (text_takes (codes "author ") p.0.1 a.0 a.1) (text_takes (codes "committer ") a.0.1 k.0 k.1) (lines_whole k.0.1 m.0 m.1) (same_Some (made t.0 p.0 a.0 k.0 m.0) c m.2)
 
-pub commit_again : (c : Commit) → IsName c.tree → AllByRecursion IsName c.parents → HasGoodTexts c → commit_of (commit_text c) ≡ Some c
+commit_again : (c : Commit) → IsName c.tree → AllByRecursion IsName c.parents → HasGoodTexts c → commit_of (commit_text c) ≡ Some c
 unfolding commit_of
 commit_again c tree parents texts =
     let after_committer : List ℕ = c.more ++ 10 ∷ c.message in
@@ -155,11 +159,13 @@ commit_again c tree parents texts =
     ap commit_of (regrouped (ended (codes "tree " ++ encode_lower c.tree.bytes)) (flat_map parent_line c.parents) (ended (codes "author " ++ c.author)) (ended (codes "committer " ++ c.committer)) c.more (10 ∷ c.message))
     ∙ rw (at_tree, at_parents, at_author, at_committer, at_more) refl
 
+-- the text of a commit reads as it alone
 pub commit_only : (bytes : List ℕ) (c : Commit) → IsCommitText bytes c → commit_of bytes ≡ Some c
 commit_only bytes c is = ap commit_of is.text ∙ commit_again c is.tree is.parents is.texts
 
 -- ---- what is appended
 
+-- seven pieces one behind the other are their text
 pub appended : (old t1 t2 t3 t4 t5 t6 t7 a b c d e m : List ℕ) → t1 ≡ old ++ a → t2 ≡ t1 ++ b → t3 ≡ t2 ++ c → t4 ≡ t3 ++ d → t5 ≡ t4 ++ e → t6 ≡ t5 ++ 10 ∷ [] → t7 ≡ t6 ++ m
     → t7 ≡ old ++ (a ++ b ++ c ++ d ++ e ++ 10 ∷ m)
 appended old t1 t2 t3 t4 t5 t6 t7 a b c d e m p1 p2 p3 p4 p5 p6 p7 = rw (p7, p6, p5, p4, p3, p2, p1) (simp append_assoc)

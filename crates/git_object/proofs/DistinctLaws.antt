@@ -1,4 +1,5 @@
 -- Names that are sorted and differ from their neighbours all differ.
+use Rattle.std.proofs.lemmas.Bool.{and_parts}
 use Rattle.std.proofs.Common.{◌≡◌, ◌≢◌, ℕ, ◌+◌, ◌-◌, ◌<◌, ◌≤◌, Bool, true, false, List, [], ◌∷◌, length, get_or, map, refl, sym, ap, ◌∙◌, arith, Bor}
 use Rattle.std.specs.Prelude.{IsTrue, ◌↔◌, not}
 use Rattle.std.specs.List.{AllAdjacentBelow, AllByRecursion, IsDistinct, list_all}
@@ -17,13 +18,13 @@ use Rattle.std.proofs.lemmas.Map.Text.{is_eq-slice_cmp}
 use Rattle.git_object.specs.declared.entry.Entry.{Entry}
 use Rattle.git_object.specs.Grammar.{AreDistinct}
 use Rattle.git_object.specs.Reading.{are_distinct}
-use Rattle.git_object.proofs.CutLaws.{and_true}
 use Rattle.std.proofs.lemmas.Bool.{not-true}
 
+-- the order of names, by their bytes
 abbrev pub cmp : List ℕ → List ℕ → Ordering
 cmp xs ys = slice_cmp nat_cmp xs ys
 
-pub same_flip : (x y : List ℕ) (b c : Bool) → bytes_eq x y ≡ b → bytes_eq y x ≡ c → b ≡ c
+same_flip : (x y : List ℕ) (b c : Bool) → bytes_eq x y ≡ b → bytes_eq y x ≡ c → b ≡ c
 same_flip x y true true p q = refl
 same_flip x y false false p q = refl
 same_flip x y true false p q = (let t = (bytes_eq-Decides y x).1 (sym ((bytes_eq-Decides x y).0 p)) in absurd cc)
@@ -32,13 +33,15 @@ same_flip x y false true p q = (let t = (bytes_eq-Decides x y).1 (sym ((bytes_eq
 abbrev same_name : Entry → Entry → Bool
 same_name a b = bytes_eq a.name b.name
 
-pub test_differs : (x y : List ℕ) (b : Bool) → bytes_eq x y ≡ b → x ≢ y → bytes_eq x y ≡ false
+test_differs : (x y : List ℕ) (b : Bool) → bytes_eq x y ≡ b → x ≢ y → bytes_eq x y ≡ false
 test_differs x y false p ne = p
 test_differs x y true p ne = absurd (ne ((bytes_eq-Decides x y).0 p))
 
+-- names that the test tells apart differ
 pub differs : (x y : List ℕ) → bytes_eq x y ≡ false → x ≢ y
 differs x y p = λ same. (let t = (bytes_eq-Decides x y).1 same in absurd cc)
 
+-- the order of entries does not matter to their names being distinct
 pub distinct_moves : (xs ys : List Entry) → IsPermutation xs ys → AreDistinct xs → AreDistinct ys
 distinct_moves xs ys moved apart =
     let before : IsDistinct same_name xs = IsDistinct-from_apart same_name xs (λ i j d lt in'. test_differs (get_or xs i d).name (get_or xs j d).name (same_name (get_or xs i d) (get_or xs j d)) refl (apart i j d lt in')) in
@@ -50,7 +53,7 @@ distinct_moves xs ys moved apart =
 distinct_step : (e : Entry) (es : List Entry) → list_all (λ other. not (bytes_eq e.name other.name)) es ≡ true → AllByRecursion (λ other. same_name e other ≡ false) es
 distinct_step e [] t = tt
 distinct_step e (o ∷ os) t =
-    let p = and_true (not (same_name e o)) (list_all (λ other. not (bytes_eq e.name other.name)) os) t in
+    let p = and_parts (not (same_name e o)) (list_all (λ other. not (bytes_eq e.name other.name)) os) t in
     (not-true (same_name e o) p.0, distinct_step e os p.1)
 
 distinct_step_again : (e : Entry) (es : List Entry) → AllByRecursion (λ other. same_name e other ≡ false) es → list_all (λ other. not (bytes_eq e.name other.name)) es ≡ true
@@ -61,7 +64,7 @@ tested : (es : List Entry) → are_distinct es ≡ true → IsDistinct same_name
 unfolding IsDistinct
 tested [] t = tt
 tested (e ∷ es) t =
-    let p = and_true (list_all (λ other. not (bytes_eq e.name other.name)) es) (are_distinct es) t in
+    let p = and_parts (list_all (λ other. not (bytes_eq e.name other.name)) es) (are_distinct es) t in
     (distinct_step e es p.0, tested es p.1)
 
 tested_again : (es : List Entry) → IsDistinct same_name es → are_distinct es ≡ true
@@ -69,9 +72,11 @@ unfolding IsDistinct
 tested_again [] all = refl
 tested_again (e ∷ es) all = rw (distinct_step_again e es all.0) (tested_again es all.1)
 
+-- what the test finds distinct is
 pub distinct_are : (es : List Entry) → are_distinct es ≡ true → AreDistinct es
 distinct_are es t = λ i j d lt within. differs (get_or es i d).name (get_or es j d).name (apart_from_distinct same_name es i j d (tested es t) lt within)
 
+-- the test finds distinct what is
 pub are_distinct_again : (es : List Entry) → AreDistinct es → are_distinct es ≡ true
 are_distinct_again es apart = tested_again es
     (IsDistinct-from_apart same_name es (λ i j d lt within. test_differs (get_or es i d).name (get_or es j d).name (same_name (get_or es i d) (get_or es j d)) refl (apart i j d lt within)))
@@ -90,12 +95,14 @@ Ref = Bor (List ℕ)
 abbrev same : Ref → Ref → Bool
 same x y = bytes_eq x.now y.now
 
-pub same_is_equal : (x y : List ℕ) → cmp x y ≡ Equal → x ≡ y
+same_is_equal : (x y : List ℕ) → cmp x y ≡ Equal → x ≡ y
 same_is_equal x y e = (bytes_eq-Decides x y).0 (sym (is_eq-slice_cmp x y) ∙ ap is_eq e)
 
+-- no name stands before itself
 pub equal_is_same : (x y : List ℕ) → x ≡ y → cmp x y ≢ Less
 equal_is_same x y e less = (let t = (bytes_eq-Decides x y).1 e in let f = sym (is_eq-slice_cmp x y) ∙ ap is_eq less in absurd cc)
 
+-- of two names that differ, one stands first
 pub less_by : (x y : List ℕ) (o : Ordering) → cmp x y ≡ o → is_lt (cmp y x) ≡ false → x ≢ y → o ≡ Less
 less_by x y Less e up ne = refl
 less_by x y Equal e up ne = absurd (ne (same_is_equal x y e))
@@ -147,12 +154,14 @@ decided_by es qs rs b is moved up says = (
       says.1 (λ k d lt. differs (get_or rs k d).now (get_or rs (k + 1) d).now (apart_from_distinct same rs k (k + 1) d sorted_apart (next_place k) lt))),
 )
 
+-- neighbours differ, one pair more
 pub neighbours_more : (rs : List Ref) (i : ℕ) (d : Ref) → 1 ≤ i → i < length rs → false ≡ bytes_eq (get_or rs (i - 1) d).now (get_or rs i d).now → AllAdjacentBelow (λ x y. x.now ≢ y.now) rs i → AllAdjacentBelow (λ x y. x.now ≢ y.now) rs (i + 1)
 neighbours_more rs i d some lt e below = all_adjacent_more rs (λ x y. x.now ≢ y.now) i (omega arith) below
     (λ f. (let first : get_or rs (i - 1) f ≡ get_or rs (i - 1) d = get_or_default rs (i - 1) f d (omega arith) in
     let second : get_or rs i f ≡ get_or rs i d = get_or_default rs i f d lt in
     rw (first, second) (differs (get_or rs (i - 1) d).now (get_or rs i d).now (sym e))))
 
+-- sorted names are distinct where neighbours differ
 pub decided : (es : List Entry) (qs rs : List Ref) (b : Bool) → map (λ r. r.now) qs ≡ map (λ e. e.name) es → IsPermutation qs rs → IsSortedBy (λ x y. is_lt (cmp x.now y.now)) rs
     → IsTrue b ↔ AllAdjacentBelow (λ x y. x.now ≢ y.now) rs (length rs) → b ≡ are_distinct es
 decided es qs rs b is moved up says = answers_test es b (are_distinct es) refl (decided_by es qs rs b is moved up says)

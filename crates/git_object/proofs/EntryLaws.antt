@@ -1,10 +1,12 @@
 -- An entry that is read has this text, and the text of an entry is read.
-use Rattle.std.proofs.Common.{◌≡◌, ◌≢◌, ℕ, zero, suc, ◌<◌, Bool, true, false, cond, eqb, ltb, List, [], ◌∷◌, ◌++◌, length, take, drop, Option, Some, None, refl, sym, ap, subst, ◌∙◌, append_assoc, arith}
+use Rattle.std.proofs.lemmas.Bool.{and_parts}
+use Rattle.std.proofs.lemmas.Option.{same_Some}
+use Rattle.std.proofs.Common.{◌≡◌, ℕ, zero, suc, Bool, true, false, cond, eqb, ltb, List, [], ◌∷◌, ◌++◌, length, take, drop, Option, Some, None, refl, sym, ap, subst, ◌∙◌, append_assoc, arith}
 use Rattle.std.specs.Prelude.{codes, not}
 use Rattle.std.specs.List.{list_any, list_all}
 use Rattle.std.specs.Str.{bytes_eq}
-use Rattle.std.proofs.lemmas.Bool.{eqb-true, ne_eqb, ltb-true, lt-ltb, not-true}
-use Rattle.std.proofs.lemmas.List.{take-append-drop, length-take}
+use Rattle.std.proofs.lemmas.Bool.{eqb-true, ltb-true, lt-ltb, not-true}
+use Rattle.std.proofs.lemmas.List.{take-append-drop}
 use Rattle.std.proofs.lemmas.Slice.Eq.{bytes_eq-Decides}
 use Rattle.std.proofs.Math.Seq.{take-append_seam, drop-append_seam}
 use Rattle.hex.specs.Hex.{IsBytes}
@@ -15,7 +17,7 @@ use Rattle.git_object.specs.declared.entry.Mode.TheVariants.{Plain, Exec, Link, 
 use Rattle.git_object.specs.declared.entry.Entry.{Entry}
 use Rattle.git_object.specs.Grammar.{Lacks, mode_text, entry_text, IsEntryName, IsEntry}
 use Rattle.git_object.specs.Reading.{has_entry_name, ◌>>=◌, cut_at, mode_of, is_entry_name, are_name_bytes, name_at, entry_at}
-use Rattle.git_object.proofs.CutLaws.{and_true, lacks_from_any, any_from_lacks, lacks_by_test, bind_some, some_is, if_some, cut_takes, cut_again, nil_length, some_length}
+use Rattle.git_object.proofs.CutLaws.{lacks_from_any, any_from_lacks, lacks_by_test, bind_some, if_some, cut_takes, cut_again, nil_length, some_length}
 
 -- ---- modes
 
@@ -23,14 +25,14 @@ pick : (text word : List ℕ) (m n : Mode) (o : Option Mode) → (mode_text m �
 pick text word m n o is others e = go (bytes_eq text word) refl e
   where
     go : (b : Bool) → bytes_eq text word ≡ b → cond b (Some m) o ≡ Some n → text ≡ mode_text n
-    go true t e = (bytes_eq-Decides text word).0 t ∙ sym is ∙ ap mode_text (some_is m n e)
+    go true t e = (bytes_eq-Decides text word).0 t ∙ sym is ∙ ap mode_text (same_Some m n e)
     go false t e = others e
 
-pub mode_takes : (text : List ℕ) (n : Mode) → mode_of text ≡ Some n → text ≡ mode_text n
+mode_takes : (text : List ℕ) (n : Mode) → mode_of text ≡ Some n → text ≡ mode_text n
 mode_takes text n e =
     pick text (codes "100644") Plain n _ refl (λ e. pick text (codes "100755") Exec n _ refl (λ e. pick text (codes "120000") Link n _ refl (λ e. pick text (codes "40000") Folder n _ refl (λ e. pick text (codes "160000") Module n None refl (λ e. absurd cc) e) e) e) e) e
 
-pub mode_again : (m : Mode) → mode_of (mode_text m) ≡ Some m
+mode_again : (m : Mode) → mode_of (mode_text m) ≡ Some m
 mode_again Plain = refl
 mode_again Exec = refl
 mode_again Link = refl
@@ -48,17 +50,19 @@ mode_lacks Module = lacks_by_test 32 (mode_text Module) refl
 
 entry_name_is : (name : List ℕ) → Lacks 0 name → is_entry_name name ≡ true → IsEntryName name
 entry_name_is name no_zero e =
-    let p = and_true (not (eqb (length name) 0)) (not (list_any (λ x. eqb x 47) name)) e in
+    let p = and_parts (not (eqb (length name) 0)) (not (list_any (λ x. eqb x 47) name)) e in
     record { some = nil_length name (not-true _ p.0); no_zero = no_zero; no_slash = lacks_from_any 47 name (not-true _ p.1) }
 
 is_entry_name_again : (name : List ℕ) → IsEntryName name → is_entry_name name ≡ true
 is_entry_name_again name is = rw (some_length name is.some, any_from_lacks 47 name is.no_slash) refl
 
+-- what passes the test is the name of an entry
 pub has_entry_name_is : (e : Entry) → has_entry_name e ≡ true → IsEntryName e.name
 has_entry_name_is e t =
-    let p = and_true (is_entry_name e.name) (not (list_any (λ x. eqb x 0) e.name)) t in
+    let p = and_parts (is_entry_name e.name) (not (list_any (λ x. eqb x 0) e.name)) t in
     entry_name_is e.name (lacks_from_any 0 e.name (not-true _ p.1)) p.0
 
+-- the name of an entry passes the test
 pub has_entry_name_again : (e : Entry) → IsEntryName e.name → has_entry_name e ≡ true
 has_entry_name_again e is = rw (is_entry_name_again e.name is, any_from_lacks 0 e.name is.no_zero) refl
 
@@ -66,21 +70,21 @@ has_entry_name_again e is = rw (is_entry_name_again e.name is, any_from_lacks 0 
 
 small : (bytes : List ℕ) → list_all (λ b. ltb b 256) bytes ≡ true → IsBytes bytes
 small [] e i = omega arith
-small (b ∷ bs) e zero = ltb-true b 256 (and_true (ltb b 256) (list_all (λ b. ltb b 256) bs) e).0
-small (b ∷ bs) e (suc i) = small bs (and_true (ltb b 256) (list_all (λ b. ltb b 256) bs) e).1 i
+small (b ∷ bs) e zero = ltb-true b 256 (and_parts (ltb b 256) (list_all (λ b. ltb b 256) bs) e).0
+small (b ∷ bs) e (suc i) = small bs (and_parts (ltb b 256) (list_all (λ b. ltb b 256) bs) e).1 i
 
 small_again : (bytes : List ℕ) → IsBytes bytes → list_all (λ b. ltb b 256) bytes ≡ true
 small_again [] are = refl
 small_again (b ∷ bs) are = rw (lt-ltb b 256 (are 0)) (small_again bs (λ i. are (suc i)))
 
-pub name_bytes_are : (n : Name) → IsName n → are_name_bytes n.bytes ≡ true
+name_bytes_are : (n : Name) → IsName n → are_name_bytes n.bytes ≡ true
 name_bytes_are n is = (let sized = is.sized in rw (sized, small_again n.bytes is.bytes) refl)
 
-pub name_takes : (bytes : List ℕ) (y : Name × List ℕ) → name_at bytes ≡ Some y → IsName y.0 × (bytes ≡ y.0.bytes ++ y.1)
+name_takes : (bytes : List ℕ) (y : Name × List ℕ) → name_at bytes ≡ Some y → IsName y.0 × (bytes ≡ y.0.bytes ++ y.1)
 unfolding name_at
 name_takes bytes y e =
     let picked = if_some (are_name_bytes (take 20 bytes)) (record { bytes = take 20 bytes }, drop 20 bytes) y e in
-    let tests = and_true (eqb (length (take 20 bytes)) 20) (list_all (λ b. ltb b 256) (take 20 bytes)) picked.0 in
+    let tests = and_parts (eqb (length (take 20 bytes)) 20) (list_all (λ b. ltb b 256) (take 20 bytes)) picked.0 in
     subst (λ (w : Name × List ℕ). IsName w.0 × (bytes ≡ w.0.bytes ++ w.1)) picked.1
     (record { sized = eqb-true (length (take 20 bytes)) 20 tests.0; bytes = small (take 20 bytes) tests.1 }, sym (take-append-drop 20 bytes))
 
@@ -90,16 +94,11 @@ take_name name rest e = subst (λ (k : ℕ). take k (name ++ rest) ≡ name) e (
 drop_name : (name rest : List ℕ) → length name ≡ 20 → drop 20 (name ++ rest) ≡ rest
 drop_name name rest e = subst (λ (k : ℕ). drop k (name ++ rest) ≡ rest) e (drop-append_seam name rest)
 
-pub name_again : (n : Name) (rest : List ℕ) → IsName n → name_at (n.bytes ++ rest) ≡ Some (n, rest)
+name_again : (n : Name) (rest : List ℕ) → IsName n → name_at (n.bytes ++ rest) ≡ Some (n, rest)
 unfolding name_at
 name_again n rest is = rw (take_name n.bytes rest is.sized, drop_name n.bytes rest is.sized, name_bytes_are n is) refl
 
-pub no_name : (bytes : List ℕ) → length bytes < 20 → None ≡ name_at bytes
-unfolding name_at
-no_name bytes few =
-    let short : length (take 20 bytes) ≢ 20 = λ e. absurd (omega (arith, length-take 20 bytes)) in
-    rw (ne_eqb (length (take 20 bytes)) 20 short) refl
-
+-- twenty bytes at the front are a name
 pub name_here : (bytes : List ℕ) (n : Name) → IsName n → n.bytes ≡ take 20 bytes → Some (n, drop 20 bytes) ≡ name_at bytes
 name_here bytes n is e = sym (ap name_at (sym (take-append-drop 20 bytes) ∙ ap (λ (front : List ℕ). front ++ drop 20 bytes) (sym e)) ∙ name_again n (drop 20 bytes) is)
 
@@ -116,6 +115,7 @@ entry_made bytes digits after_mode after_name mode name object y whole is lacks 
     whole ∙ ap (λ (v : List ℕ). v ++ 32 ∷ after_mode) is ∙ ap (λ (v : List ℕ). mode_text mode ++ 32 ∷ v) (parts ∙ ap (λ (v : List ℕ). name ++ 0 ∷ v) named.1) ∙ sym (apart (mode_text mode) name object.0.bytes object.1) in
     subst (λ (w : Entry × List ℕ). IsEntry w.0 × (bytes ≡ entry_text w.0 ++ w.1)) picked.1 (record { name = entry_name_is name lacks picked.0; object = named.0 }, text)
 
+-- what reads as an entry is its text in front of the rest
 pub entry_takes : (bytes : List ℕ) (y : Entry × List ℕ) → entry_at bytes ≡ Some y → IsEntry y.0 × (bytes ≡ entry_text y.0 ++ y.1)
 unfolding entry_at
 entry_takes bytes y e =
@@ -125,6 +125,7 @@ entry_takes bytes y e =
     let o = bind_some (name_at n.0.1) (λ object. cond (is_entry_name n.0.0) (Some (record { mode = m.0; name = n.0.0; object = object.0 }, object.1)) None) y n.2 in
     entry_made bytes d.0.0 d.0.1 n.0.1 m.0 n.0.0 o.0 y (cut_takes 32 bytes d.0 d.1).parts (mode_takes d.0.0 m.0 m.1) (cut_takes 0 d.0.1 n.0 n.1).lacks (cut_takes 0 d.0.1 n.0 n.1).parts (name_takes n.0.1 o.0 o.1) o.2
 
+-- the text of an entry reads again
 pub entry_again : (e : Entry) (rest : List ℕ) → IsEntry e → entry_at (entry_text e ++ rest) ≡ Some (e, rest)
 unfolding entry_at
 entry_again e rest is =

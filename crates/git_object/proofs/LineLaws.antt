@@ -1,4 +1,6 @@
 -- Header lines up to the empty one: what is taken are lines that are not empty, and such lines are taken again.
+use Rattle.std.proofs.lemmas.Bool.{and_parts}
+use Rattle.std.proofs.lemmas.Option.{same_Some}
 use Rattle.std.proofs.Common.{◌≡◌, ℕ, Bool, true, false, cond, eqb, List, [], ◌∷◌, ◌++◌, Option, Some, None, refl, sym, ap, subst, ◌∙◌, append_assoc}
 use Rattle.std.proofs.Common.{inl, inr, ◌⊎◌, length, take, ◌-◌}
 use Rattle.std.specs.Prelude.{is_none, not, ◌&&◌, ◌||◌, IsTrue, ◌↔◌}
@@ -12,7 +14,7 @@ use Rattle.std.proofs.lemmas.Bool.{eqb-true, eqb-false, ne_eqb}
 use Rattle.std.proofs.lemmas.List.Concat.{flat_map-cons}
 use Rattle.git_object.specs.Grammar.{Lacks, IsLine, ended, AreLines, HasGoodTexts}
 use Rattle.git_object.specs.Reading.{onto, lines_at, are_lines, is_line}
-use Rattle.git_object.proofs.CutLaws.{and_true, nil_length, some_length, lacks_from_any, any_from_lacks, some_is, front_onto, onto_some}
+use Rattle.git_object.proofs.CutLaws.{nil_length, some_length, lacks_from_any, any_from_lacks, front_onto, onto_some}
 
 onto_front : (x : ℕ) (front : List ℕ) (o : Option (List ℕ × List ℕ)) → onto x (front_onto front o) ≡ front_onto (x ∷ front) o
 onto_front x front None = refl
@@ -40,6 +42,7 @@ lines_again_by (l ∷ ls) rest fits =
     let regrouped : flat_map ended (l ∷ ls) ++ 10 ∷ rest ≡ l ++ 10 ∷ (flat_map ended ls ++ 10 ∷ rest) = ap (λ (t : List ℕ). t ++ 10 ∷ rest) cons ∙ append_assoc (ended l) (flat_map ended ls) (10 ∷ rest) ∙ append_assoc l (10 ∷ []) (flat_map ended ls ++ 10 ∷ rest) in
     ap (lines_at true) regrouped ∙ line_again l (flat_map ended ls ++ 10 ∷ rest) fits.0 ∙ ap (front_onto (ended l)) (lines_again_by ls rest fits.1) ∙ ap (λ (t : List ℕ). Some (t, rest)) (sym cons)
 
+-- lines read again up to the empty one
 pub lines_again : (text rest : List ℕ) → AreLines text → lines_at true (text ++ 10 ∷ rest) ≡ Some (text, rest)
 lines_again text rest are = subst (λ (t : List ℕ). lines_at true (t ++ 10 ∷ rest) ≡ Some (t, rest)) (sym are.joined) (lines_again_by are.lines rest are.each)
 
@@ -72,7 +75,7 @@ inside false x xs z e t = record { piece = x ∷ t.piece; others = t.others; lac
 fresh : (b : Bool) (x : ℕ) (xs : List ℕ) (o : Option (List ℕ × List ℕ)) (y : List ℕ × List ℕ) → eqb x 10 ≡ b → ((z : List ℕ × List ℕ) → o ≡ Some z → Inside xs z)
     → cond b (Some ([], xs)) (onto x o) ≡ Some y → Whole (x ∷ xs) y
 fresh true x xs o y e others chosen =
-    subst (λ (w : List ℕ × List ℕ). Whole (x ∷ xs) w) (some_is ([], xs) y chosen) (record { lines = record { lines = []; each = tt; joined = refl }; parts = ap (λ (v : ℕ). v ∷ xs) (eqb-true x 10 e) })
+    subst (λ (w : List ℕ × List ℕ). Whole (x ∷ xs) w) (same_Some ([], xs) y chosen) (record { lines = record { lines = []; each = tt; joined = refl }; parts = ap (λ (v : ℕ). v ∷ xs) (eqb-true x 10 e) })
 fresh false x xs o y e others chosen =
     let found = onto_some x o y chosen in
     let t = others found.0 found.1 in
@@ -89,6 +92,7 @@ lines_take false (x ∷ xs) y e =
     let found = onto_some x (lines_at (eqb x 10) xs) y e in
     subst (λ (w : List ℕ × List ℕ). Inside (x ∷ xs) w) (sym found.2) (inside (eqb x 10) x xs found.0 refl (lines_take (eqb x 10) xs found.0 found.1))
 
+-- what reads as lines is the text of them
 pub lines_whole : (bytes : List ℕ) (y : List ℕ × List ℕ) → lines_at true bytes ≡ Some y → Whole bytes y
 lines_whole bytes y e = lines_take true bytes y e
 
@@ -159,9 +163,9 @@ end_taken text false true p q t none =
     subst AreLines (sym is) (lines_from_end front (sym (ap (lines_at true) is) ∙ none))
 end_taken text false false p q t none = absurd cc
 
-pub are_lines_take : (text : List ℕ) → are_lines text ≡ true → AreLines text
+are_lines_take : (text : List ℕ) → are_lines text ≡ true → AreLines text
 are_lines_take text t =
-    let p = and_true (is_none (lines_at true text)) (eqb (length text) 0 || ends_with (λ x y. eqb x y) text (10 ∷ [])) t in
+    let p = and_parts (is_none (lines_at true text)) (eqb (length text) 0 || ends_with (λ x y. eqb x y) text (10 ∷ [])) t in
     end_taken text (eqb (length text) 0) (ends_with (λ x y. eqb x y) text (10 ∷ [])) refl refl p.1 (none_from_test (lines_at true text) p.0)
 
 or_right : (b : Bool) → (b || true) ≡ true
@@ -174,24 +178,25 @@ end_tested text (inr some) =
     let ends : ends_with (λ x y. eqb x y) text (10 ∷ []) ≡ true = (ends_is Decides-eqb text (10 ∷ []) (ends_with (λ x y. eqb x y) text (10 ∷ [])) refl).1 some.0 some.1 in
     rw ends (or_right (eqb (length text) 0))
 
-pub are_lines_again : (text : List ℕ) → AreLines text → are_lines text ≡ true
+are_lines_again : (text : List ℕ) → AreLines text → are_lines text ≡ true
 are_lines_again text are =
     let none : lines_at true text ≡ None = ap (lines_at true) are.joined ∙ no_empty_line are.lines are.each in
     let ended_well = end_tested text (subst (λ (t : List ℕ). (t ≡ []) ⊎ ((front : List ℕ) × (t ≡ front ++ 10 ∷ []))) (sym are.joined) (ends_in_line are.lines)) in
     rw none ended_well
 
-pub is_line_takes : (text : List ℕ) → is_line text ≡ true → IsLine text
+is_line_takes : (text : List ℕ) → is_line text ≡ true → IsLine text
 is_line_takes text t =
-    let p = and_true (not (eqb (length text) 0)) (not (list_any (λ x. eqb x 10) text)) t in
+    let p = and_parts (not (eqb (length text) 0)) (not (list_any (λ x. eqb x 10) text)) t in
     record { some = nil_length text (not-true _ p.0); no_end = lacks_from_any 10 text (not-true _ p.1) }
 
-pub is_line_again : (text : List ℕ) → IsLine text → is_line text ≡ true
+is_line_again : (text : List ℕ) → IsLine text → is_line text ≡ true
 is_line_again text is = rw (some_length text is.some, any_from_lacks 10 text is.no_end) refl
 
+-- the texts of a commit are good exactly where they are lines
 pub texts_are_good : (c : Commit) (b : Bool) → b ≡ (is_line c.author && is_line c.committer && are_lines c.more) → IsTrue b ↔ HasGoodTexts c
 texts_are_good c b e = (
-  λ t. (let p = and_true (is_line c.author && is_line c.committer) (are_lines c.more) (sym e ∙ t) in
-      let q = and_true (is_line c.author) (is_line c.committer) p.0 in
+  λ t. (let p = and_parts (is_line c.author && is_line c.committer) (are_lines c.more) (sym e ∙ t) in
+      let q = and_parts (is_line c.author) (is_line c.committer) p.0 in
       record { author = is_line_takes c.author q.0; committer = is_line_takes c.committer q.1; more = are_lines_take c.more p.1 }),
   λ good. e ∙ rw (is_line_again c.author good.author, is_line_again c.committer good.committer, are_lines_again c.more good.more) refl,
 )

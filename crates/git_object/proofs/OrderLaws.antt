@@ -56,31 +56,37 @@ then_other Greater p ne = refl
 equal_cmp : (x y : ℕ) → nat_cmp x y ≡ Equal → x ≡ y
 equal_cmp x y e = grind (arith, nat_tests)
 
+-- where the bytes at a place are the same, those behind decide
 pub order_next : (a b : List ℕ) (i x y : ℕ) (all : Ordering) → slice_get a i ≡ Some x → slice_get b i ≡ Some y → x ≡ y → cmp (drop i a) (drop i b) ≡ all → cmp (drop (i + 1) a) (drop (i + 1) b) ≡ all
 order_next a b i x y all p q same so_far =
     let one : cmp (drop i a) (drop i b) ≡ cmp (drop (suc i) a) (drop (suc i) b) = rw (drop_some a i x p, drop_some b i y q, same, same_cmp y) refl in
     rw add-one (sym one ∙ so_far)
 
+-- where the bytes at a place differ, they decide
 pub order_here : (a b : List ℕ) (i x y : ℕ) (all : Ordering) → slice_get a i ≡ Some x → slice_get b i ≡ Some y → (x ≡ y → ⊥) → cmp (drop i a) (drop i b) ≡ all → nat_cmp x y ≡ all
 order_here a b i x y all p q ne so_far =
     let one : cmp (drop i a) (drop i b) ≡ nat_cmp x y = rw (drop_some a i x p, drop_some b i y q) (then_other (nat_cmp x y) (cmp (drop (suc i) a) (drop (suc i) b)) (λ e. ne (equal_cmp x y e))) in
     sym one ∙ so_far
 
+-- where the second key ends first, it stands first
 pub order_longer : (a b : List ℕ) (i x : ℕ) (all : Ordering) → slice_get a i ≡ Some x → slice_get b i ≡ None → cmp (drop i a) (drop i b) ≡ all → Greater ≡ all
 order_longer a b i x all p q so_far =
     let one : cmp (drop i a) (drop i b) ≡ Greater = rw (drop_some a i x p, drop_none b i q) refl in
     sym one ∙ so_far
 
+-- where the first key ends first, it stands first
 pub order_shorter : (a b : List ℕ) (i y : ℕ) (all : Ordering) → slice_get a i ≡ None → slice_get b i ≡ Some y → cmp (drop i a) (drop i b) ≡ all → Less ≡ all
 order_shorter a b i y all p q so_far =
     let one : cmp (drop i a) (drop i b) ≡ Less = rw (drop_none a i p, drop_some b i y q) refl in
     sym one ∙ so_far
 
+-- where both keys end, they are equal
 pub order_same : (a b : List ℕ) (i : ℕ) (all : Ordering) → slice_get a i ≡ None → slice_get b i ≡ None → cmp (drop i a) (drop i b) ≡ all → Equal ≡ all
 order_same a b i all p q so_far =
     let one : cmp (drop i a) (drop i b) ≡ Equal = rw (drop_none a i p, drop_none b i q) refl in
     sym one ∙ so_far
 
+-- a byte that is there lies within
 pub get_within : (ks : List ℕ) (i x : ℕ) → slice_get ks i ≡ Some x → i < length ks
 get_within [] i x e = absurd cc
 get_within (k ∷ ks) zero x e = omega arith
@@ -88,22 +94,27 @@ get_within (k ∷ ks) (suc i) x e = (let inner = get_within ks i x e in omega ar
 
 -- ---- behind references
 
+-- the entries that are lent
 abbrev pub held : List (Bor Entry) → List Entry
 held rs = map (λ r. r.now) rs
 
+-- one entry more is lent
 pub held_more : (rs : List (Bor Entry)) (i : ℕ) (r : Bor Entry) → i < length rs → r ≡ get_or rs i r → held (take (i + 1) rs) ≡ held (take i rs) ++ r.now ∷ []
 held_more rs i r lt is =
     let taken : take (i + 1) rs ≡ take i rs ++ r ∷ [] = rw add-one (take-suc rs i r lt ∙ ap (λ (v : Bor Entry). take i rs ++ v ∷ []) (sym is)) in
     ap held taken ∙ map_push (λ (s : Bor Entry). s.now) (take i rs) r
 
+-- one more entry names an object
 pub objects_more : (es more : List Entry) (e : Entry) → more ≡ es ++ e ∷ [] → All (λ e. IsName e.object) es → IsName e.object → All (λ e. IsName e.object) more
 objects_more es more e is all one = subst (λ (l : List Entry). All (λ e. IsName e.object) l) (sym is) (All-push (λ (e : Entry). IsName e.object) es e all one)
 
 -- ---- sorting
 
+-- the order of keys is one
 pub key_ranks : IsStrictWeakOrder {X = Bor Entry} (λ x y. is_lt (cmp (sort_key x.now) (sort_key y.now)))
 key_ranks = ranks_by nat_list_cmp_total (λ (r : Bor Entry). sort_key r.now)
 
+-- entries that are lent in order are in order
 pub sorted_held : (rs : List (Bor Entry)) → IsSortedBy (λ x y. is_lt (cmp (sort_key x.now) (sort_key y.now))) rs → IsSortedByKey sort_key (slice_cmp nat_cmp) (held rs)
 sorted_held [] up = λ k d low lt. absurd (omega arith)
 sorted_held (r ∷ rs) up = λ k d low lt.
@@ -111,6 +122,7 @@ sorted_held (r ∷ rs) up = λ k d low lt.
     let at : (i : ℕ) → i < length (held (r ∷ rs)) → get_or (held (r ∷ rs)) i d ≡ (get_or (r ∷ rs) i r).now = λ i within. get_or-map (λ (s : Bor Entry). s.now) (r ∷ rs) i r d (omega arith) in
     rw (at k (omega arith), at (k + 1) lt) (up k r low (omega arith))
 
+-- the entries' texts in order are the text of the tree
 pub written : (content : List ℕ) (t : Tree) (es : List Entry) → HasGoodNames t → IsPermutation t.entries es → All (λ e. IsName e.object) es → content ≡ flat_map entry_text es → IsTreeText content (record { entries = es })
 written content t es has moved objects text =
     let names : All (λ e. IsEntryName e.name) es = All-permutation (λ (e : Entry). IsEntryName e.name) t.entries es moved (All-from_recursion (λ (e : Entry). IsEntryName e.name) t.entries has.each) in
@@ -189,6 +201,7 @@ one_order (e ∷ es) (f ∷ fs) up also within back =
     let others : es ≡ fs = one_order es fs up.1 also.1 (rest_contained e f es fs same up.0 within) (rest_contained f e fs es (sym same) also.0 back) in
     cc
 
+-- a tree has one text in order
 pub one_sorted_text : (t sorted other : Tree) (content rest : List ℕ) → IsSortedForm t sorted → IsSortedForm t other → IsTreeText content sorted → IsTreeText rest other → content ≡ rest
 one_sorted_text t sorted other content rest form also is are =
     let moved : IsPermutation sorted.entries other.entries = IsPermutation-trans sorted.entries t.entries other.entries (IsPermutation-sym t.entries sorted.entries form.permutation) also.permutation in
