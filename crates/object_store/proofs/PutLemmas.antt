@@ -14,19 +14,14 @@ use Rattle.git_object.specs.Reading.{object_of, object_with}
 use Rattle.git_object.proofs.ObjectLaws.{framed_reads}
 use Rattle.std.specs.Prelude.{nat_le}
 use Rattle.object_store.specs.declared.fault.PutFault.{PutFault}
-use Rattle.object_store.proofs.HeldLemmas.{named-own}
-use Rattle.object_store.specs.Held.{Objects, object_at, objects_in, named, text_at}
+use Rattle.object_store.specs.Held.{Objects, object_at, objects_in, text_at}
 use Rattle.object_store.specs.Texts.{HasObject, HasObjectText, IsShort, text_name}
 use Rattle.object_store.specs.declared.read.TheConstants.{MOST_BYTES}
 use Rattle.gb_text.specs.declared.id.Name.{Name}
 use Rattle.object_store.specs.Puts.{PutsObject, StandsAnswers, object_write}
 
--- a short text that stands under its own name is the object text there
-pub text_at-own : (objects : Objects) (text : List ℕ) → objects (object_name text) ≡ Some text → length text ≤ MOST_BYTES → text_at objects (object_name text) ≡ Some text
-text_at-own objects text stands within = ap (option_and_then (named (object_name text))) stands ∙ named-own (object_name text) text within refl
-
 -- the object of a text that stands under its name
-pub object_at-framed : (objects : Objects) (kind : Kind) (content : List ℕ) (name : Name) → text_at objects name ≡ Some (framed kind content)
+object_at-framed : (objects : Objects) (kind : Kind) (content : List ℕ) (name : Name) → text_at objects name ≡ Some (framed kind content)
     → object_at objects name ≡ object_with kind content
 object_at-framed objects kind content name at = ap (option_and_then object_of) at ∙ framed_reads kind content
 
@@ -35,7 +30,7 @@ pub objects_in-written : (folder text : List ℕ) (old : History) → objects_in
 objects_in-written folder text old = file_at-same (Put (joined folder (object_place (object_name text))) text) old
 
 -- a put of an object text at the path of its name, where nothing stood
-pub wrote_object : (tells : Bool) (folder : List ℕ) (kind : Kind) (content path text : List ℕ) (old mid new : History) → HasObject kind content
+wrote_object : (tells : Bool) (folder : List ℕ) (kind : Kind) (content path text : List ℕ) (old mid new : History) → HasObject kind content
     → path ≡ joined folder (object_place (text_name kind content)) → text ≡ framed kind content → length text ≤ MOST_BYTES
     → (IsTrue tells → file_at old path ≡ None) → (IsTrue tells → mid ≡ old) → (IsTrue tells → MaybeWrote (Put path text) mid new)
     → WroteIf tells (PutsObject folder) old new
@@ -60,11 +55,6 @@ wrote_object tells folder kind content path text old mid new has at is within fr
 pub stands_not : (folder text : List ℕ) (old : History) (b : Bool) → b ≡ false → StandsAnswers folder text old (Ok b) → objects_in (files_of old) folder (object_name text) ≡ None
 stands_not folder text old true e answers = absurd (cc)
 stands_not folder text old false e answers = answers
-
--- what is said where it does
-pub stands_so : (folder text : List ℕ) (old : History) (b : Bool) → b ≡ true → StandsAnswers folder text old (Ok b) → objects_in (files_of old) folder (object_name text) ≡ Some text
-stands_so folder text old false e answers = absurd (cc)
-stands_so folder text old true e answers = answers
 
 -- a put of a text at the path of its name, where nothing stood
 pub wrote_text : (tells : Bool) (folder path bytes text : List ℕ) (name : Name) (old mid new : History) → HasObjectText text → name ≡ object_name text
