@@ -16,9 +16,11 @@ pub Contains-cons_cases : {X : Type 0} (y : X) (xs : List X) (x : X) → Contain
 Contains-cons_cases y xs x (zero, below, is) = inl is
 Contains-cons_cases y xs x (suc k, below, is) = inr (k, omega arith, is)
 
+-- a list has its first item
 pub Contains-first : {X : Type 0} (y : X) (xs : List X) → Contains (y ∷ xs) y
 Contains-first y xs = (0, omega arith, refl)
 
+-- and those of the rest
 pub Contains-later : {X : Type 0} (y : X) (xs : List X) (x : X) → Contains xs x → Contains (y ∷ xs) x
 Contains-later y xs x member = (suc member.0, omega (arith, member.1), member.2)
 
@@ -44,6 +46,7 @@ find-none p (y ∷ ys) e x member = each (λ none later. find-none p ys none x l
     each rest (inl is) false h = ap p (sym is) ∙ h
     each rest (inr later) false h = rest (sym (ap (λ (c : Bool). cond c (Some y) (find p ys)) h) ∙ e) later
 
+-- where no item passes a test, none does
 pub any-none : {X : Type 0} (p : X → Bool) (xs : List X) → list_any p xs ≡ false → (x : X) → Contains xs x → p x ≡ false
 any-none p [] e x member = absurd (omega (arith, member.1))
 any-none p (y ∷ ys) e x member =

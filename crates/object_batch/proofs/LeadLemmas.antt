@@ -46,7 +46,7 @@ module _ (held : Objects) (name : Name) where
       each (objects.Commit c) is kind = absurd (cc)
 
   -- and so back
-  pub tree_held : HoldsAs as_tree held name → IsHeldAs held name kinds.Tree
+  tree_held : HoldsAs as_tree held name → IsHeldAs held name kinds.Tree
   tree_held (t, is) = let at = bind-some as_tree (object_at held name) t is in record { object = at.0; is = at.1; is_kind = each at.0 at.2 }
     where
       each : (o : Object) → as_tree o ≡ Some t → kind_of o ≡ kinds.Tree
@@ -54,7 +54,7 @@ module _ (held : Objects) (name : Name) where
       each (objects.Tree u) e = refl
       each (objects.Commit c) e = absurd (cc)
 
-  pub commit_held : HoldsAs as_commit held name → IsHeldAs held name kinds.Commit
+  commit_held : HoldsAs as_commit held name → IsHeldAs held name kinds.Commit
   commit_held (c, is) = let at = bind-some as_commit (object_at held name) c is in record { object = at.0; is = at.1; is_kind = each at.0 at.2 }
     where
       each : (o : Object) → as_commit o ≡ Some c → kind_of o ≡ kinds.Commit
@@ -62,7 +62,7 @@ module _ (held : Objects) (name : Name) where
       each (objects.Tree u) e = absurd (cc)
       each (objects.Commit d) e = refl
 
-  pub blob_held : HoldsAs as_blob held name → IsHeldAs held name kinds.Blob
+  blob_held : HoldsAs as_blob held name → IsHeldAs held name kinds.Blob
   blob_held (b, is) = let at = bind-some as_blob (object_at held name) b is in record { object = at.0; is = at.1; is_kind = each at.0 at.2 }
     where
       each : (o : Object) → as_blob o ≡ Some b → kind_of o ≡ kinds.Blob

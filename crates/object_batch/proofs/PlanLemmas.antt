@@ -69,7 +69,7 @@ reverse-push : (changes : List Change) (change : Change) (old : History) → rev
 reverse-push changes change old = ap (λ (ws : List Change). ws ++ old) (reverse-append changes (change ∷ []))
 
 -- what is added of a text is a put of it behind the others
-pub put_here : (folder : List ℕ) (text : List ℕ) (earlier : List (List ℕ)) (old : History) (before after : List Change)
+put_here : (folder : List ℕ) (text : List ℕ) (earlier : List (List ℕ)) (old : History) (before after : List Change)
     → ((other : List ℕ) → Contains earlier other → object_name other ≡ object_name text → other ≡ text)
     → ArePut folder earlier old (reverse before ++ old) → AddsMissing folder text earlier old before after (Ok tt)
     → IsPut folder text (reverse before ++ old) (reverse after ++ old)
@@ -108,7 +108,7 @@ plan_more folder texts i text earlier old before after below is are apart put ad
     (subst (λ (ts : List (List ℕ)). AddsMissing folder text ts old before after (Ok tt)) are adds))
 
 -- the writes that put texts are the missing ones
-pub plan_is : (folder : List ℕ) (texts : List (List ℕ)) (old : History) (changes : List Change) → ArePut folder texts old (reverse changes ++ old)
+plan_is : (folder : List ℕ) (texts : List (List ℕ)) (old : History) (changes : List Change) → ArePut folder texts old (reverse changes ++ old)
     → changes ≡ missing_writes folder texts (files_of old)
 plan_is folder texts old changes put =
     let missing = missing_writes folder texts (files_of old) in
@@ -116,7 +116,7 @@ plan_is folder texts old changes put =
     sym (reverse-reverse changes) ∙ ap reverse turned ∙ reverse-reverse missing
 
 -- the missing ones put the texts
-pub are_put : (folder : List ℕ) (texts : List (List ℕ)) (old : History) → ((text : List ℕ) → Contains texts text → IsFree folder old text) → AreApart texts
+are_put : (folder : List ℕ) (texts : List (List ℕ)) (old : History) → ((text : List ℕ) → Contains texts text → IsFree folder old text) → AreApart texts
     → ArePut folder texts old (reverse (missing_writes folder texts (files_of old)) ++ old)
 are_put folder [] old free apart = refl
 are_put folder (text ∷ texts) old free apart = each (λ mid may are. are_put folder texts mid may are) (free text (Contains-first text texts))
@@ -224,6 +224,7 @@ put_made folder texts old mid new changes same plan made = (
   made ∙ ap (λ (h : History). reverse changes ++ h) same ∙ ap (λ (ws : List Change). reverse ws ++ old) plan.1,
 )
 
+-- a batch that stops made a front of its writes
 pub put_stopped : (folder : List ℕ) (texts : List (List ℕ)) (old mid new : History) (changes : List Change) (e : StoreFault) → mid ≡ old → PlanAnswers folder texts old (Ok changes)
     → WritesAnswers changes mid new (Err e) → BatchAnswers folder texts old new (Err (put_fault e))
 put_stopped folder texts old mid new changes e same plan some = each e

@@ -21,12 +21,13 @@ use Rattle.object_store.proofs.HeldLemmas.{named-own}
 use Rattle.object_store.proofs.PathLemmas.{path_name}
 
 -- one text more
-pub ArePut-push : (folder : List ℕ) (texts : List (List ℕ)) (text : List ℕ) (old mid new : History) → ArePut folder texts old mid → IsPut folder text mid new → ArePut folder (texts ++ text ∷ []) old new
+ArePut-push : (folder : List ℕ) (texts : List (List ℕ)) (text : List ℕ) (old mid new : History) → ArePut folder texts old mid → IsPut folder text mid new → ArePut folder (texts ++ text ∷ []) old new
 ArePut-push folder [] text old mid new put last = (new, subst (λ (h : History). IsPut folder text h new) put last, refl)
 ArePut-push folder (t ∷ ts) text old mid new put last = (put.0, put.1, ArePut-push folder ts text put.0 mid new put.2 last)
 
 -- ---- what stands stays
 
+-- a file that stood stays through one put
 pub stays_one : (folder text : List ℕ) (old new : History) (path found : List ℕ) → IsPut folder text old new → file_at old path ≡ Some found → file_at new path ≡ Some found
 stays_one folder text old new path found (inl same) stands = ap (λ (h : History). file_at h path) same.1 ∙ stands
 stays_one folder text old new path found (inr wrote) stands =
@@ -35,11 +36,13 @@ stays_one folder text old new path found (inr wrote) stands =
     differs : joined folder (object_place (object_name text)) ≢ path
     differs e = cc (sym wrote.0 ∙ ap (file_at old) e ∙ stands)
 
+-- and through a batch
 pub stays : (folder : List ℕ) (texts : List (List ℕ)) (old new : History) (path found : List ℕ) → ArePut folder texts old new → file_at old path ≡ Some found → file_at new path ≡ Some found
 stays folder [] old new path found put stands = ap (λ (h : History). file_at h path) put ∙ stands
 stays folder (text ∷ texts) old new path found put stands =
     stays folder texts put.0 new path found put.2 (stays_one folder text old put.0 path found put.1 stands)
 
+-- an object that was put stands
 pub put_stands : (folder text : List ℕ) (old new : History) → IsPut folder text old new → objects_in (files_of new) folder (object_name text) ≡ Some text
 put_stands folder text old new (inl same) = ap (λ (h : History). objects_in (files_of h) folder (object_name text)) same.1 ∙ same.0
 put_stands folder text old new (inr wrote) = ap (λ (h : History). objects_in (files_of h) folder (object_name text)) wrote.1 ∙ objects_in-written folder text old
@@ -65,6 +68,7 @@ all_held folder texts old new short put k d below =
 
 -- ---- what is free stays free for the text
 
+-- a path that was free of another text stays so through one put
 pub free_one : (folder other : List ℕ) (old new : History) (text : List ℕ) → IsPut folder other old new → (object_name other ≡ object_name text → other ≡ text)
     → IsFree folder old text → IsFree folder new text
 free_one folder other old new text (inl same) apart free = subst (λ (h : History). IsFree folder h text) (sym same.1) free
@@ -91,7 +95,7 @@ free_one folder other old new text (inr wrote) apart free = at (bytes_eq one two
         was same free
 
 -- a text that may stand under its name may still, after others that are apart from it
-pub free_kept : (folder : List ℕ) (texts : List (List ℕ)) (old new : History) (text : List ℕ) → ArePut folder texts old new
+free_kept : (folder : List ℕ) (texts : List (List ℕ)) (old new : History) (text : List ℕ) → ArePut folder texts old new
     → ((other : List ℕ) → Contains texts other → object_name other ≡ object_name text → other ≡ text) → IsFree folder old text → IsFree folder new text
 free_kept folder [] old new text put apart free = subst (λ (h : History). IsFree folder h text) (sym put) free
 free_kept folder (t ∷ ts) old new text put apart free =
@@ -101,7 +105,7 @@ free_kept folder (t ∷ ts) old new text put apart free =
 -- ---- what may be put
 
 -- a text that may stand is not taken
-pub free_not_taken : (folder text : List ℕ) (old : History) → IsFree folder old text → IsTaken folder text old → ⊥
+free_not_taken : (folder text : List ℕ) (old : History) → IsFree folder old text → IsTaken folder text old → ⊥
 free_not_taken folder text old (inl none) taken = cc (sym none ∙ taken.stands)
 free_not_taken folder text old (inr stands) taken =
     let same : Some text ≡ Some taken.other = sym stands ∙ taken.stands in
