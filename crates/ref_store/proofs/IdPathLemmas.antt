@@ -40,6 +40,7 @@ long_is_none path front digits is sized all true e =
     let slash : list_all is_hex_digit (47 ∷ form.rest) ≡ true = ap (list_all is_hex_digit) (sym here ∙ there) ∙ rest in
     absurd (cc slash)
 
+-- the place of an id is no object's
 pub id_place_is_no_object : (folder dir : List ℕ) (id : Id) → IsId id → is_object_path (joined folder (id_place dir id)) ≡ false
 id_place_is_no_object folder dir id is =
     let digits = encode_lower id.bytes in

@@ -59,9 +59,6 @@ module _ (files : Files) (folder dir : List ℕ) where
   named : List ℕ → Option RefEntry
   named = entry_named files folder dir
 
-  ref_of_id : Id → Ref
-  ref_of_id id = ref_at files folder (id_place dir id)
-
   -- a name with an entry is the digits of the entry's id, whose ref it is
   entry-is : (name : List ℕ) (entry : RefEntry) → entry_named files folder dir name ≡ Some entry
       → (id_of name ≡ Some entry.id) × (found_of (ref_at files folder (id_place dir entry.id)) ≡ Some entry.found)
@@ -142,6 +139,7 @@ module _ (files : Files) (folder dir : List ℕ) where
       let plain = digits_have_no_slash digits (encode_lower-digits entry.id.bytes is.bytes) in
       filter_map-has (entry_named files folder dir) names digits entry ((listing.members digits).1 (plain, stands)) (entry-of entry is found)
 
+  -- what a folder of refs lists is its refs
   pub listing_is_ref_list : (names : List (List ℕ)) (entries : List RefEntry) → IsListing files (joined folder dir) names
       → entries ≡ filter_map (entry_named files folder dir) names → IsRefList files folder dir entries
   listing_is_ref_list names entries listing is = subst (λ (es : List RefEntry). IsRefList files folder dir es) (sym is) (record {

@@ -15,10 +15,12 @@ use Rattle.ref_store.specs.Refs.{Head, ref_at, ref_of}
 use Rattle.ref_store.specs.Setting.{ref_write}
 use Rattle.ref_store.proofs.RefLemmas.{reads_as_head}
 
+-- a ref that was set reads as its head
 pub set_ref_reads : (files : Files) (folder path : List ℕ) (head : Name) → IsName head → ref_at (written files (ref_write folder path head)) folder path ≡ Head head
 set_ref_reads files folder path head is =
     ap ref_of (written-same files (ref_write folder path head)) ∙ reads_as_head (encode_lower head.bytes) head (name_of-encode_lower head is)
 
+-- other refs stay
 pub other_refs_stay : (files : Files) (folder path other : List ℕ) (head : Name) → path ≢ other
     → ref_at (written files (ref_write folder path head)) folder other ≡ ref_at files folder other
 other_refs_stay files folder path other head differs =
@@ -29,6 +31,7 @@ ref_is_no_object folder rest name e =
     let first : 114 ≡ 111 = ap (λ (t : List ℕ). slice_index t 0) (joined-rest folder (codes "refs/" ++ rest) (object_place name) e) in
     absurd (omega (arith, first))
 
+-- objects stay
 pub objects_stay : (files : Files) (folder rest : List ℕ) (head name : Name)
     → written files (ref_write folder (codes "refs/" ++ rest) head) (joined folder (object_place name)) ≡ files (joined folder (object_place name))
 objects_stay files folder rest head name =
