@@ -1,5 +1,6 @@
 -- The commits of a whole walk are those that it meets, and it has no fault.
 use Rattle.std.proofs.Common.{◌≡◌, inl, inr, ℕ, ◌<◌, ◌≤◌, zero, suc, List, [], ◌∷◌, length, get_or, Contains, Some, None, refl, sym, ◌∙◌, ap, subst, arith}
+use Rattle.std.proofs.lemmas.Option.{same_Some}
 use Rattle.std.proofs.lemmas.Bool.{cases_eq, cases_lt}
 use Rattle.gb_text.specs.declared.id.Name.{Name}
 use Rattle.git_object.specs.declared.commit.Commit.{Commit}
@@ -12,18 +13,17 @@ use Rattle.commit_chain.specs.declared.fault.ChainFault.TheVariants as fault
 use Rattle.commit_chain.proofs.ChainLemmas.{IsCommit-same, Chain-same, Chain-shorter, no_merge}
 use Rattle.commit_chain.proofs.StepLemmas.{IsNoCommit-none}
 
-same_commit : (c d : Commit) → Some c ≡ Some d → c ≡ d
-same_commit c d e = grind (arith, e)
-
 -- a commit from which the walk goes on, or at which it ends, and how it was met
 abbrev pub Linked : Objects → Name → List Met → Type 0
 Linked objects head [] = ⊥
 Linked objects head (met ∷ above) = Chain objects head above met.name × ((parents : List Name) × IsCommit objects met parents)
 
+-- the commits of a whole walk are linked
 pub Linked-walked : (objects : Objects) (head : Name) (walk : List Met) → Walked objects head walk → Linked objects head walk
 Linked-walked objects head [] walked = absurd walked
 Linked-walked objects head (root ∷ above) walked = (walked.0, ([], walked.1))
 
+-- so are those above the first
 pub Linked-above : (objects : Objects) (head : Name) (low high : Met) (above : List Met) → Linked objects head (low ∷ high ∷ above) → Linked objects head (high ∷ above)
 Linked-above objects head low high above linked = (linked.0.0, (low.name ∷ [], linked.0.1))
 
@@ -44,11 +44,8 @@ linked_at objects head (met ∷ high ∷ above) (suc k) d linked near lt =
 pub no_merge-walked : (objects : Objects) (head : Name) (walk : List Met) → Walked objects head walk → (name : Name) → MeetsMerge objects head name → ⊥
 no_merge-walked objects head [] walked = absurd walked
 no_merge-walked objects head (root ∷ above) walked =
-    let none : (c : Commit) → commit_at objects root.name ≡ Some c → c.parents ≡ [] = λ c e. ap (λ (x : Commit). x.parents) (same_commit c walked.1.commit (sym e ∙ walked.1.held)) ∙ walked.1.has in
+    let none : (c : Commit) → commit_at objects root.name ≡ Some c → c.parents ≡ [] = λ c e. ap (λ (x : Commit). x.parents) (same_Some c walked.1.commit (sym e ∙ walked.1.held)) ∙ walked.1.has in
     no_merge objects head above root.name walked.0 (λ c e. omega (arith, ap length (none c e))) (inr (λ p c e has. cc (sym (none c e) ∙ has)))
-  where
-    same_commit : (c d : Commit) → Some c ≡ Some d → c ≡ d
-    same_commit c d e = grind (arith, e)
 
 Passes-first : (met : Met) (walk : List Met) (name : Name) → met.name ≡ name → Passes (met ∷ walk) name
 Passes-first met walk name e = record { met = met; at = (0, omega arith, refl); is = e }
@@ -66,11 +63,11 @@ Chain-passes objects head (y ∷ a) b n m lt first second =
     ]
 
 -- a root is no commit from which a chain goes on
-pub root_ends : (objects : Objects) (head : Name) (root : Met) (a b : List Met) (m : Name) → Chain objects head a root.name → IsCommit objects root []
+root_ends : (objects : Objects) (head : Name) (root : Met) (a b : List Met) (m : Name) → Chain objects head a root.name → IsCommit objects root []
     → Chain objects head b m → length a < length b → ⊥
 root_ends objects head root a b m first is second lt =
     let on = Chain-shorter objects head a b root.name m lt first second in
-    let commit = same_commit on.1 is.commit (sym on.2 ∙ is.held) in
+    let commit = same_Some on.1 is.commit (sym on.2 ∙ is.held) in
     cc (sym on.3 ∙ ap (λ (c : Commit). c.parents) commit ∙ is.has)
 
 -- a whole walk passes each name that the walk meets
@@ -109,10 +106,11 @@ merge_ends : (objects : Objects) (head one two : Name) → (first : MeetsMerge o
     → length first.meets.above < length second.meets.above → ⊥
 merge_ends objects head one two first second lt =
     let on = Chain-shorter objects head first.meets.above second.meets.above one two lt first.meets.chain second.meets.chain in
-    let commit = same_commit on.1 first.commit (sym on.2 ∙ first.held) in
+    let commit = same_Some on.1 first.commit (sym on.2 ∙ first.held) in
     let few : length first.commit.parents ≡ 1 = ap (λ (c : Commit). length c.parents) (sym commit) ∙ ap length on.3 in
     omega (arith, few, first.many)
 
+-- a walk meets one merge at most
 pub one_merge : (objects : Objects) (head one two : Name) → MeetsMerge objects head one → MeetsMerge objects head two → one ≡ two
 one_merge objects head one two first second =
     elim (cases_eq (length first.meets.above) (length second.meets.above)) [
@@ -147,6 +145,7 @@ holds_commit objects head name walk walked count meets none =
     let named : (get_or walk passes.at.0 passes.met).name ≡ name = ap (λ (m : Met). m.name) passes.at.2 ∙ passes.is in
     cc (sym none ∙ ap (commit_at objects) (sym named) ∙ here.1.1.held)
 
+-- a whole walk has no fault
 pub no_fault-walked : (objects : Objects) (head : Name) (walk : List Met) (f : ChainFault) → Walked objects head walk → length walk ≤ 65536 → WalkFaultHolds objects head f → ⊥
 no_fault-walked objects head walk (fault.Missing name) walked count h = holds_commit objects head name walk walked count h.0 (IsNoCommit-none objects name (fault.Missing name) (refl, h.1))
 no_fault-walked objects head walk (fault.Damaged name) walked count h = holds_commit objects head name walk walked count h.0 (IsNoCommit-none objects name (fault.Damaged name) (refl, h.1))

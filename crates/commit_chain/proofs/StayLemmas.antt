@@ -10,7 +10,7 @@ use Rattle.commit_chain.specs.declared.chain.Met.{Met}
 
 module _ (old new : Objects) (grew : OnlyGrew old new) where
   -- a commit that was held is held
-  pub IsCommit_stays : (met : Met) (parents : List Name) → IsCommit old met parents → IsCommit new met parents
+  IsCommit_stays : (met : Met) (parents : List Name) → IsCommit old met parents → IsCommit new met parents
   IsCommit_stays met parents is = record { commit = is.commit; held = stays old new grew as_commit met.name is.commit is.held; tree = is.tree; has = is.has }
 
   -- steps by the single parent stay

@@ -1,5 +1,6 @@
 -- What a step of the walk says of the whole walk.
 use Rattle.std.proofs.Common.{◌≡◌, inl, inr, ◌≤◌, List, length, Option, Some, None, Ok, Err, sym, ◌∙◌, ap, subst, arith}
+use Rattle.std.proofs.lemmas.Option.{same_Some}
 use Rattle.gb_text.specs.declared.id.Name.{Name}
 use Rattle.git_object.specs.declared.commit.Commit.{Commit}
 use Rattle.object_store.specs.Held.{Objects}
@@ -24,7 +25,7 @@ IsNoCommit-none objects name (fault.NotCommit n) h = kind_fault-none as_commit o
 IsNoCommit-none objects name fault.TooLong h = absurd h
 
 -- a name that the walk meets and that holds no commit is a fault of the walk
-pub WalkFaultHolds-commit : (objects : Objects) (head name : Name) (f : ChainFault) → Meets objects head name → IsNoCommit objects name f → WalkFaultHolds objects head f
+WalkFaultHolds-commit : (objects : Objects) (head name : Name) (f : ChainFault) → Meets objects head name → IsNoCommit objects name f → WalkFaultHolds objects head f
 WalkFaultHolds-commit objects head name (fault.Missing n) meets h = rw h.0 (meets, h.1)
 WalkFaultHolds-commit objects head name (fault.Damaged n) meets h = rw h.0 (meets, h.1)
 WalkFaultHolds-commit objects head name (fault.Large n) meets h = rw h.0 (meets, h.1)
@@ -52,13 +53,10 @@ pub WalkRefused-too_long : (objects : Objects) (head : Name) (above : List Met) 
 WalkRefused-too_long objects head above name step chain far h =
     let held : commit_at objects name ≡ Some h.1.commit = ap (commit_at objects) (sym h.0) ∙ h.1.held in
     let few : length h.1.commit.parents ≤ 1 = rw h.1.has (one_at_most step.1) in (
-      no_merge objects head above name chain (λ c e. subst (λ (c : Commit). length c.parents ≤ 1) (same_commit h.1.commit c (sym held ∙ e)) few) (inl far),
+      no_merge objects head above name chain (λ c e. subst (λ (c : Commit). length c.parents ≤ 1) (same_Some h.1.commit c (sym held ∙ e)) few) (inl far),
       record { above = above; name = name; commit = h.1.commit; chain = chain; far = far; held = held },
     )
   where
     one_at_most : (o : Option Name) → length (parents_of o) ≤ 1
     one_at_most None = omega arith
     one_at_most (Some p) = omega arith
-
-    same_commit : (c d : Commit) → Some c ≡ Some d → c ≡ d
-    same_commit c d e = grind (arith, e)

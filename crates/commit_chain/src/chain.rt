@@ -31,7 +31,7 @@ pub fn walk<S: Store>(
     ensures answers { IsTrue S.tells
         → WalkAnswers (objects_after (S.history disk.old) folder.now) head.now result }
     ensures unwritten { IsTrue S.tells → S.history disk.new ≡ S.history disk.old }
-    ensures few { IfOk result (λ walk. length walk.items ≤ 65536) }
+    ensures few { IfOk result (λ walk. length walk.items ≤ MOST_COMMITS) }
     ensures reads { S.object_reads disk.new ≤ S.object_reads disk.old + (MOST_COMMITS + 1) }
     ensures once { IfOk result (λ walk. S.object_reads disk.new
         ≤ S.object_reads disk.old + length walk.items) }
