@@ -1,0 +1,10 @@
+pub mod BelowLemmas
+pub mod CheckLemmas
+pub mod ClockLemmas
+pub mod IndexLemmas
+pub mod ListLemmas
+pub mod NodeLemmas
+pub mod OrderLaws
+pub mod OrderLemmas
+pub mod SearchLemmas
+pub mod TestLemmas

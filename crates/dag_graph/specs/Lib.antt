@@ -1,0 +1,6 @@
+pub mod Below
+pub mod Faults
+pub mod Index
+pub mod Nodes
+pub mod Order
+pub mod Search

@@ -1,0 +1,74 @@
+//! Laws of graphs, each the contract of a function that does nothing.
+ghost use Rattle.std.specs.Prelude.{◌≡◌, ◌<◌, ◌↔◌, ◌⊎◌, ◌++◌, ◌∷◌, [], ℕ, List, length, Contains};
+ghost use Rattle.gb_text.specs.declared.id.Name.{Name};
+ghost use Rattle.dag_graph.specs.Below.{IsAncestor, IsBelow, IsRing, added};
+ghost use Rattle.dag_graph.specs.Faults.{ClocksRise, HasClockOrder, IsFaultless, IsRoot};
+ghost use Rattle.dag_graph.specs.Nodes.{AreNodes, node_at};
+ghost use Rattle.dag_graph.specs.Order.{IsOrder, ParentsComeFirst, listed};
+ghost use Rattle.dag_graph.specs.declared.node.Node.{Node};
+
+/// Below is reflexive and transitive, and so is being an ancestor.
+pub fn below_is_transitive()
+    ensures heads { (nodes : List Node) (heads : List Name) (name : Name) → Contains heads name
+        → IsBelow nodes heads name }
+    ensures through { (nodes : List Node) (heads others : List Name) (name : Name)
+        → ((low : Name) → Contains others low → IsBelow nodes heads low)
+        → IsBelow nodes others name → IsBelow nodes heads name }
+    ensures itself { (nodes : List Node) (name : Name) → IsAncestor nodes name name }
+    ensures ancestors { (nodes : List Node) (low mid high : Name) → IsAncestor nodes low mid
+        → IsAncestor nodes mid high → IsAncestor nodes low high }
+{}
+
+/// What is below is what adding parents gives, as many times as there are nodes.
+pub fn below_is_what_adding_parents_gives()
+    ensures { (nodes : List Node) (heads : List Name) (name : Name)
+        → IsBelow nodes heads name ↔ Contains (added nodes heads (length nodes)) name }
+{}
+
+/// Where clocks rise, an ancestor other than the node has a lesser clock, and nodes that are
+/// ancestors of one another are one.
+pub fn ancestors_have_lesser_clocks()
+    ensures lesser { (nodes : List Node) (low high : Node) → AreNodes nodes → ClocksRise nodes
+        → Contains nodes low → Contains nodes high → IsAncestor nodes low.name high.name
+        → (low ≡ high) ⊎ (low.edit < high.edit) }
+    ensures mutual { (nodes : List Node) (one other : Node) → AreNodes nodes → ClocksRise nodes
+        → Contains nodes one → Contains nodes other → IsAncestor nodes one.name other.name
+        → IsAncestor nodes other.name one.name → one ≡ other }
+{}
+
+/// In a ring some clock is not greater than a parent's.
+pub fn a_ring_has_a_clock_fault()
+    ensures { (nodes : List Node) (name : Name) → AreNodes nodes → IsRing nodes name
+        → (high : Name) × (low : Name) × HasClockOrder nodes high low }
+{}
+
+/// Where no fault holds there is exactly one root, and every node leads to it.
+pub fn a_graph_without_faults_has_one_root()
+    ensures { (nodes : List Node) → AreNodes nodes → IsFaultless nodes
+        → (root : ℕ) × IsRoot nodes root × ((place : ℕ) → place < length nodes
+        → IsAncestor nodes (node_at nodes root).name (node_at nodes place).name) }
+{}
+
+/// Where clocks rise, the order lists each parent before its children.
+pub fn parents_stand_before_children()
+    ensures { (nodes : List Node) (places : List ℕ) → IsOrder nodes places → ClocksRise nodes
+        → ParentsComeFirst nodes places }
+{}
+
+/// A node with a greater clock than all, above any parents, stands at the end of the order.
+pub fn a_later_node_stands_at_the_end()
+    ensures { (nodes : List Node) (node : Node) (places : List ℕ) → IsOrder nodes places
+        → ((other : Node) → Contains nodes other → other.edit < node.edit)
+        → IsOrder (nodes ++ node ∷ []) (places ++ length nodes ∷ []) }
+{}
+
+/// A list of nodes has at most one order, and the same nodes in another list are listed in the same
+/// way.
+pub fn orders_are_determined()
+    ensures places { (nodes : List Node) (one other : List ℕ) → AreNodes nodes
+        → IsOrder nodes one → IsOrder nodes other → one ≡ other }
+    ensures nodes { (nodes others : List Node) (places further : List ℕ) → IsOrder nodes places
+        → IsOrder others further
+        → ((node : Node) → Contains nodes node ↔ Contains others node)
+        → listed nodes places ≡ listed others further }
+{}

@@ -1,0 +1,23 @@
+//! Graphs of commits: the order of their operations, what may be wrong with them, and ancestors.
+#![tactic(auto)]
+
+mod check;
+mod fault;
+mod graph;
+mod index;
+mod laws;
+mod node;
+mod order;
+mod search;
+
+pub use fault::GraphFault;
+pub use graph::Graph;
+pub use laws::{
+    a_graph_without_faults_has_one_root, a_later_node_stands_at_the_end, a_ring_has_a_clock_fault,
+    ancestors_have_lesser_clocks, below_is_transitive, below_is_what_adding_parents_gives,
+    orders_are_determined, parents_stand_before_children,
+};
+pub use node::Node;
+
+#[cfg(test)]
+mod tests;
