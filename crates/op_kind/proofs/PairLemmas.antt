@@ -24,7 +24,8 @@ use Rattle.op_kind.specs.Members.{text_at}
 use Rattle.op_kind.specs.Metadata.{Entries, with_texts, entries_from, pair_of, pairs_at}
 use Rattle.op_kind.specs.Pairs.{by_key, AreInKeyOrder, texts_of, both_of, ArePairsOf}
 use Rattle.op_kind.specs.declared.place.Pair.{Pair}
-use Rattle.op_kind.proofs.SortedLemmas.{same_elements, put_sorted, put_adds}
+use Rattle.gb_text.proofs.SortedLemmas.{same_elements}
+use Rattle.op_kind.proofs.SortedLemmas.{put_sorted, put_adds}
 
 -- ---- entries in byte order
 

@@ -1,16 +1,13 @@
 -- A string without escapes is its own text.
 use Rattle.std.proofs.Common.{◌≡◌, ℕ, Bool, true, false, ◌&&◌, ◌==◌, nat_lt, cond, List, [], ◌∷◌, ◌++◌, Some, refl, sym, ◌∙◌, ap, arith}
 use Rattle.std.specs.Prelude.{not, ◌||◌}
+use Rattle.std.proofs.lemmas.Bool.{and_parts}
 use Rattle.std.proofs.lemmas.Bool.Decides.{nat_tests}
 use Rattle.std.specs.List.{list_all}
 use Rattle.std.specs.Str.{IsUtf8}
 use Rattle.json.specs.Print.{escape, escape_byte, escape_letter, quoted}
 use Rattle.op_kind.specs.Members.{is_plain, text_at}
 use Rattle.op_kind.specs.QuotedLaws.{quoted_reads}
-
-both : (a b : Bool) → (a && b) ≡ true → (a ≡ true) × (b ≡ true)
-both true b e = (refl, e)
-both false b e = absurd (cc)
 
 -- a plain byte is written as it is
 byte_plain : (x : ℕ) → is_plain x ≡ true → escape_byte x ≡ x ∷ []
@@ -20,7 +17,7 @@ byte_plain x plain = grind (arith, nat_tests)
 escape_plain : (t : List ℕ) → list_all is_plain t ≡ true → escape t ≡ t
 escape_plain [] plain = refl
 escape_plain (x ∷ xs) plain =
-    let here = both (is_plain x) (list_all is_plain xs) plain in
+    let here = and_parts (is_plain x) (list_all is_plain xs) plain in
     ap (λ (l : List ℕ). l ++ escape xs) (byte_plain x here.0) ∙ ap (λ (l : List ℕ). x ∷ l) (escape_plain xs here.1)
 
 -- A string without escapes reads as what stands between its quotes.
