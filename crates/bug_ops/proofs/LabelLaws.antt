@@ -1,15 +1,19 @@
 -- Which labels are on after a label change, and in which order.
-use Rattle.std.proofs.Common.{◌≡◌, ◌∙◌, ◌||◌, ◌&&◌, refl, sym, ap, Bool, true, false, cond, List, [], ◌∷◌, ℕ, not}
+use Rattle.std.proofs.Common.{◌≡◌, ◌∙◌, ◌||◌, ◌&&◌, refl, sym, ap, Bool, true, false, List, [], ◌∷◌, ℕ, not}
 use Rattle.std.specs.BTreeMap.{insert_entry, is_at}
-use Rattle.std.specs.List.{AllByRecursion, filter, list_any}
+use Rattle.std.specs.List.{AllByRecursion, list_any}
 use Rattle.std.specs.List.Sorted.{IsStrictlySortedBy}
 use Rattle.std.specs.Str.{bytes_eq}
+use Rattle.std.specs.Cmp.{both_ways}
 use Rattle.std.specs.Cmp.Lexicographic.{nat_list_cmp_total}
 use Rattle.std.specs.Ordering.{is_eq, match_ordering}
 use Rattle.std.specs.declared.cmp.Ordering.{Ordering}
 use Rattle.std.specs.declared.cmp.Ordering.TheVariants.{Less, Equal, Greater}
+use Rattle.std.proofs.Math.Bool.{and_comm, or-false, or_assoc}
+use Rattle.std.proofs.lemmas.List.Kept.{IsStrictlySortedBy-filter}
 use Rattle.std.proofs.lemmas.Map.Made.{is_some-lookup}
 use Rattle.std.proofs.lemmas.Map.Text.{is_eq-slice_cmp}
+use Rattle.std.proofs.lemmas.Map.Views.{any-filter_same}
 use Rattle.std.proofs.lemmas.Slice.Eq.{bytes_eq-Decides}
 use Rattle.bug_ops.specs.Mentions.{is_among}
 use Rattle.bug_ops.specs.Snapshots.{by_bytes, Marks, with_texts, is_marked, texts_of, changed}
@@ -22,12 +26,8 @@ same_of l x h = (bytes_eq-Decides l x).0 h
 eq_back : (a b : List ℕ) → bytes_eq a b ≡ true → bytes_eq b a ≡ true
 eq_back a b h = (bytes_eq-Decides b a).1 (sym (same_of a b h))
 
-both_ways : (p q : Bool) → (p ≡ true → q ≡ true) → (q ≡ true → p ≡ true) → p ≡ q
-both_ways true q f g = sym (f refl)
-both_ways false true f g = g refl
-both_ways false false f g = refl
-
-eq_turned : (a b : List ℕ) → bytes_eq a b ≡ bytes_eq b a
+-- equality of texts goes both ways
+pub eq_turned : (a b : List ℕ) → bytes_eq a b ≡ bytes_eq b a
 eq_turned a b = both_ways (bytes_eq a b) (bytes_eq b a) (eq_back a b) (eq_back b a)
 
 or_twice : (a b : Bool) → (a || b) ≡ (a || (a || b))
@@ -39,32 +39,6 @@ or_swap true true c = refl
 or_swap true false c = refl
 or_swap false true c = refl
 or_swap false false c = refl
-
-or_false : (a : Bool) → (a || false) ≡ a
-or_false true = refl
-or_false false = refl
-
-and_false : (r : Bool) → (r && false) ≡ false
-and_false true = refl
-and_false false = refl
-
-any_cons : {A : Type 0} (f : A → Bool) (y : A) (ys : List A) (b : Bool) → list_any f (cond b (y ∷ ys) ys) ≡ cond b (f y || list_any f ys) (list_any f ys)
-any_cons f y ys true = refl
-any_cons f y ys false = refl
-
-keeps_one : (a b c r : Bool) → (a ≡ true → b ≡ c) → cond b (a || (r && c)) (r && c) ≡ ((a || r) && c)
-keeps_one true true c r h = h refl
-keeps_one false true c r h = refl
-keeps_one true false c r h = ap (λ c. r && c) (sym (h refl)) ∙ and_false r ∙ h refl
-keeps_one false false c r h = refl
-
--- an element is found among those that are kept, where all that are like it are kept
-any_filter : {A : Type 0} (f p : A → Bool) (c : Bool) → ((y : A) → f y ≡ true → p y ≡ c) → (ys : List A) → list_any f (filter p ys) ≡ (list_any f ys && c)
-any_filter f p c h [] = refl
-any_filter f p c h (y ∷ ys) =
-    any_cons f y (filter p ys) (p y)
-    ∙ ap (λ r. cond (p y) (f y || r) r) (any_filter f p c h ys)
-    ∙ keeps_one (f y) (p y) c (list_any f ys) (h y)
 
 any_same : {A : Type 0} (f g : A → Bool) → ((y : A) → f y ≡ g y) → (ys : List A) → list_any f ys ≡ list_any g ys
 any_same f g h [] = refl
@@ -87,26 +61,23 @@ texts_there marks [] x = refl
 texts_there marks (t ∷ ts) x =
     texts_there (insert_entry by_bytes marks t tt) ts x
     ∙ ap (λ b. is_among ts x || b) (insert_there marks t x)
-    ∙ or_swap (is_among ts x) (bytes_eq t x) (is_among (texts_of marks) x) ∙ or_group (bytes_eq t x) (is_among ts x) (is_among (texts_of marks) x)
-  where
-    or_group : (a b c : Bool) → (a || (b || c)) ≡ ((a || b) || c)
-    or_group true b c = refl
-    or_group false b c = refl
+    ∙ or_swap (is_among ts x) (bytes_eq t x) (is_among (texts_of marks) x) ∙ sym (or_assoc (bytes_eq t x) (is_among ts x) (is_among (texts_of marks) x))
 
-marked_is : (ts : List (List ℕ)) (x : List ℕ) → is_marked (with_texts [] ts) x ≡ is_among ts x
+pub marked_is : (ts : List (List ℕ)) (x : List ℕ) → is_marked (with_texts [] ts) x ≡ is_among ts x
 marked_is ts x =
     is_some-lookup (is_at (by_bytes x)) (with_texts [] ts)
     ∙ any_same (is_at (by_bytes x)) (λ l. bytes_eq l x) (λ k. is_eq-slice_cmp x k ∙ eq_turned x k) (texts_of (with_texts [] ts))
-    ∙ texts_there [] ts x ∙ or_false (is_among ts x)
+    ∙ texts_there [] ts x ∙ or-false (is_among ts x)
 
 -- A label is on exactly where it is added or was on before, and is not removed.
 pub label_change : (labels added removed : List (List ℕ)) (x : List ℕ) → is_among (changed labels added removed) x ≡ ((is_among added x || is_among labels x) && not (is_among removed x))
 label_change labels added removed x =
-    any_filter (λ l. bytes_eq l x) (λ t. not (is_marked (with_texts [] removed) t)) (not (is_among removed x))
+    any-filter_same (λ l. bytes_eq l x) (λ t. not (is_marked (with_texts [] removed) t)) (not (is_among removed x))
     (λ y same. ap not (ap (is_marked (with_texts [] removed)) (same_of y x same) ∙ marked_is removed x)) (texts_of (with_texts (with_texts [] labels) added))
+    ∙ and_comm (not (is_among removed x)) _
     ∙ ap (λ b. b && not (is_among removed x)) (
     texts_there (with_texts [] labels) added x
-    ∙ ap (λ b. is_among added x || b) (texts_there [] labels x ∙ or_false (is_among labels x))
+    ∙ ap (λ b. is_among added x || b) (texts_there [] labels x ∙ or-false (is_among labels x))
     )
 
 -- ---- their order
@@ -124,7 +95,7 @@ all_above : (t u : List ℕ) (us : List (List ℕ)) → by_bytes t u ≡ Less �
 all_above t u [] less all = tt
 all_above t u (v ∷ us) less all = (nat_list_cmp_total.trans t u v less all.0, all_above t u us less all.1)
 
-insert_ascends : (marks : Marks) (t : List ℕ) → IsStrictlySortedBy by_bytes (texts_of marks) → IsStrictlySortedBy by_bytes (texts_of (insert_entry by_bytes marks t tt))
+pub insert_ascends : (marks : Marks) (t : List ℕ) → IsStrictlySortedBy by_bytes (texts_of marks) → IsStrictlySortedBy by_bytes (texts_of (insert_entry by_bytes marks t tt))
 unfolding IsStrictlySortedBy
 insert_ascends [] t s = (tt, tt)
 insert_ascends (e ∷ es) t s = by (by_bytes t e.0) refl (insert_ascends es t s.1)
@@ -141,23 +112,6 @@ texts_ascend : (marks : Marks) (ts : List (List ℕ)) → IsStrictlySortedBy by_
 texts_ascend marks [] s = s
 texts_ascend marks (t ∷ ts) s = texts_ascend (insert_entry by_bytes marks t tt) ts (insert_ascends marks t s)
 
-all_kept : (P : List ℕ → Type 0) (p : List ℕ → Bool) (ts : List (List ℕ)) → AllByRecursion P ts → AllByRecursion P (filter p ts)
-all_kept P p [] all = tt
-all_kept P p (t ∷ ts) all = by (p t) (all_kept P p ts all.1)
-  where
-    by : (b : Bool) → AllByRecursion P (filter p ts) → AllByRecursion P (cond b (t ∷ filter p ts) (filter p ts))
-    by true rest = (all.0, rest)
-    by false rest = rest
-
-kept_ascend : (p : List ℕ → Bool) (ts : List (List ℕ)) → IsStrictlySortedBy by_bytes ts → IsStrictlySortedBy by_bytes (filter p ts)
-unfolding IsStrictlySortedBy
-kept_ascend p [] s = tt
-kept_ascend p (t ∷ ts) s = by (p t) (kept_ascend p ts s.1)
-  where
-    by : (b : Bool) → IsStrictlySortedBy by_bytes (filter p ts) → IsStrictlySortedBy by_bytes (cond b (t ∷ filter p ts) (filter p ts))
-    by true rest = (all_kept (λ v. by_bytes t v ≡ Less) p ts s.0, rest)
-    by false rest = rest
-
 none_ascend : IsStrictlySortedBy by_bytes []
 unfolding IsStrictlySortedBy
 none_ascend = tt
@@ -165,5 +119,5 @@ none_ascend = tt
 -- The labels ascend after a change, whatever they were before.
 pub changed_ascend : (labels added removed : List (List ℕ)) → IsStrictlySortedBy by_bytes (changed labels added removed)
 changed_ascend labels added removed =
-    kept_ascend (λ t. not (is_marked (with_texts [] removed) t)) (texts_of (with_texts (with_texts [] labels) added))
+    IsStrictlySortedBy-filter by_bytes (λ t. not (is_marked (with_texts [] removed) t)) (texts_of (with_texts (with_texts [] labels) added))
     (texts_ascend (with_texts [] labels) added (texts_ascend [] labels none_ascend))

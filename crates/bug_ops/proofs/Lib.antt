@@ -1,6 +1,9 @@
-pub mod ReadLemmas
+pub mod Names
 pub mod AnswerLemmas
 pub mod WriteLemmas
 pub mod LabelLaws
 pub mod OrderLaws
-pub mod EditLemmas
+pub mod Places
+pub mod KeySearch
+pub mod SearchLemmas
+pub mod PairSearch

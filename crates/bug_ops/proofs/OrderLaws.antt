@@ -6,6 +6,7 @@ use Rattle.std.specs.Map.{lookup}
 use Rattle.std.specs.List.{AllByRecursion}
 use Rattle.std.specs.List.Sorted.{IsStrictlySortedBy}
 use Rattle.std.specs.Cmp.Lexicographic.{nat_list_cmp_total}
+use Rattle.std.proofs.lemmas.Bool.{or_parts}
 use Rattle.std.proofs.lemmas.List.{length-map}
 use Rattle.std.proofs.lemmas.List.Folds.{list_any-append}
 use Rattle.std.proofs.lemmas.Map.{none_passes_from_lookup}
@@ -30,7 +31,8 @@ use Rattle.bug_ops.proofs.LabelLaws.{changed_ascend}
 
 -- ---- metadata
 
-pair_ascends : (es : Entries) (p : Pair) → Ascends es → Ascends (with_pair es p)
+-- Entries ascend with a further pair.
+pub pair_ascends : (es : Entries) (p : Pair) → Ascends es → Ascends (with_pair es p)
 pair_ascends es p s = by (lookup (is_at (by_bytes p.key)) es) refl
   where
     by : (o : Option (List ℕ)) → lookup (is_at (by_bytes p.key)) es ≡ o → Ascends (if is_some o then es else insert_entry by_bytes es p.key p.value)
@@ -41,7 +43,8 @@ pairs_put_ascend : (es : Entries) (ps : List Pair) → Ascends es → Ascends (w
 pairs_put_ascend es [] s = s
 pairs_put_ascend es (p ∷ ps) s = pairs_put_ascend (with_pair es p) ps (pair_ascends es p s)
 
-joined_ascend : (pairs others : List Pair) → AreInKeyOrder (joined_pairs pairs others)
+-- Joined pairs are in byte order of their keys, whatever they were before.
+pub joined_ascend : (pairs others : List Pair) → AreInKeyOrder (joined_pairs pairs others)
 joined_ascend pairs others = pairs_ascend (with_pairs (with_pairs [] pairs) others) (pairs_put_ascend (with_pairs [] pairs) others (pairs_put_ascend [] pairs empty_ascends))
 
 -- ---- persons
@@ -49,10 +52,6 @@ joined_ascend pairs others = pairs_ascend (with_pairs (with_pairs [] pairs) othe
 same_back : (a b : Id) (t : Bool) → same_id b a ≡ t → same_id a b ≡ false → t ≡ false
 same_back a b true is h = let e = (bytes_eq-Decides b.bytes a.bytes).0 is in let back = (bytes_eq-Decides a.bytes b.bytes).1 (sym e) in absurd (cc (h, back))
 same_back a b false is h = refl
-
-or_parts : (a b : Bool) → (a || b) ≡ false → (a ≡ false) × (b ≡ false)
-or_parts true b h = absurd (cc (h))
-or_parts false b h = (refl, h)
 
 seen_behind : (ids : List Id) (id other : Id) → is_seen ids other ≡ false → same_id id other ≡ false → is_seen (ids ++ id ∷ []) other ≡ false
 seen_behind ids id other h k =

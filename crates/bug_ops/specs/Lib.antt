@@ -1,7 +1,9 @@
 pub mod BugForms
 pub mod BugTable
 pub mod FormsKeep
+pub mod Bug
 pub mod Snapshots
+pub mod Places
 pub mod Kind
 pub mod Laws
 pub mod Mentions

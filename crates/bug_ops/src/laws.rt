@@ -13,17 +13,17 @@ ghost use Rattle.bug_ops.specs.declared.op.BugOp.{BugOp as OpValue};
 ghost use Rattle.bug_ops.specs.declared.op.BugOp.TheVariants.{LabelChange};
 ghost use Rattle.bug_ops.specs.declared.snapshot.Snapshot.{Snapshot as SnapshotValue};
 
-/// A label is on after a label change exactly where it is added or was on before, and is not removed.
-/// So one that is both added and removed is off.
+/// A label is on after a label change exactly where it is added or was on before, and is not
+/// removed. So one that is both added and removed is off.
 pub fn labels_go_by_mention()
     ensures { (common : CommonValue) (labels added removed : List (List ℕ)) (label : List ℕ)
         → is_among (labels_after labels (LabelChange common added removed)) label
         ≡ ((is_among added label || is_among labels label) && not (is_among removed label)) }
 {}
 
-/// Each snapshot that can be reached by operations that keep the rules is in order: labels and metadata
-/// ascend in byte order and stand once, actors and participants stand once, and the comments are
-/// counted.
+/// Each snapshot that can be reached by operations that keep the rules is in order: labels and
+/// metadata ascend in byte order and stand once, actors and participants stand once, and the
+/// comments are counted.
 pub fn reached_snapshots_are_in_order()
     ensures start { IsInOrder empty_snapshot }
     ensures step { (snapshot : SnapshotValue) (op : OpValue) → KeepsOp bug_table op

@@ -5,7 +5,9 @@ ghost use Rattle.std.specs.List.{list_all};
 ghost use Rattle.gb_text.specs.Rules.{is_title_text};
 ghost use Rattle.op_kind.specs.Answers.{Answers};
 ghost use Rattle.op_kind.specs.MemberForms.{value_in, MemberFault};
-ghost use Rattle.bug_ops.specs.BugForms.{status_of, status_at, names_of, names_at, title_form, was_form, message_form, files_form, status_form, labels_form, target_form, pairs_form};
+ghost use Rattle.bug_ops.specs.BugForms.{status_of, status_at, names_of, names_at};
+ghost use Rattle.bug_ops.specs.BugForms.{title_form, was_form, message_form, files_form};
+ghost use Rattle.bug_ops.specs.BugForms.{status_form, labels_form, target_form, pairs_form};
 
 use crate::BugStatus;
 use gb_text::{Id, List, Memory, Name, Text, is_message, is_title, read_decimal};
@@ -77,7 +79,7 @@ pub(crate) fn status_in(fields: &[Field]) -> Result<BugStatus, OpFault>
 }
 
 // The object names whose digits the texts are. None where a text is that of none.
-#[tactic(auto, using(crate::proofs::ReadLemmas::one_more_name, crate::proofs::ReadLemmas::no_more_names))]
+#[tactic(auto, using(crate::proofs::Names::one_more_name, crate::proofs::Names::no_more_names))]
 fn names_of(alloc: Global, texts: &[Text]) -> Result<Option<List<Name>>, Memory>
     ensures { IfOk result (λ o. o ≡ names_of texts.now) }
 {

@@ -71,7 +71,8 @@ fn create_members<'a>(
     files: &List<Name>,
 ) -> Result<Vec<Written<'a>>, Memory>
     ensures { IfOk result (λ v. fields_for v.items
-        ≡ members_with bug_table types.Creation common.now (title.now, (message.now, (files.now, tt)))) }
+        ≡ members_with bug_table types.Creation common.now
+        (title.now, (message.now, (files.now, tt)))) }
 {
     let mut members = common_members(alloc, common)?;
     let value = quote(alloc, title.as_str())?;
@@ -156,7 +157,8 @@ fn edit_comment_members<'a>(
     files: &List<Name>,
 ) -> Result<Vec<Written<'a>>, Memory>
     ensures { IfOk result (λ v. fields_for v.items
-        ≡ members_with bug_table types.Edit common.now (target.now, (message.now, (files.now, tt)))) }
+        ≡ members_with bug_table types.Edit common.now
+        (target.now, (message.now, (files.now, tt)))) }
 {
     let mut members = common_members(alloc, common)?;
     let value = quote_id(alloc, target)?;

@@ -1,0 +1,12 @@
+-- One label more is taken off.
+use Rattle.std.proofs.Common.{◌∙◌}
+use Rattle.bug_ops.proofs.SearchLemmas.{one_more_off}
+use Rattle.bug_ops.proofs.labels.take_off_each.Goals as goal
+
+pub loop-label-preserved : goal.loop-label-preserved
+loop-label-preserved c = record {
+  labels =
+      c.loop-label.invariant.labels
+      ∙ one_more_off c.loop-label.labels.items c.take_off.new.labels.items c.args.removed.now c.loop-label.label-index c.label-item.result c.loop-label-test.true c.label-item.is c.take_off.ensures.label;
+  ascend = c.take_off.ensures.ascend;
+}
