@@ -9,6 +9,7 @@ use Rattle.gb_text.specs.declared.id.Name.{Name}
 use Rattle.git_object.specs.Grammar.{HasGoodNames, IsEntryName, Lacks}
 use Rattle.git_object.proofs.DistinctLaws.{distinct_are}
 use Rattle.git_object.proofs.CutLaws.{lacks_by_test, lacks_append}
+use Rattle.git_object.proofs.FrameLaws.{decimal_lacks}
 use Rattle.gb_text.specs.declared.decimal.TheConstants.{LIMIT}
 use Rattle.op_kind.specs.declared.place.TheConstants.{VERSION}
 use Rattle.op_kind.specs.WritingLaws.{decimal_reads}
@@ -34,15 +35,6 @@ tree_head edit (Some n) ops is may =
 
 -- ---- their names
 
-digits_lack : (b : ℕ) (ds : List ℕ) → b < 48 → Lacks b (map (λ d. 48 + d) ds)
-digits_lack b [] low = tt
-digits_lack b (d ∷ ds) low = ((λ e. omega arith), digits_lack b ds low)
-
-decimal_lacks : (b n : ℕ) → b < 48 → IsClock n → Lacks b (decimal n)
-decimal_lacks b n low is =
-    let high : n ≤ LIMIT = is.high in
-    subst (Lacks b) (sym (decimal-digits_of n is.low (omega arith))) (digits_lack b (digits_of 10 n) low)
-
 named : (b : ℕ) (bs rest : List ℕ) → Lacks 0 (b ∷ bs) → Lacks 47 (b ∷ bs) → Lacks 0 rest → Lacks 47 rest → IsEntryName ((b ∷ bs) ++ rest)
 named b bs rest no_zero no_slash rest_zero rest_slash = record {
   some = λ e. absurd (cc (e));
@@ -60,11 +52,11 @@ version_named = named 118 (codes "ersion-") (decimal VERSION) (lacks_by_test 0 (
 
 edit_named : (n : ℕ) → IsClock n → IsEntryName (codes "edit-clock-" ++ decimal n)
 edit_named n is = named 101 (codes "dit-clock-") (decimal n) (lacks_by_test 0 (codes "edit-clock-") refl) (lacks_by_test 47 (codes "edit-clock-") refl)
-    (decimal_lacks 0 n (omega arith) is) (decimal_lacks 47 n (omega arith) is)
+    (decimal_lacks 0 n (omega arith)) (decimal_lacks 47 n (omega arith))
 
 create_named : (n : ℕ) → IsClock n → IsEntryName (codes "create-clock-" ++ decimal n)
 create_named n is = named 99 (codes "reate-clock-") (decimal n) (lacks_by_test 0 (codes "create-clock-") refl) (lacks_by_test 47 (codes "create-clock-") refl)
-    (decimal_lacks 0 n (omega arith) is) (decimal_lacks 47 n (omega arith) is)
+    (decimal_lacks 0 n (omega arith)) (decimal_lacks 47 n (omega arith))
 
 -- The tree that is made can be written.
 pub tree_names : (edit : ℕ) (create : Option ℕ) (ops : Name) → IsClock edit → ForSome create (λ n. IsClock n) → HasGoodNames (tree_with edit create ops)
