@@ -25,28 +25,8 @@ use Rattle.commit_pack.specs.declared.fault.CommitPackFault.TheVariants as fault
 
 -- ---- refusals of the head
 
--- what keeps a name from being a tree keeps it from saying a head
-pub HeadAnswers-tree : (objects : Objects) (name : Name) (f : KindFault) → AnswersAs as_tree objects name (Err f) → HeadAnswers objects name (Err (tree_fault f))
-HeadAnswers-tree objects name kind.Memory h = tt
-HeadAnswers-tree objects name kind.Disk h = tt
-HeadAnswers-tree objects name (kind.Missing n) h = h
-HeadAnswers-tree objects name (kind.Damaged n) h = h
-HeadAnswers-tree objects name (kind.Large n) h = h
-HeadAnswers-tree objects name (kind.OtherKind n) h = h.1
-
--- so does a fault of the tree
-pub HeadAnswers-fault : (objects : Objects) (name : Name) (tree : Tree) (f : PackFault) → tree_at objects name ≡ Some tree → HeadFault tree f
-    → HeadAnswers objects name (Err (pack_fault f))
-HeadAnswers-fault objects name tree pack.Memory held h = tt
-HeadAnswers-fault objects name tree (pack.UnknownVersion n) held h = record { tree = tree; held = held; fails = h }
-HeadAnswers-fault objects name tree pack.NoOps held h = record { tree = tree; held = held; fails = h }
-HeadAnswers-fault objects name tree pack.BadClock held h = record { tree = tree; held = held; fails = h }
-HeadAnswers-fault objects name tree pack.BadPack held h = absurd h
-HeadAnswers-fault objects name tree (pack.BadOperation i f) held h = absurd h
-HeadAnswers-fault objects name tree (pack.TooLarge n) held h = absurd h
-
 -- a fault of a text alone
-abbrev pub IsTextFault : PackFault → Type 0
+abbrev IsTextFault : PackFault → Type 0
 IsTextFault pack.BadPack = ⊤
 IsTextFault (pack.BadOperation i f) = ⊤
 IsTextFault (pack.TooLarge n) = ⊤
