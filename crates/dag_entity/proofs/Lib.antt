@@ -1,0 +1,4 @@
+pub mod BelowLemmas
+pub mod DistinctLemmas
+pub mod FrontierLemmas
+pub mod QueueLemmas

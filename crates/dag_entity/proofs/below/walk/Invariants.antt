@@ -1,0 +1,17 @@
+use Rattle.std.proofs.Common.{◌≡◌, ◌≤◌, ◌+◌, IsTrue, length}
+use Rattle.gb_store.specs.Faults.{KeepsFaults}
+use Rattle.object_store.specs.Held.{objects_after}
+use Rattle.dag_entity.specs.Queues.{IsQueue}
+use Rattle.dag_entity.proofs.FrontierLemmas.{Frontier}
+use Rattle.dag_entity.proofs.below.walk.Given as goal
+
+abbrev pub invariant-loop-place : goal.invariant-loop-place
+invariant-loop-place g l = record {
+  queue : IsQueue l.queue;
+  frontier : IsTrue g.S.Store.tells → Frontier (objects_after (g.S.Store.history l.fn.disk) l.folder) l.heads l.queue.names.items l.walk.items;
+  count : length l.walk.items ≡ l.place;
+  unwritten : IsTrue g.S.Store.tells → g.S.Store.history l.disk ≡ g.S.Store.history l.fn.disk;
+  reads : g.S.Store.object_reads l.disk ≤ g.S.Store.object_reads l.fn.disk + l.place;
+  within : l.place ≤ length l.queue.names.items;
+  caused : KeepsFaults g.S.Store.never_fails g.S.Store.faults ⊥ l.fn.disk l.disk;
+}

@@ -1,0 +1,5 @@
+pub mod Answers
+pub mod Below
+pub mod Distinct
+pub mod Queues
+pub mod Stops
