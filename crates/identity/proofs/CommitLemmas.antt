@@ -102,23 +102,7 @@ HasNoVersion-held objects met parents f is h = each f h
     each (fault.WrongId found) h = absurd h
     each (fault.TooLarge count) h = (h.0, h.1, needs h.1 h.2, h.3)
 
--- the head alone is refused for what keeps its commit from having a version
-pub HeadRefused : (objects : Objects) (head : Name) (met : Met) (parents : List Name) (f : IdentityFault) → met.name ≡ head → IsCommit objects met parents
-    → Refused (NoVersion objects met) f → Refused (HasNoVersion objects head) f
-HeadRefused objects head met parents f named is h =
-    Refused-map (NoVersion objects met) (HasNoVersion objects head)
-    (λ f h. subst (λ (n : Name). HasNoVersion objects n f) named (HasNoVersion-held objects met parents f is h)) f h
-
 -- ---- faults of reading
-
--- what keeps a name from being a tree keeps a commit of it from having a version
-pub NoVersion-tree : (objects : Objects) (met : Met) (k : KindFault) → AnswersAs as_tree objects met.tree (Err k) → Refused (NoVersion objects met) (version_fault met.name k)
-NoVersion-tree objects met kind.Memory h = tt
-NoVersion-tree objects met kind.Disk h = tt
-NoVersion-tree objects met (kind.Missing n) h = rw h.0 (inl refl, h.1)
-NoVersion-tree objects met (kind.Damaged n) h = rw h.0 (inl refl, h.1)
-NoVersion-tree objects met (kind.Large n) h = (refl, met.tree, inl refl, h.1)
-NoVersion-tree objects met (kind.OtherKind n) h = (refl, no_tree h.1)
 
 -- what keeps a name from being a blob keeps a commit whose tree names it from having a version
 pub NoVersion-blob : (objects : Objects) (met : Met) (object : Name) (k : KindFault) → NamesVersion objects met.tree object
@@ -133,26 +117,6 @@ NoVersion-blob objects met object k named h = each k h
     each (kind.Large n) h = (refl, object, inr named, h.1)
     each (kind.OtherKind n) h = let tree = bind-some version_object (tree_at objects met.tree) object named in (refl, no_blob tree.0 object tree.1 tree.2 h.1)
 
--- what was judged for one tree is so for another that names the same object
-pub IsJudged-other : (objects : Objects) (tree object : Name) (version : Version) (last : Judged) → NamesVersion objects tree object → object ≡ last.object
-    → version ≡ last.version → IsJudged objects last → IsJudged objects (record { tree = tree; object = object; version = version })
-IsJudged-other objects tree object version last named same says is = record {
-  named = named;
-  text = is.text;
-  holds = ap (option_and_then (blob_at objects)) (named ∙ ap Some same ∙ sym is.named) ∙ is.holds;
-  reads = is.reads ∙ ap Some (sym says);
-  no_keys = ap (λ (v : Version). v.has_keys) says ∙ is.no_keys;
-}
-
 -- what was judged is the version of a commit of its tree
 pub VersionIn-judged : (objects : Objects) (met : Met) (judged : Judged) → judged.tree ≡ met.tree → (is : IsJudged objects judged) → VersionIn objects met is.text judged.version
 VersionIn-judged objects met judged same is = record { holds = ap (text_in objects) (sym same) ∙ is.holds; reads = is.reads; no_keys = is.no_keys }
-
--- what keeps a head from being a commit keeps it from having a version
-pub HeadRefused-commit : (objects : Objects) (head : Name) (k : KindFault) → AnswersAs as_commit objects head (Err k) → Refused (HasNoVersion objects head) (fault_of k)
-HeadRefused-commit objects head kind.Memory h = tt
-HeadRefused-commit objects head kind.Disk h = tt
-HeadRefused-commit objects head (kind.Missing n) h = rw h.0 (inl refl, h.1)
-HeadRefused-commit objects head (kind.Damaged n) h = rw h.0 (inl refl, h.1)
-HeadRefused-commit objects head (kind.Large n) h = (refl, head, inl refl, h.1)
-HeadRefused-commit objects head (kind.OtherKind n) h = (h.0, h.1)

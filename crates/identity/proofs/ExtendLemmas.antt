@@ -100,7 +100,7 @@ module _ (objects : Objects) (text : List ℕ) (parent : Option Name) (now : ℕ
   new_has = record { is = ap (option_and_then version_of) new_text ∙ reads; no_keys = no_keys }
 
   -- the version begins a chain
-  pub longer_first : parent ≡ None → made.id ≡ version_id text → IsLonger objects made.id [] made.head version
+  longer_first : parent ≡ None → made.id ≡ version_id text → IsLonger objects made.id [] made.head version
   unfolding new_is
   longer_first none id_is = record {
     chain = record {
@@ -188,7 +188,7 @@ module _ (old new : Objects) (grew : OnlyGrew old new) (text : List ℕ) (head :
     reads = chain.begins.reads;
   }
 
-  pub longer_later : IsLonger new id chain.walk made.head version
+  longer_later : IsLonger new id chain.walk made.head version
   longer_later = record {
     chain = record { walk = whole; walked = walked; within = within; each = at_name; text = chain.text; begins = begins; is_id = chain.is_id };
     tree = object_name (tree_object text);
@@ -205,6 +205,7 @@ extends old new (Some head) text now made version grew is holds reads no_keys =
 
 -- ---- a chain stays one
 
+-- a chain stays while objects are only added
 pub chain_stays : (old new : Objects) → OnlyGrew old new → (id : Id) (head : Name) → (chain : IsChain old id head) → (later : IsChain new id head) × (later.walk ≡ chain.walk)
 chain_stays old new grew id head chain = (
   record {
@@ -240,5 +241,6 @@ chain_stays old new grew id head chain = (
         let has = chain.each passes.met.name at.0 in
         (has.0, subst (λ (n : Name). HasVersion new n has.0) passes.is (HasVersion_stays old new grew passes.met.name has.0 has.1))
 
+-- so does the person that a head shows
 pub person_stays : (old new : Objects) → OnlyGrew old new → (id : Id) (head : Name) (person : Person) → Shows old id head person → Shows new id head person
 person_stays old new grew id head person shows = record { version = shows.version; has = HasVersion_stays old new grew head shows.version shows.has; is = shows.is }

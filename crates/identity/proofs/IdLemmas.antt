@@ -14,7 +14,8 @@ unfolding digest_bytes
 digest_bytes-bytes h zero = λ i. omega arith
 digest_bytes-bytes h (suc n) = IsBytes-append (digest_bytes h n) (to_be_bytes w32 (slice_index h n)) (digest_bytes-bytes h n) (word_bytes (slice_index h n))
 
-sha256-bytes : (text : List ℕ) → IsBytes (sha256 text)
+-- a SHA-256 is bytes
+pub sha256-bytes : (text : List ℕ) → IsBytes (sha256 text)
 unfolding sha256
 sha256-bytes text = digest_bytes-bytes _ 8
 

@@ -1,12 +1,11 @@
-pub mod ChainLemmas
 pub mod CommitLemmas
 pub mod ExtendLemmas
 pub mod NoFaultLemmas
 pub mod PersonLemmas
 pub mod MadeLemmas
 pub mod IdLemmas
+pub mod KnownLemmas
 pub mod MakingLemmas
 pub mod NeedLemmas
-pub mod TextLemmas
 pub mod VersionLemmas
 pub mod Examples

@@ -47,6 +47,7 @@ tree_is tree blob (Ok text) same is =
     subst (IsTreeText text) sorted is.2
 tree_is tree blob (Err e) same is = tt
 
+-- the text of the tree of a version
 pub tree_text_is : {E : Type 0} (blob : Name) (r : Result (List ℕ) E) → IfOk r (λ t. IsTreeText t (version_tree blob)) → IfOk r (λ t. t ≡ tree_content blob)
 tree_text_is blob (Ok text) is = is.text
 tree_text_is blob (Err e) is = tt

@@ -1,5 +1,6 @@
 -- A chain has no fault, and a head one chain and one person.
 use Rattle.std.proofs.Common.{◌≡◌, ◌<◌, inl, inr, ℕ, zero, suc, List, [], ◌∷◌, length, get_or, Some, None, Option, option_and_then, refl, sym, ◌∙◌, ap, arith}
+use Rattle.std.proofs.lemmas.Option.{same_Some}
 use Rattle.gb_text.specs.declared.id.Id.{Id}
 use Rattle.gb_text.specs.declared.id.Name.{Name}
 use Rattle.git_object.specs.declared.commit.Commit.{Commit}
@@ -58,6 +59,7 @@ same_version one two e = grind (arith, e)
 without : (objects : Objects) (name : Name) (version : Version) → HasVersion objects name version → version_at objects name ≡ None → ⊥
 without objects name version has none = cc (sym none ∙ has.is)
 
+-- a commit that has a version has none of the faults
 pub no_fault_at : (objects : Objects) (name : Name) (version : Version) (f : IdentityFault) → HasVersion objects name version → HasNoVersion objects name f → ⊥
 no_fault_at objects name version fault.Memory has h = h
 no_fault_at objects name version fault.Disk has h = h
@@ -78,9 +80,6 @@ no_fault_at objects name version (fault.TooLarge count) has h =
 
 -- ---- a chain has none
 
-same_commit : (c d : Commit) → Some c ≡ Some d → c ≡ d
-same_commit c d e = grind (arith, e)
-
 -- a commit without parents is the first of the walk
 pub root_is : (objects : Objects) (head name : Name) (commit : Commit) (root : Met) (above : List Met) → Walked objects head (root ∷ above) → MeetsCommit objects head name commit
     → commit.parents ≡ [] → root.name ≡ name
@@ -92,7 +91,7 @@ root_is objects head name commit root above walked met none =
     at_place d zero lt named = named
     at_place d (suc k) lt named =
         let is = parent_at objects head (root ∷ above) k d (Linked-walked objects head (root ∷ above) walked) lt in
-        let same = same_commit is.commit commit (sym is.held ∙ ap (commit_at objects) named ∙ met.held) in
+        let same = same_Some is.commit commit (sym is.held ∙ ap (commit_at objects) named ∙ met.held) in
         absurd (cc (sym is.has ∙ ap (λ (c : Commit). c.parents) same ∙ none))
 
 same_text : (s t : List ℕ) → Some s ≡ Some t → s ≡ t
@@ -109,6 +108,7 @@ BeginsWith-same objects head (root ∷ above) s t walked one two =
 some_no_fault : (objects : Objects) (id : Id) (head : Name) (f : IdentityFault) → IsChain objects id head → SomeHasNoVersion objects head f → ⊥
 some_no_fault objects id head f chain h = let has = chain.each h.0 h.1 in no_fault_at objects h.0 has.0 f has.1 h.2
 
+-- a chain has no fault
 pub no_fault : (objects : Objects) (id : Id) (head : Name) (f : IdentityFault) → IsChain objects id head → IdentityFaultHolds objects id head f → ⊥
 no_fault objects id head fault.Memory chain h = some_no_fault objects id head fault.Memory chain h
 no_fault objects id head fault.Disk chain h = some_no_fault objects id head fault.Disk chain h
@@ -126,13 +126,16 @@ no_fault objects id head (fault.TooLarge count) chain (inr h) = some_no_fault ob
 
 -- ---- one chain, one person
 
+-- a head has one id
 pub one_id : (objects : Objects) (one two : Id) (head : Name) → IsChain objects one head → IsChain objects two head → one ≡ two
 one_id objects one two head first second =
     sym first.is_id ∙ ap version_id (BeginsWith-same objects head first.walk first.text second.text first.walked first.begins second.begins) ∙ second.is_id
 
+-- a chain has one count of commits
 pub one_count : (objects : Objects) (id : Id) (head : Name) → (one two : IsChain objects id head) → length one.walk ≡ length two.walk
 one_count objects id head one two = ap length (one_walk objects head one.walk two.walk one.walked two.walked)
 
+-- a head shows one person
 pub one_person : (objects : Objects) (id : Id) (head : Name) (one two : Person) → Shows objects id head one → Shows objects id head two → one ≡ two
 one_person objects id head one two first second =
     let same = same_version first.version second.version (sym first.has.is ∙ second.has.is) in

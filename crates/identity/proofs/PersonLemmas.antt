@@ -78,6 +78,7 @@ IdentityFaultHolds-check objects id head (root ∷ above) f walked within (inl h
 IdentityFaultHolds-check objects id head (root ∷ above) f walked within (inr h) =
     IdentityFaultHolds-one objects id head (root ∷ above) h.0 f walked within (suc h.1.0, omega (arith, h.1.1), h.1.2) h.2
 
+-- what is wrong with the commits of a whole walk is a refusal of the chain
 pub WholeRefused : (objects : Objects) (id : Id) (head : Name) (walk : List Met) (f : IdentityFault) → Walked objects head walk → length walk ≤ 65536
     → Refused (CheckRefused objects id walk) f → Refused (IdentityFaultHolds objects id head) f
 WholeRefused objects id head walk f walked within h =
@@ -89,6 +90,7 @@ pub CheckRefused-first : (objects : Objects) (id : Id) (walk : List Met) (d : Me
 CheckRefused-first objects id [] d f some h = absurd (omega (arith, some))
 CheckRefused-first objects id (root ∷ later) d f some h = Refused-map (RootRefused objects id root) (CheckRefused objects id (root ∷ later)) (λ f h. inl h) f h
 
+-- what is wrong with a later commit is wrong with them all
 pub CheckRefused-later : (objects : Objects) (id : Id) (walk : List Met) (f : IdentityFault) → 1 ≤ length walk
     → Refused (OneRefused objects (take (length walk - 1) (drop 1 walk))) f → Refused (CheckRefused objects id walk) f
 CheckRefused-later objects id [] f some h = absurd (omega (arith, some))

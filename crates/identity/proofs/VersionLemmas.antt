@@ -1,11 +1,13 @@
 -- What a text says as a version, both ways, and that what is written reads back.
+use Rattle.std.proofs.lemmas.Option.{same_Some}
 use Rattle.std.proofs.Common.{◌≡◌, ◌∙◌, ◌||◌, ◌==◌, refl, sym, ap, List, [], ◌∷◌, ℕ, Bool, true, false, Some, None, Option, arith}
 use Rattle.std.specs.Prelude.{IsTrue, codes, option_and_then, if◌then◌else◌, not, Result, Ok, Err, IfOk}
 use Rattle.std.specs.Str.{IsUtf8, is_utf8}
 use Rattle.std.proofs.lemmas.Bool.{and_parts, eqb-true, or_left}
 use Rattle.std.proofs.lemmas.List.Elements.{All-nil}
 use Rattle.std.specs.List.{list_all}
-use Rattle.std.proofs.lemmas.Str.{chars-nil, is_utf8-from_IsUtf8}
+use Rattle.std.proofs.lemmas.Str.{is_utf8-from_IsUtf8}
+use Rattle.gb_text.proofs.ReadBackLemmas.{empty_is_line}
 use Rattle.json.specs.Print.{quoted}
 use Rattle.json.proofs.Printed.Utf8.{IsUtf8-are_ascii}
 use Rattle.gb_text.specs.Rules.{is_control, is_line_text, is_title_text}
@@ -35,10 +37,6 @@ some_before (Some a) next b h = (a, refl, h)
 under : {A : Type 0} (b : Bool) (o : Option A) (a : A) → (if b then o else None) ≡ Some a → (b ≡ true) × (o ≡ Some a)
 under true o a h = (refl, h)
 under false o a h = absurd (cc)
-
--- the value that is given is the value
-some_is : {A : Type 0} (a b : A) → Some a ≡ Some b → a ≡ b
-some_is a b h = cc
 
 -- ---- both ways
 
@@ -79,7 +77,7 @@ record Said (fs : Fields) (v : Version) : Type 0 where
   titled : IsTrue (is_titled v)
 
 titled_said : (v w : Version) → titled_only v ≡ Some w → (is_titled v ≡ true) × (v ≡ w)
-titled_said v w h = let u = under (is_titled v) (Some v) w h in (u.0, some_is v w u.1)
+titled_said v w h = let u = under (is_titled v) (Some v) w h in (u.0, same_Some v w u.1)
 
 said : (fs : Fields) (v : Version) → version_in fs ≡ Some v → Said fs v
 unfolding version_in
@@ -191,13 +189,10 @@ line_told : (value t : List ℕ) → line_at value ≡ Some t → is_line_text t
 line_told value t h =
     let o = some_before (text_at value) line_only t h in
     let u = under (is_line_text o.0) (Some o.0) t o.2 in
-    ap is_line_text (sym (some_is o.0 t u.1)) ∙ u.0
-
-empty_is_line : is_line_text [] ≡ true
-empty_is_line = ap (list_all (λ c. not (is_control c))) chars-nil
+    ap is_line_text (sym (same_Some o.0 t u.1)) ∙ u.0
 
 empty_or_line : (values : List (List ℕ)) (t : List ℕ) → value_or [] line_at values ≡ Some t → is_line_text t ≡ true
-empty_or_line [] t h = let empty : [] ≡ t = some_is [] t h in ap is_line_text (sym empty) ∙ empty_is_line
+empty_or_line [] t h = let empty : [] ≡ t = same_Some [] t h in ap is_line_text (sym empty) ∙ empty_is_line
 empty_or_line (v ∷ []) t h = line_told v t h
 empty_or_line (v ∷ w ∷ vs) t h = absurd (cc)
 

@@ -10,6 +10,7 @@ ghost use Rattle.identity.specs.Answers.{ChainAnswers, CheckAnswers, CountAnswer
 
 use crate::commit::{Judged, first_version, next_version, version_of};
 use crate::fault::IdentityFault;
+use crate::known::Known;
 use crate::version::Version;
 use commit_chain::{Met, walk};
 use gb_store::Store;
@@ -176,9 +177,13 @@ fn last_version<S: Store>(
     ensures caused { KeepsFaults S.never_fails S.faults (IsErrOf result IdentityFault.Disk)
         disk.old disk.new }
 {
-    let mut last = first;
-    for met in later {
-        last = next_version(alloc, disk, folder, met, last)?;
-    }
+    let Some((head, between)) = later.split_last() else {
+        return Ok(first.version);
+    };
+    let mut known = Known::none(alloc);
+    known.add(first.tree, first.object)?;
+    let last = next_version(alloc, disk, folder, head, first)?;
+    known.add(last.tree, last.object)?;
+    known.judge_each(alloc, disk, folder, between)?;
     Ok(last.version)
 }

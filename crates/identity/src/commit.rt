@@ -107,8 +107,8 @@ pub fn first_version<S: Store>(
     }
 }
 
-// The version of a commit whose tree names this object as it.
-fn judge<S: Store>(
+/// The version of a commit whose tree names this object as it. At most one object read.
+pub fn judge<S: Store>(
     alloc: Global,
     disk: &mut S,
     folder: &Folder,
@@ -143,8 +143,8 @@ fn read_version(alloc: Global, name: &Name, text: &[u8]) -> Result<Version, Iden
     }
 }
 
-// The object that the tree of a commit names as its version.
-fn version_name<S: Store>(
+/// The object that the tree of a commit names as its version. At most one object read.
+pub fn version_name<S: Store>(
     alloc: Global,
     disk: &mut S,
     folder: &Folder,

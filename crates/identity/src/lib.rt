@@ -4,6 +4,7 @@
 mod chain;
 mod commit;
 mod fault;
+mod known;
 mod laws;
 mod making;
 mod making_laws;
@@ -20,8 +21,3 @@ pub use laws::{
 pub use making::{Made, VersionPlan, new_version, plan_version};
 pub use making_laws::{new_versions_come_after_their_needs, new_versions_extend_their_chains};
 pub use version::{Version, id_of_version, version_text};
-
-#[cfg(test)]
-mod chain_tests;
-#[cfg(test)]
-mod tests;

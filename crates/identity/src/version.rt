@@ -62,7 +62,7 @@ impl Version {
 }
 
 // Whether the bytes are UTF-8.
-#[tactic(auto, using(crate::proofs::TextLemmas::utf8_true, crate::proofs::TextLemmas::utf8_false))]
+#[tactic(auto, using(op_kind::proofs::TextLemmas::utf8_true, op_kind::proofs::TextLemmas::utf8_false))]
 fn is_utf8(bytes: &[u8]) -> bool
     ensures { result ≡ is_utf8 bytes.now }
 {

@@ -1,51 +1,38 @@
-use Rattle.std.proofs.Common.{◌≡◌, [], Result, Ok, Err, get_or, sym, ◌∙◌, subst, rules, arith}
+use Rattle.std.proofs.Common.{◌≡◌, ◌++◌, ◌∷◌, [], List, IsTrue, Result, Ok, Err, sym, subst, rules}
 use Rattle.gb_store.specs.Files.{History}
-use Rattle.gb_store.proofs.FaultLemmas.{KeepsFaults_then}
 use Rattle.object_store.specs.Held.{objects_after}
 use Rattle.commit_chain.specs.declared.chain.Met.{Met}
-use Rattle.identity.specs.Answers.{IsJudged, JudgedAnswers, LaterAnswers}
+use Rattle.identity.specs.Answers.{IsJudged, JudgedAnswers, LaterAnswers, Leads, OneRefused}
+use Rattle.identity.specs.Faults.{Refused}
+use Rattle.identity.specs.Knowing.{AreKnown, EachAnswers}
 use Rattle.identity.specs.declared.version.Version.{Version}
 use Rattle.identity.specs.declared.fault.IdentityFault.{IdentityFault}
-use Rattle.identity.proofs.ChainLemmas.{Leads-more, OneRefused-at}
 use Rattle.identity.proofs.CommitLemmas.{VersionIn-judged}
+use Rattle.identity.proofs.KnownLemmas.{IsVersion-judged, Leads-through, OneRefused-front}
 use Rattle.identity.proofs.chain.last_version.Goals as goal
 
-none : Met
-none = record { name = record { bytes = [] }; tree = record { bytes = [] } }
-
-pub returns-in_err-last-clause-answers : goal.returns-in_err-last-clause-answers
-unfolding none
-returns-in_err-last-clause-answers g c = λ tells first.
+pub returns-in_err-judge_each-clause-answers : goal.returns-in_err-judge_each-clause-answers
+returns-in_err-judge_each-clause-answers g c = λ tells judged.
     let objects = objects_after (g.S.Store.history c.args.disk.now) c.args.folder.now in
-    let is : c.from_residual.result ≡ Err c.in_err-last.field-0.0 = search rules in
-    let met = get_or c.args.later.now c.loop-met.met-index none in
-    let judged : IsJudged (objects_after (g.S.Store.history c.loop-met.disk) c.args.folder.now) c.loop-met.last =
-    subst (λ (h : History). IsJudged (objects_after h c.args.folder.now) c.loop-met.last) (sym (c.loop-met.invariant.unwritten tells)) (c.loop-met.invariant.judged tells first) in
-    let answer : JudgedAnswers objects met (Err c.in_err-last.field-0.0) =
-    subst (λ (h : History). JudgedAnswers (objects_after h c.args.folder.now) met (Err c.in_err-last.field-0.0)) (c.loop-met.invariant.unwritten tells) (c.in_err-last.ensures.answers tells judged) in
+    let is : c.from_residual-in_err-judge_each.result ≡ Err c.in_err-judge_each.field-0.0 = search rules in
+    let last : JudgedAnswers objects c.in-Some.head.now (Ok c.in_ok-last.last) = c.in_ok-last.ensures.answers tells judged in
+    let first_known : AreKnown objects c.add.new.self = c.in_ok-add.ensures objects (c.none-known.ensures objects) judged.named (IsVersion-judged objects c.args.first judged) in
+    let known : AreKnown objects c.add-2.new.self = c.in_ok-add-2.ensures objects first_known last.1.named (IsVersion-judged objects c.in_ok-last.last last.1) in
+    let answer : AreKnown objects c.add-2.new.self → EachAnswers objects c.in-Some.between.now (Err c.in_err-judge_each.field-0.0) =
+    subst (λ (h : History). AreKnown (objects_after h c.args.folder.now) c.add-2.new.self → EachAnswers (objects_after h c.args.folder.now) c.in-Some.between.now (Err c.in_err-judge_each.field-0.0)) (c.in_ok-last.ensures.unwritten tells) (c.in_err-judge_each.ensures.answers tells) in
+    let front : Refused (OneRefused objects (c.in-Some.between.now ++ c.in-Some.head.now ∷ [])) c.in_err-judge_each.field-0.0 =
+    OneRefused-front objects c.in-Some.between.now c.in-Some.head.now c.in_err-judge_each.field-0.0 (answer known) in
     subst (λ (r : Result Version IdentityFault). LaterAnswers objects c.args.first.version c.args.later.now r) (sym is)
-    (OneRefused-at objects c.args.later.now c.loop-met.met-index none c.in_err-last.field-0.0 c.loop-met-test.true answer)
+    (subst (λ (ms : List Met). Refused (OneRefused objects ms) c.in_err-judge_each.field-0.0) (sym c.in-Some.ensures.cases.0) front)
 
-pub loop-met-preserved : goal.loop-met-preserved
-unfolding none
-loop-met-preserved g c =
+pub returns-clause-answers : goal.returns-clause-answers
+returns-clause-answers g c = λ tells judged.
     let objects = objects_after (g.S.Store.history c.args.disk.now) c.args.folder.now in
-    let met = get_or c.args.later.now c.loop-met.met-index none in
-    record {
-      leads = λ tells first.
-          let judged : IsJudged (objects_after (g.S.Store.history c.loop-met.disk) c.args.folder.now) c.loop-met.last =
-          subst (λ (h : History). IsJudged (objects_after h c.args.folder.now) c.loop-met.last) (sym (c.loop-met.invariant.unwritten tells)) (c.loop-met.invariant.judged tells first) in
-          let answer : JudgedAnswers objects met (Ok c.in_ok-last.last) =
-          subst (λ (h : History). JudgedAnswers (objects_after h c.args.folder.now) met (Ok c.in_ok-last.last)) (c.loop-met.invariant.unwritten tells) (c.in_ok-last.ensures.answers tells judged) in
-          Leads-more objects c.args.first.version c.loop-met.last.version c.in_ok-last.last.version c.args.later.now c.loop-met.met-index none answer.1.text c.loop-met-test.true (c.loop-met.invariant.leads tells first)
-          (VersionIn-judged objects met c.in_ok-last.last answer.0 answer.1);
-      judged = λ tells first.
-          let judged : IsJudged (objects_after (g.S.Store.history c.loop-met.disk) c.args.folder.now) c.loop-met.last =
-          subst (λ (h : History). IsJudged (objects_after h c.args.folder.now) c.loop-met.last) (sym (c.loop-met.invariant.unwritten tells)) (c.loop-met.invariant.judged tells first) in
-          let answer : JudgedAnswers objects met (Ok c.in_ok-last.last) =
-          subst (λ (h : History). JudgedAnswers (objects_after h c.args.folder.now) met (Ok c.in_ok-last.last)) (c.loop-met.invariant.unwritten tells) (c.in_ok-last.ensures.answers tells judged) in
-          answer.1;
-      unwritten = λ tells. c.in_ok-last.ensures.unwritten tells ∙ c.loop-met.invariant.unwritten tells;
-      reads = omega (arith, c.loop-met.invariant.reads, c.next_version.ensures.reads);
-      caused = KeepsFaults_then g.S.Store.never_fails g.S.Store.faults _ ⊥ c.args.disk.now c.loop-met.disk c.next_version.new.disk c.loop-met.invariant.caused c.in_ok-last.ensures.caused (λ none. absurd none) (λ fails. absurd (cc));
-    }
+    let last : JudgedAnswers objects c.in-Some.head.now (Ok c.in_ok-last.last) = c.in_ok-last.ensures.answers tells judged in
+    let first_known : AreKnown objects c.add.new.self = c.in_ok-add.ensures objects (c.none-known.ensures objects) judged.named (IsVersion-judged objects c.args.first judged) in
+    let known : AreKnown objects c.add-2.new.self = c.in_ok-add-2.ensures objects first_known last.1.named (IsVersion-judged objects c.in_ok-last.last last.1) in
+    let answer : AreKnown objects c.add-2.new.self → EachAnswers objects c.in-Some.between.now (Ok tt) =
+    subst (λ (h : History). AreKnown (objects_after h c.args.folder.now) c.add-2.new.self → EachAnswers (objects_after h c.args.folder.now) c.in-Some.between.now (Ok tt)) (c.in_ok-last.ensures.unwritten tells) (c.in_ok-judge_each.ensures.answers tells) in
+    subst (λ (ms : List Met). Leads objects c.args.first.version ms c.in_ok-last.last.version) (sym c.in-Some.ensures.cases.0)
+    (Leads-through objects c.args.first.version c.in_ok-last.last.version c.in-Some.between.now c.in-Some.head.now last.1.text (answer known)
+    (VersionIn-judged objects c.in-Some.head.now c.in_ok-last.last last.0 last.1))

@@ -1,0 +1,23 @@
+use Rattle.std.proofs.Common.{◌≡◌, Result, Err, sym, subst, rules}
+use Rattle.gb_store.specs.Files.{History}
+use Rattle.object_store.specs.Held.{objects_after}
+use Rattle.identity.specs.Commits.{NamesVersion}
+use Rattle.identity.specs.Knowing.{AreKnown, KnowingAnswers, ObjectAnswers, TreeHas}
+use Rattle.identity.specs.declared.fault.IdentityFault.{IdentityFault}
+use Rattle.identity.proofs.KnownLemmas.{name_found}
+use Rattle.identity.proofs.known.Known.judge.Goals as goal
+
+pub returns-then-contains-clause-answers : goal.returns-then-contains-clause-answers
+returns-then-contains-clause-answers g c = λ tells known. (
+  name_found (TreeHas (objects_after (g.S.Store.history c.args.disk.now) c.args.folder.now)) c.args.self.now.trees.keys c.args.met.now.tree
+      (sym c.if-contains.ensures) known.trees,
+  known,
+)
+
+pub returns-in_err-judge_object-clause-answers : goal.returns-in_err-judge_object-clause-answers
+returns-in_err-judge_object-clause-answers g c = λ tells known.
+    let objects = objects_after (g.S.Store.history c.args.disk.now) c.args.folder.now in
+    let is : c.from_residual-in_err-judge_object.result ≡ Err c.in_err-judge_object.field-0.0 = search rules in
+    let answer : AreKnown objects c.args.self.now → NamesVersion objects c.args.met.now.tree c.in_ok-object.object → ObjectAnswers objects c.args.met.now c.in_ok-object.object (Err c.in_err-judge_object.field-0.0) =
+    subst (λ (h : History). AreKnown (objects_after h c.args.folder.now) c.args.self.now → NamesVersion (objects_after h c.args.folder.now) c.args.met.now.tree c.in_ok-object.object → ObjectAnswers (objects_after h c.args.folder.now) c.args.met.now c.in_ok-object.object (Err c.in_err-judge_object.field-0.0)) (c.in_ok-object.ensures.unwritten tells) (c.in_err-judge_object.ensures.answers tells) in
+    subst (λ (r : Result _ IdentityFault). KnowingAnswers objects c.args.met.now c.args.self.now r) (sym is) (answer known (c.in_ok-object.ensures.answers tells))

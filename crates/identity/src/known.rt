@@ -1,0 +1,129 @@
+//! Which versions of a chain were judged already.
+ghost use Rattle.std.specs.Prelude.{◌≡◌, ◌≤◌, ◌+◌, ◌*◌, IsTrue, IsErrOf, OnOk, length};
+ghost use Rattle.std.specs.BTreeSet.{contains};
+ghost use Rattle.gb_text.specs.declared.id.Name.{Name as NameValue};
+ghost use Rattle.gb_store.specs.Faults.{KeepsFaults};
+ghost use Rattle.object_store.specs.Held.{Objects, objects_after};
+ghost use Rattle.identity.specs.Commits.{NamesVersion};
+ghost use Rattle.identity.specs.Knowing.{AreKnown, EachAnswers, IsVersion, KnowingAnswers, ObjectAnswers};
+
+use crate::commit::{judge, version_name};
+use crate::fault::IdentityFault;
+use commit_chain::Met;
+use gb_store::Store;
+use gb_text::{Folder, Memory, Name};
+use std::alloc::Global;
+use std::collections::BTreeSet;
+
+/// What was judged: trees that name a version without keys, and objects that are one.
+#[derive(Drop)]
+pub struct Known {
+    pub trees: BTreeSet<Name>,
+    pub objects: BTreeSet<Name>,
+}
+
+impl Known {
+    /// Nothing yet.
+    pub fn none(alloc: Global) -> Known
+        ensures { (objects : Objects) → AreKnown objects result }
+    {
+        Known {
+            trees: BTreeSet::new(alloc),
+            objects: BTreeSet::new(alloc),
+        }
+    }
+
+    /// A tree that names a version, and the object that it is.
+    pub fn add(&mut self, tree: Name, object: Name) -> Result<(), Memory>
+        ensures { OnOk result ((objects : Objects) → AreKnown objects self.old
+            → NamesVersion objects tree object → IsVersion objects object
+            → AreKnown objects self.new) }
+    {
+        self.trees.insert(tree)?;
+        self.objects.insert(object)?;
+        Ok(())
+    }
+
+    /// Judges the version of a commit. Nothing is read where its tree is known, and the tree alone
+    /// where that names a known object: so each tree and each version of a chain is read once.
+    pub fn judge<S: Store>(
+        &mut self,
+        alloc: Global,
+        disk: &mut S,
+        folder: &Folder,
+        met: &Met,
+    ) -> Result<(), IdentityFault>
+        ensures answers { IsTrue S.tells
+            → AreKnown (objects_after (S.history disk.old) folder.now) self.old
+            → KnowingAnswers (objects_after (S.history disk.old) folder.now) met.now self.new
+            result }
+        ensures unwritten { IsTrue S.tells → S.history disk.new ≡ S.history disk.old }
+        ensures reads { S.object_reads disk.new ≤ S.object_reads disk.old + 2 }
+        ensures same_tree { IsTrue (contains ⟦<Name as Ord>⟧.cmp self.old.trees met.now.tree)
+            → S.object_reads disk.new ≡ S.object_reads disk.old }
+        ensures same_object { (object : NameValue) → IsTrue S.tells
+            → NamesVersion (objects_after (S.history disk.old) folder.now) met.now.tree object
+            → IsTrue (contains ⟦<Name as Ord>⟧.cmp self.old.objects object)
+            → S.object_reads disk.new ≤ S.object_reads disk.old + 1 }
+        ensures caused { KeepsFaults S.never_fails S.faults (IsErrOf result IdentityFault.Disk)
+            disk.old disk.new }
+    {
+        if self.trees.contains(&met.tree) {
+            return Ok(());
+        }
+        let object = version_name(alloc, disk, folder, met)?;
+        self.judge_object(alloc, disk, folder, met, object)?;
+        self.add(met.tree, object)?;
+        Ok(())
+    }
+
+    // Judges the object that the tree of a commit names, unless it is known.
+    fn judge_object<S: Store>(
+        &self,
+        alloc: Global,
+        disk: &mut S,
+        folder: &Folder,
+        met: &Met,
+        object: Name,
+    ) -> Result<(), IdentityFault>
+        ensures answers { IsTrue S.tells
+            → AreKnown (objects_after (S.history disk.old) folder.now) self.now
+            → NamesVersion (objects_after (S.history disk.old) folder.now) met.now.tree object
+            → ObjectAnswers (objects_after (S.history disk.old) folder.now) met.now object
+            result }
+        ensures unwritten { IsTrue S.tells → S.history disk.new ≡ S.history disk.old }
+        ensures reads { S.object_reads disk.new ≤ S.object_reads disk.old + 1 }
+        ensures known { IsTrue (contains ⟦<Name as Ord>⟧.cmp self.now.objects object)
+            → S.object_reads disk.new ≡ S.object_reads disk.old }
+        ensures caused { KeepsFaults S.never_fails S.faults (IsErrOf result IdentityFault.Disk)
+            disk.old disk.new }
+    {
+        if self.objects.contains(&object) {
+            return Ok(());
+        }
+        judge(alloc, disk, folder, met, object)?;
+        Ok(())
+    }
+
+    /// The same of each of these commits.
+    pub fn judge_each<S: Store>(
+        &mut self,
+        alloc: Global,
+        disk: &mut S,
+        folder: &Folder,
+        mets: &[Met],
+    ) -> Result<(), IdentityFault>
+        ensures answers { IsTrue S.tells
+            → AreKnown (objects_after (S.history disk.old) folder.now) self.old
+            → EachAnswers (objects_after (S.history disk.old) folder.now) mets.now result }
+        ensures unwritten { IsTrue S.tells → S.history disk.new ≡ S.history disk.old }
+        ensures reads { S.object_reads disk.new ≤ S.object_reads disk.old + 2 * length mets.now }
+        ensures caused { KeepsFaults S.never_fails S.faults (IsErrOf result IdentityFault.Disk)
+            disk.old disk.new }
+    {
+        for met in mets {
+            self.judge(alloc, disk, folder, met)?;
+        }
+        Ok(())
+    }
+}
