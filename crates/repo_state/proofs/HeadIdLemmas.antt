@@ -10,7 +10,7 @@ use Rattle.gb_text.specs.Digits.{IsId}
 use Rattle.gb_text.specs.declared.id.Id.{Id}
 use Rattle.gb_text.specs.declared.id.Name.{Name}
 use Rattle.gb_store.specs.Files.{Files}
-use Rattle.op_kind.proofs.SortedLemmas.{same_elements}
+use Rattle.gb_text.proofs.SortedLemmas.{same_elements}
 use Rattle.ref_store.specs.Refs.{Ref, Absent, Head, Bad}
 use Rattle.repo_state.specs.Sides.{AllRead, AreHeads, AreIds, head_at, is_there}
 use Rattle.repo_state.specs.declared.side.HeadEntry.{HeadEntry}

@@ -48,10 +48,12 @@ head_at-other : (files : Files) (change : Change) (folder : List ℕ) (of : Side
     → head_at (written files change) folder of id ≡ head_at files folder of id
 head_at-other files change folder of id other = ap ref_of (written-other files change (joined folder (ref_place of id)) other)
 
+-- a write of an object leaves each head
 pub head_at-object_write : (files : Files) (folder text : List ℕ) (of : Side) (id : Id) → head_at (written files (object_write folder text)) folder of id ≡ head_at files folder of id
 head_at-object_write files folder text of id =
     head_at-other files (object_write folder text) folder of id (λ e. ref-not_object folder of id (object_name text) (sym e))
 
+-- so does a write of the user
 pub head_at-user_write : (files : Files) (folder : List ℕ) (of : Side) (id user : Id) → head_at (written files (user_write folder user)) folder of id ≡ head_at files folder of id
 head_at-user_write files folder of id user = head_at-other files (user_write folder user) folder of id (λ e. ref-not_user folder of id (sym e))
 

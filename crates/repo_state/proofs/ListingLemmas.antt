@@ -25,6 +25,7 @@ use Rattle.repo_state.specs.declared.side.Side.{Side}
 
 -- ---- lists
 
+-- what a list has is mapped with it
 pub Contains-map : {X Y : Type 0} (f : X → Y) (xs : List X) (x : X) → Contains xs x → Contains (map f xs) (f x)
 Contains-map f [] x (k, lt, e) = absurd (omega arith)
 Contains-map f (z ∷ xs) x (zero, lt, e) = (0, omega arith, ap f e)
@@ -32,6 +33,7 @@ Contains-map f (z ∷ xs) x (suc k, lt, e) =
     let later = Contains-map f xs x (k, omega arith, e) in
     (suc later.0, omega (arith, later.1), later.2)
 
+-- what a mapped list has came from the list
 pub Contains-from_map : {X Y : Type 0} (f : X → Y) (xs : List X) (y : Y) → Contains (map f xs) y → (x : X) × Contains xs x × (f x ≡ y)
 Contains-from_map f [] y (k, lt, e) = absurd (omega arith)
 Contains-from_map f (z ∷ xs) y (zero, lt, e) = (z, (0, omega arith, refl), e)

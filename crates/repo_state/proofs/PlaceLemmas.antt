@@ -1,4 +1,6 @@
 -- Places below a folder: which of them are never the same.
+use Rattle.std.proofs.lemmas.Bool.{and_parts}
+use Rattle.std.proofs.lemmas.Option.{same_Some}
 use Rattle.std.proofs.Common.{◌≡◌, ◌≢◌, ◌⊎◌, inl, inr, ℕ, ◌==◌, ◌||◌, Bool, true, false, IsTrue, List, [], ◌∷◌, ◌++◌, codes, refl, sym, ◌∙◌, ap, append_assoc, arith}
 use Rattle.std.proofs.lemmas.List.{append_cancel_left}
 use Rattle.std.specs.Char.{is_ascii_alphanumeric}
@@ -14,14 +16,14 @@ use Rattle.gb_text.specs.declared.id.Name.{Name}
 use Rattle.gb_store.specs.ObjectPath.{object_place}
 use Rattle.git_object.specs.Grammar.{Lacks}
 use Rattle.git_object.specs.Reading.{cut_at}
-use Rattle.git_object.proofs.CutLaws.{and_true, cut_again, some_is}
+use Rattle.git_object.proofs.CutLaws.{cut_again}
 use Rattle.ref_store.proofs.MapLemmas.{joined-same}
 use Rattle.repo_state.specs.Sides.{dir_of, ref_place}
 use Rattle.repo_state.specs.Sound.{IsNamedSide, IsRemoteName}
 use Rattle.repo_state.specs.Users.{user_place}
 use Rattle.repo_state.specs.declared.side.Side.{Side}
 use Rattle.repo_state.specs.declared.side.Side.TheVariants as side
-use Rattle.repo_state.proofs.IdLemmas.{digits-same}
+use Rattle.gb_text.proofs.DigitLemmas.{id_digits-same}
 
 -- two paths are the same or not
 pub same_or_other : (one two : List ℕ) → (one ≡ two) ⊎ (one ≢ two)
@@ -57,7 +59,7 @@ user-not_object folder name = apart folder user_place (object_place name) 0 (λ 
 pub ref_place-same : (of : Side) (one two : Id) → IsId one → IsId two → ref_place of one ≡ ref_place of two → one ≡ two
 ref_place-same of one two first second e =
     let tail : 47 ∷ encode_lower one.bytes ≡ 47 ∷ encode_lower two.bytes = append_cancel_left (dir_of of) (47 ∷ encode_lower one.bytes) (47 ∷ encode_lower two.bytes) e in
-    digits-same one two first second cc
+    id_digits-same one two first second cc
 
 -- ---- two sides
 
@@ -68,7 +70,7 @@ remote-lacks remote is = each remote is.each
     each : (cs : List ℕ) → IsTrue (list_all (λ c. is_ascii_alphanumeric c || ((c == 95) || (c == 45))) cs) → Lacks 47 cs
     each [] all = tt
     each (c ∷ cs) all =
-        let parts = and_true (is_ascii_alphanumeric c || ((c == 95) || (c == 45))) (list_all (λ c. is_ascii_alphanumeric c || ((c == 95) || (c == 45))) cs) all in
+        let parts = and_parts (is_ascii_alphanumeric c || ((c == 95) || (c == 45))) (list_all (λ c. is_ascii_alphanumeric c || ((c == 95) || (c == 45))) cs) all in
         ((λ e. cc (sym parts.0 ∙ ap (λ (c : ℕ). is_ascii_alphanumeric c || ((c == 95) || (c == 45))) e)), each cs parts.1)
 
 -- refs of remotes stand at one place only for one remote, and below one dir of it
@@ -78,7 +80,7 @@ remotes-same one two kind other x y first second e =
     let tails : one ++ 47 ∷ (kind ++ x) ≡ two ++ 47 ∷ (other ++ y) =
     append_cancel_left (codes "refs/remotes/") (one ++ 47 ∷ (kind ++ x)) (two ++ 47 ∷ (other ++ y)) (sym (spelled one kind x) ∙ e ∙ spelled two other y) in
     let cuts : ◌≡◌ {A = List ℕ × List ℕ} (one, kind ++ x) (two, other ++ y) =
-    some_is _ _ (sym (cut_again 47 one (kind ++ x) (remote-lacks one first)) ∙ ap (cut_at 47) tails ∙ cut_again 47 two (other ++ y) (remote-lacks two second)) in
+    same_Some _ _ (sym (cut_again 47 one (kind ++ x) (remote-lacks one first)) ∙ ap (cut_at 47) tails ∙ cut_again 47 two (other ++ y) (remote-lacks two second)) in
     (ap (λ (cut : List ℕ × List ℕ). cut.0) cuts, ap (λ (cut : List ℕ × List ℕ). cut.1) cuts)
   where
     spelled : (remote kind x : List ℕ) → ((codes "refs/remotes/" ++ remote) ++ 47 ∷ kind) ++ x ≡ codes "refs/remotes/" ++ (remote ++ 47 ∷ (kind ++ x))

@@ -76,6 +76,7 @@ reads_none folder path old new at reads = reads ∙ rw (ap is_object_path at ∙
 pub user_write-is : (folder place line : List ℕ) (id : Id) → place ≡ joined folder user_place → line ≡ id_line id → Put place line ≡ user_write folder id
 user_write-is folder place line id at is = ap (λ (p : List ℕ). Put p line) at ∙ ap (Put (joined folder user_place)) is
 
+-- a put of the line of an id at the user's place is that write
 pub user_write-wrote : (tells : Bool) (folder place line : List ℕ) (id : Id) (old new : History) → place ≡ joined folder user_place → line ≡ id_line id
     → (IsTrue tells → MaybeWrote (Put place line) old new) → WroteIf tells (PutsUser folder id) old new
 user_write-wrote tells folder place line id old new at is made =
