@@ -54,7 +54,7 @@ module _ (folder : List ℕ) (files : Files) where
       cc
 
   -- one chain
-  pub user-walk : (one two : HasUser folder files) → one.chain.walk ≡ two.chain.walk
+  user-walk : (one two : HasUser folder files) → one.chain.walk ≡ two.chain.walk
   user-walk one two =
       one_walk (objects_in files folder) two.head one.chain.walk two.chain.walk
       (subst (λ (head : Name). Walked (objects_in files folder) head one.chain.walk) (user-head one two.id two.head two.is_user two.has_head) one.chain.walked) two.chain.walked
@@ -111,6 +111,7 @@ names_clear folder texts old = record { apart = λ r fails passes. passes.free f
 
 -- ---- each command
 
+-- the checks of each edit are clear
 pub are_clear : (env : Env) (command : Edit) (old : History) → AreClear (doing_of env command old).checks
 are_clear env (edit.UserNew name email) old = (
   words_clear (bad_person name email) (MayWrite env name email),

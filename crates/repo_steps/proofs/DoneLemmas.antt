@@ -24,7 +24,7 @@ use Rattle.repo_state.specs.declared.refusal.Stop.TheVariants as stop
 use Rattle.repo_state.specs.declared.side.HeadEntry.{HeadEntry}
 use Rattle.repo_state.specs.declared.side.Side.{Side}
 use Rattle.repo_state.specs.declared.side.Side.TheVariants as side
-use Rattle.repo_state.proofs.IdLemmas.{IsId-version_id}
+use Rattle.identity.proofs.IdLemmas.{IsId-version_id}
 use Rattle.repo_state.proofs.KindLemmas.{head_at-user_write, objects-user_write, user_at-set}
 use Rattle.repo_state.proofs.PlaceLemmas.{ref-not_user, same_or_other, user-not_object}
 use Rattle.repo_steps.specs.Answers.{EditAnswers, IsDone, IsStopped}
@@ -94,7 +94,7 @@ found_is files folder of word id found = each (id_of word) refl found
         (read ∙ ap Some is.0, is.1)
 
 -- the user with its head is found
-pub entry_is : (folder : List ℕ) (files : Files) (user : HasUser folder files) → user_entry files folder ≡ Some (record { id = user.id; name = user.head })
+entry_is : (folder : List ℕ) (files : Files) (user : HasUser folder files) → user_entry files folder ≡ Some (record { id = user.id; name = user.head })
 entry_is folder files user = ap (entry_of_user files folder) user.is_user ∙ ap (entry_by user.id) user.has_head
 
 -- ---- the first user
@@ -247,7 +247,7 @@ set_made_so env word old passes = record {
     all : user_write env.folder id ∷ old ≡ after (set_user env word old) old
     all = ap (λ (o : Option Id). reverse (set_writes env.folder o) ++ old) (sym found)
 
-pub made_so : (env : Env) (command : Edit) (old : History) → MayStep env command old → IsMade env command old
+made_so : (env : Env) (command : Edit) (old : History) → MayStep env command old → IsMade env command old
 made_so env (edit.UserNew name email) old passes = new_made_so env name email old passes
 made_so env (edit.UserEdit name email) old passes = edited_made_so env name email old passes
 made_so env (edit.UserSet word) old passes = set_made_so env word old passes
@@ -266,6 +266,7 @@ some_wrote folder writes old new wrote some =
           ∙ append_assoc (reverse is.1) (reverse is.0) old ∙ ap (λ (h : History). reverse is.1 ++ h) (sym is.3);
     })
 
+-- whatever an edit answers, its writes are of a kind
 pub answers_wrote : (env : Env) (command : Edit) (old new : History) (r : Result Id Stop) → EditAnswers (doing_of env command old) old new r → Wrote (IsWrite env.folder) old new
 answers_wrote env command old new r answers = each r answers
   where

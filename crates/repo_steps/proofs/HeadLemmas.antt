@@ -20,22 +20,3 @@ module _ (files : Files) (folder : List ℕ) where
       each Absent e = refl
       each (Head name) e = cc
       each Bad e = cc
-
-  -- the user's ref stands
-  pub has_ref-user : (id : Id) → user_at files folder ≡ User id → IsTrue (has_ref files folder side.Identities id)
-  has_ref-user id is = at_file (files (joined folder user_place)) is
-    where
-      at_id : (o : Option Id) → local_user files folder o ≡ User id → IsTrue (has_ref files folder side.Identities id)
-      at_id None e = cc
-      at_id (Some other) e = decide (has_ref files folder side.Identities other) refl
-        where
-          decide : (b : Bool) → has_ref files folder side.Identities other ≡ b → IsTrue (has_ref files folder side.Identities id)
-          decide true h =
-              let same : User other ≡ User id = sym (ap (λ (b : Bool). cond b (User other) BadUser) h) ∙ e in
-              let is : other ≡ id = cc in
-              subst (λ (i : Id). IsTrue (has_ref files folder side.Identities i)) is h
-          decide false h = cc (sym (ap (λ (b : Bool). cond b (User other) BadUser) h) ∙ e)
-
-      at_file : (o : Option (List ℕ)) → user_of files folder o ≡ User id → IsTrue (has_ref files folder side.Identities id)
-      at_file None e = cc
-      at_file (Some text) e = at_id (id_of (line_of text)) e

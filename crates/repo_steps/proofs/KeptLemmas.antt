@@ -38,12 +38,14 @@ Chain-then objects top middle upper (met ∷ lower) name first second = (Chain-t
 
 -- ---- nothing is lost
 
+-- nothing is lost where nothing is written
 pub LosesNothing-none : (folder : List ℕ) (files : Files) → LosesNothing folder files files
 LosesNothing-none folder files = record {
   objects = record { stays = λ name text stands. stands };
   heads = λ id is head stands. record { head = head; is_head = stands; leads = record { above = []; chain = refl } };
 }
 
+-- nor by two that lose nothing, one after the other
 pub LosesNothing-then : (folder : List ℕ) (old mid new : Files) → LosesNothing folder old mid → LosesNothing folder mid new → LosesNothing folder old new
 LosesNothing-then folder old mid new first second = record {
   objects = record { stays = λ name text stands. second.objects.stays name text (first.objects.stays name text stands) };

@@ -30,9 +30,11 @@ abbrev pub AddsObject : List ℕ → Files → Change → Type 0
 AddsObject folder files change = (text : List ℕ) × (objects_in files folder (object_name text) ≡ None) × (change ≡ object_write folder text)
 
 module _ (folder : List ℕ) where
+  -- nothing changes
   pub OnlyChanges-none : (files : Files) → OnlyChanges folder [] files files
   OnlyChanges-none files = record { objects = record { stays = λ name text stands. stands }; others = λ path apart none. refl }
 
+  -- changes one after the other
   pub OnlyChanges-then : (first later : List (List ℕ)) (old mid new : Files) → OnlyChanges folder first old mid → OnlyChanges folder later mid new → OnlyChanges folder (first ++ later) old new
   OnlyChanges-then first later old mid new one two = record {
     objects = record { stays = λ name text stands. two.objects.stays name text (one.objects.stays name text stands) };
@@ -89,8 +91,9 @@ module _ (folder : List ℕ) where
     ref_kept : (of : Side) (id : Id) → new (joined folder (ref_place of id)) ≡ old (joined folder (ref_place of id))
     ref_kept of id = ref_left [] old new only of id (none_among (joined folder (ref_place of id)))
 
+    -- a head at no path that changed stays
     pub head_kept : (of : Side) (id : Id) → head_at new folder of id ≡ head_at old folder of id
     head_kept of id = ap ref_of (ref_kept of id)
 
-    pub user_kept : (user_at old folder ≡ BadUser → ⊥) → user_at new folder ≡ user_at old folder
+    user_kept : (user_at old folder ≡ BadUser → ⊥) → user_at new folder ≡ user_at old folder
     user_kept sound = user_left [] old new only (none_among (joined folder user_place)) (λ id stands. ap (λ (file : Option (List ℕ)). is_there (ref_of file)) (ref_kept side.Identities id) ∙ stands) sound

@@ -53,6 +53,7 @@ dir_dotless (side.RemoteBugs remote) named =
 dir_dotless (side.RemoteIdentities remote) named =
     joined (codes "refs/remotes/" ++ remote) (codes "/identities") (joined (codes "refs/remotes/") remote refl (by_rule _ refl remote named.each)) refl
 
+-- the places of writes hold no dot
 pub place_dotless : (place : List ℕ) → IsPlace place → is_dotless place ≡ true
 place_dotless place (an_object_place name is) = object_dotless name is
 place_dotless place (a_ref_place of named id is) = joined (dir_of of) (47 ∷ encode_lower id.bytes) (dir_dotless of named) (digits_dotless id.bytes is.bytes)

@@ -231,6 +231,7 @@ module _ (folder : List ℕ) (files : Files) (change : Change) where
 
   -- ---- where is written
 
+  -- each write has a place below the folder
   pub write-place : IsWrite folder files change → (place : List ℕ) × IsPlace place × (change.path ≡ joined folder place)
   write-place (an_object w) =
       (object_place (object_name w.puts.text), an_object_place (object_name w.puts.text) (IsName-object_name w.puts.text), ap (λ (c : Change). c.path) w.puts.write)

@@ -130,6 +130,7 @@ set-same env word old one two first second here there = record {
     files : one ≡ two
     files = here.only ∙ ap (λ (id : Id). written old (user_write env.folder id)) ids ∙ sym there.only
 
+-- two steps from one folder lead to the same files
 pub steps-same : (env : Env) (command : Edit) (old one two : Files) (first second : Id) → Steps env command old one first → Steps env command old two second → Same env.folder one two first second
 steps-same env (edit.UserNew name email) old one two first second here there = new-same env name email old one two first second here there
 steps-same env (edit.UserEdit name email) old one two first second here there = edit-same env name email old one two first second here there

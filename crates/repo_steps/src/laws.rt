@@ -89,7 +89,8 @@ pub fn folders_apart_stay_sound()
 /// A write is of an object, a ref or the user below its folder. No such place begins with a slash or
 /// holds a dot, so none leaves the folder by a part `..`.
 pub fn writes_stay_below_their_folder()
-    ensures below { (folder : List ℕ) (files : Files) (change : Change) → IsWrite folder files change
+    ensures below { (folder : List ℕ) (files : Files) (change : Change)
+        → IsWrite folder files change
         → (place : List ℕ) × IsPlace place × (change.path ≡ joined folder place) }
     ensures plain { (place : List ℕ) → IsPlace place → is_rooted place ≡ false }
     ensures dotless { (place : List ℕ) → IsPlace place → is_dotless place ≡ true }
