@@ -29,7 +29,7 @@ use Rattle.repo_state.specs.declared.refusal.Stop.{Stop}
 use Rattle.repo_state.specs.declared.refusal.Stop.TheVariants as stop
 use Rattle.repo_state.specs.declared.side.HeadEntry.{HeadEntry}
 use Rattle.repo_state.specs.declared.side.Side.TheVariants as side
-use Rattle.repo_state.proofs.IdLemmas.{sha256-bytes}
+use Rattle.identity.proofs.IdLemmas.{sha256-bytes}
 use Rattle.repo_steps.specs.Answers.{EditAnswers, Plans}
 use Rattle.repo_steps.specs.Doings.{Doing, HasUser, MayWrite, bad_person, edited_user, first_user_write, new_made, new_objects, new_text, new_user, nonce_from, user_writes, version_writes}
 use Rattle.repo_edit.specs.Adding.{AddsVersion, first_write}
@@ -59,6 +59,7 @@ person_words name email e = each (is_title_text name) (is_line_text email) e
     each false b e = absurd (cc)
 
 module _ (env : Env) (name email : List ℕ) where
+  -- the words of an edit
   abbrev pub Words : Type 0
   Words = (bad_person name email ≡ None) × MayWrite env name email
 
