@@ -25,9 +25,3 @@ LogAnswers-told files folder word bug (Err (stop.Refused (refusal.NameTaken name
 LogAnswers-told files folder word bug (Err (stop.Refused (refusal.TooLarge count))) finds told = absurd told
 LogAnswers-told files folder word bug (Err (stop.Refused (refusal.SomeRefused count))) finds told = absurd told
 LogAnswers-told files folder word bug (Err (stop.Refused refusal.BadFolder)) finds told = absurd told
-
--- a front of a text that is not empty was printed, also where the sink tells nothing
-pub PrintedFront-of : (tells : Bool) (text old new : List ℕ) → 0 < length text
-    → (IsTrue tells → (n : ℕ) × (n < length text) × (new ≡ old ++ take n text)) → PrintedFront tells text old new
-PrintedFront-of true text old new some front = let f = front refl in record { count = f.0; some_left = f.1; printed = λ tells. f.2 }
-PrintedFront-of false text old new some front = record { count = 0; some_left = some; printed = λ never. cc (never) }

@@ -1,5 +1,6 @@
 -- A head that has a log meets no merge commit and has no fault.
 use Rattle.std.proofs.Common.{◌≡◌, IsSome, is_some, ℕ, ◌+◌, ◌<◌, zero, suc, List, [], ◌∷◌, length, get_or, Some, option_and_then, add-one, refl, sym, ◌∙◌, ap, subst, arith}
+use Rattle.std.proofs.lemmas.Option.{same_Some}
 use Rattle.gb_text.specs.declared.id.Name.{Name}
 use Rattle.git_object.specs.declared.commit.Commit.{Commit}
 use Rattle.object_store.specs.Held.{Objects}
@@ -19,9 +20,6 @@ use Rattle.bug_run.specs.declared.log.Step.{Step}
 use Rattle.bug_run.specs.declared.fault.WalkFault.{WalkFault}
 use Rattle.bug_run.specs.declared.fault.WalkFault.TheVariants as fault
 use Rattle.bug_run.proofs.LogLemmas.{clock_at-held}
-
-same_commit : (c d : Commit) → Some c ≡ Some d → c ≡ d
-same_commit c d e = grind (arith, e)
 
 same_number : (m n : ℕ) → Some m ≡ Some n → m ≡ n
 same_number m n e = grind (arith, e)
@@ -46,7 +44,7 @@ has_pack objects head name steps commit log meets =
     let k = passes.at.0 in
     let here = linked_at objects head log.walk k met (Linked-walked objects head log.walk log.walked) log.count passes.at.1 in
     let is : IsCommit objects met here.1.0 = subst (λ (m : Met). IsCommit objects m here.1.0) passes.at.2 here.1.1 in
-    let same : is.commit ≡ commit = same_commit is.commit commit (sym is.held ∙ ap (commit_at objects) passes.is ∙ meets.held) in
+    let same : is.commit ≡ commit = same_Some is.commit commit (sym is.held ∙ ap (commit_at objects) passes.is ∙ meets.held) in
     let tree : (get_or log.walk k met).tree ≡ commit.tree = ap (λ (m : Met). m.tree) passes.at.2 ∙ is.tree ∙ ap (λ (c : Commit). c.tree) same in
     let step = step_at objects log.walk steps k met none log.clocked passes.at.1 in (
       subst (λ (t : Name). IsSome (pack_under any_kind objects t)) tree step.1,
@@ -66,11 +64,11 @@ clocks_rise objects head name parent steps commit clock below log meets has high
     at_place : (d : Met) (j : ℕ) → j < length log.walk → (get_or log.walk j d).name ≡ name → below < clock
     at_place d zero lt named =
         let is = root_has objects head log.walk d log.walked in
-        let same = same_commit is.commit commit (sym is.held ∙ ap (commit_at objects) named ∙ meets.held) in
+        let same = same_Some is.commit commit (sym is.held ∙ ap (commit_at objects) named ∙ meets.held) in
         absurd (cc (sym is.has ∙ ap (λ (c : Commit). c.parents) same ∙ has))
     at_place d (suc k) lt named =
         let is = parent_at objects head log.walk k d (Linked-walked objects head log.walk log.walked) lt in
-        let same = same_commit is.commit commit (sym is.held ∙ ap (commit_at objects) named ∙ meets.held) in
+        let same = same_Some is.commit commit (sym is.held ∙ ap (commit_at objects) named ∙ meets.held) in
         let lower : (get_or log.walk k d).name ∷ [] ≡ parent ∷ [] = sym is.has ∙ ap (λ (c : Commit). c.parents) same ∙ has in
         let below_named : (get_or log.walk k d).name ≡ parent = grind (arith, lower) in
         let here = linked_at objects head log.walk k d (Linked-walked objects head log.walk log.walked) log.count (omega (arith, lt)) in

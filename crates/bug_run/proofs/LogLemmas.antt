@@ -21,7 +21,7 @@ use Rattle.bug_run.specs.declared.fault.WalkStop.{WalkStop}
 use Rattle.bug_run.specs.declared.fault.WalkStop.TheVariants as stop
 
 -- one commit and its step more
-pub Clocked-push : (objects : Objects) (mets : List Met) (steps : List Step) (met : Met) (step : Step) → Clocked objects mets steps
+Clocked-push : (objects : Objects) (mets : List Met) (steps : List Step) (met : Met) (step : Step) → Clocked objects mets steps
     → step.name ≡ met.name → HasPack objects met → option_and_then edit_clock_of (tree_at objects met.tree) ≡ Some step.clock → Clocked objects (mets ++ met ∷ []) (steps ++ step ∷ [])
 Clocked-push objects [] [] met step clocked named pack clock = (named, pack, clock, tt)
 Clocked-push objects [] (s ∷ ss) met step clocked named pack clock = absurd clocked
@@ -37,7 +37,7 @@ LogFaultHolds-pack objects head met parents (fault.NoPack n f) meets is h =
 LogFaultHolds-pack objects head met parents (fault.ClockOrder n p) meets is h = absurd h
 
 -- so is one among the commits of a whole walk
-pub WalkRefused-clock : (objects : Objects) (head : Name) (walk : List Met) (f : WalkFault) → Walked objects head walk → length walk ≤ 65536
+WalkRefused-clock : (objects : Objects) (head : Name) (walk : List Met) (f : WalkFault) → Walked objects head walk → length walk ≤ 65536
     → SomeHasNoPack objects walk f → WalkRefused objects head (stop.Fault f)
 WalkRefused-clock objects head walk f walked near h =
     let met = h.0 in
@@ -75,7 +75,7 @@ falls_at objects head (m ∷ n ∷ ms) (s ∷ t ∷ ss) (suc k) (suc j) d linked
     falls_at objects head (n ∷ ms) (t ∷ ss) k j d (Linked-above objects head m n ms linked) (omega (arith, near)) clocked.3 (omega (arith, next)) (omega (arith, lt)) le
 
 -- so is one among the commits of a whole walk
-pub WalkRefused-falls : (objects : Objects) (head : Name) (walk : List Met) (steps : List Step) (f : WalkFault) → Walked objects head walk → length walk ≤ 65536
+WalkRefused-falls : (objects : Objects) (head : Name) (walk : List Met) (steps : List Step) (f : WalkFault) → Walked objects head walk → length walk ≤ 65536
     → Clocked objects walk steps → Falls steps f → WalkRefused objects head (stop.Fault f)
 WalkRefused-falls objects head walk steps f walked near clocked falls =
     let holds = falls_at objects head walk steps falls.0 (falls.0 + 1) falls.1 (Linked-walked objects head walk walked) near clocked refl falls.2 falls.4 in

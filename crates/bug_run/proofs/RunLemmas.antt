@@ -107,6 +107,7 @@ unasked call old before after answer none printed =
 
 -- ---- answers of a command that was read
 
+-- what a request that was read answers
 pub answered : (call : Call) (request : Request) (old new : History) (before after : List ℕ) (answer : Status) (result : Result Said Stop) → call.asked ≡ Some request
     → RequestAnswers call.store_tells request call.now call.seed old new result → Printed call.sink_tells (text_of result) (status_of result) before after answer
     → RunAnswers call old new before after answer
