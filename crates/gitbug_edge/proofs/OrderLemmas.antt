@@ -14,6 +14,7 @@ use Rattle.std.specs.List.Sorted.{IsPermutation, IsSorted, IsStrictlySortedBy}
 use Rattle.std.specs.Ordering.{nat_cmp}
 use Rattle.std.specs.Str.{bytes_eq}
 
+-- a sorted list without repetition rises
 pub rising_once : (sorted once : List (List ℕ)) → IsSorted (slice_cmp nat_cmp) sorted
     → IsFiltered (DiffersFromLast bytes_eq) [] sorted once → IsStrictlySortedBy (slice_cmp nat_cmp) once
 rising_once sorted once h kept =
@@ -23,6 +24,7 @@ rising_once sorted once h kept =
 same_bytes : (xs ys : List ℕ) → bytes_eq xs ys ≡ true → xs ≡ ys
 same_bytes xs ys h = grind (arith, common_steps, bytes_eq-Decides xs ys, h)
 
+-- it has the names that were given
 pub same_names : (given sorted once : List (List ℕ)) → IsPermutation given sorted
     → IsFiltered (DiffersFromLast bytes_eq) [] sorted once → (name : List ℕ) → Contains once name ↔ Contains given name
 same_names given sorted once moved kept name =
