@@ -1,0 +1,9 @@
+//! Tests of `identity`.
+#![tactic(auto)]
+
+#[cfg(test)]
+mod chains;
+#[cfg(test)]
+mod making;
+#[cfg(test)]
+mod versions;
