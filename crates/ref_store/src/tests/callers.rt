@@ -24,7 +24,8 @@ fn set_and_get<S: Store>(
     ensures set { IsTrue S.tells → IfOk result (λ found. found.0 ≡ Some head.now) }
     ensures kept { IsTrue S.tells → IfOk result (λ found. Answers (joined folder.now other.now)
         (ref_at (files_of (S.history disk.old)) folder.now other.now) (Ok found.1)) }
-    ensures caused { KeepsFaults S.never_fails S.faults (IsErrOf result RefFault.Disk) disk.old disk.new }
+    ensures caused { KeepsFaults S.never_fails S.faults (IsErrOf result RefFault.Disk)
+        disk.old disk.new }
 {
     writes_change_their_path();
     refs_are_a_map();
