@@ -1,10 +1,8 @@
 -- The trees that are made say what they were made of, and can be written.
-use Rattle.std.proofs.Common.{◌≡◌, ◌<◌, ◌≤◌, ◌+◌, ◌++◌, refl, ap, subst, sym, ◌∙◌, ℕ, true, cond, List, [], ◌∷◌, codes, map, Option, Some, None, le-leb, arith}
+use Rattle.std.proofs.Common.{◌≡◌, ◌≤◌, ◌++◌, refl, ap, subst, sym, ◌∙◌, ℕ, true, cond, List, [], ◌∷◌, codes, Option, Some, None, le-leb, arith}
 use Rattle.std.specs.Prelude.{decimal, nat_le, ◌&&◌, Result, Ok, Err, IfOk}
 use Rattle.std.specs.Option.{ForSome, option_map}
 use Rattle.std.specs.Fmt.{digits}
-use Rattle.std.specs.Int.Digits.{digits_of}
-use Rattle.std.proofs.lemmas.Fmt.{decimal-digits_of}
 use Rattle.gb_text.specs.declared.id.Name.{Name}
 use Rattle.git_object.specs.Grammar.{HasGoodNames, IsEntryName, Lacks}
 use Rattle.git_object.proofs.DistinctLaws.{distinct_are}

@@ -47,7 +47,9 @@ fn read_ops<K: OpKind>(
         (ops_at K.meaning head.now author (map (λ s. s.now) slices.now))
         (SlicesFault K.meaning (version_in head.now) (map (λ s. s.now) slices.now)) result }
 {
-    let mut ops = List::new(alloc);
+    let Ok(mut ops) = Vec::with_capacity(alloc, slices.len()) else {
+        return Err(PackFault::Memory);
+    };
     for (i, slice) in slices.iter().enumerate() {
         let place = Place {
             id: hash_of(slice),
@@ -65,7 +67,7 @@ fn read_ops<K: OpKind>(
             Err(fault) => return Err(PackFault::BadOperation(i as u64, fault)),
         }
     }
-    Ok(ops)
+    Ok(List::from_vec(ops))
 }
 
 impl<K: OpKind> Pack<K> {
