@@ -1,5 +1,5 @@
 -- What keeps a commit from having a version, said of its name.
-use Rattle.std.proofs.Common.{◌≡◌, inl, inr, refl, List, ℕ, Some, Err, option_and_then, sym, ◌∙◌, ap, subst}
+use Rattle.std.proofs.Common.{◌≡◌, inr, refl, List, ℕ, Some, Err, option_and_then, sym, ◌∙◌, ap, subst}
 use Rattle.gb_text.specs.declared.id.Id.{Id}
 use Rattle.gb_text.specs.declared.id.Name.{Name}
 use Rattle.git_object.specs.declared.commit.Commit.{Commit}
@@ -7,12 +7,12 @@ use Rattle.object_store.specs.Held.{Objects}
 use Rattle.commit_chain.specs.Chain.{IsCommit}
 use Rattle.commit_chain.specs.declared.chain.Met.{Met}
 use Rattle.identity.specs.Version.{version_of}
-use Rattle.identity.specs.Commits.{TreeNeeds, Needs, IsBad, NamesVersion, no_blob, no_tree, no_version, HasVersion, HasNoVersion, text_in, version_object, version_text_at}
-use Rattle.object_store.specs.Typed.{AnswersAs, as_blob, as_commit, as_tree, blob_at, tree_at}
+use Rattle.identity.specs.Commits.{TreeNeeds, Needs, IsBad, NamesVersion, no_blob, no_version, HasVersion, HasNoVersion, text_in, version_object, version_text_at}
+use Rattle.object_store.specs.Typed.{AnswersAs, as_blob, tree_at}
 use Rattle.object_store.proofs.GrowthLemmas.{bind-some}
 use Rattle.object_store.specs.declared.fault.KindFault.{KindFault}
 use Rattle.object_store.specs.declared.fault.KindFault.TheVariants as kind
-use Rattle.identity.specs.Faults.{Refused, fault_of, version_fault}
+use Rattle.identity.specs.Faults.{Refused, version_fault}
 use Rattle.identity.specs.Answers.{IsJudged, VersionIn, NoVersion, ReadingAnswers, RootRefused}
 use Rattle.identity.specs.declared.commit.Judged.{Judged}
 use Rattle.identity.specs.declared.version.Version.{Version}

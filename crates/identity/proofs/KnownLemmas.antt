@@ -1,12 +1,11 @@
 -- What is known of versions, with one more of them.
-use Rattle.std.proofs.Common.{◌≡◌, ◌<◌, ◌||◌, Bool, true, false, List, [], ◌∷◌, ◌++◌, ℕ, length, get_or, refl, sym, ◌∙◌, ap, subst, option_and_then, arith}
+use Rattle.std.proofs.Common.{◌≡◌, ◌<◌, ◌||◌, Bool, true, false, List, [], ◌∷◌, ◌++◌, ℕ, length, get_or, refl, sym, ◌∙◌, ap, subst, option_and_then}
 use Rattle.std.specs.declared.cmp.Ordering.{Ordering}
 use Rattle.std.specs.declared.cmp.Ordering.TheVariants.{Less, Equal, Greater}
 use Rattle.std.specs.BTreeMap.{is_at}
 use Rattle.std.specs.BTreeSet.{insert_key}
-use Rattle.std.specs.List.{All, AllByRecursion, Contains, list_any}
-use Rattle.std.specs.Ordering.{is_eq, match_ordering, nat_cmp}
-use Rattle.std.specs.Cmp.Lexicographic.{slice_cmp}
+use Rattle.std.specs.List.{AllByRecursion, list_any}
+use Rattle.std.specs.Ordering.{is_eq, match_ordering}
 use Rattle.std.proofs.lemmas.Map.Text.{is_eq-slice_cmp}
 use Rattle.std.proofs.lemmas.Slice.Eq.{bytes_eq-Decides}
 use Rattle.std.proofs.lemmas.List.{get_or_default}
@@ -18,7 +17,7 @@ use Rattle.commit_chain.specs.declared.chain.Met.{Met}
 use Rattle.identity.specs.Answers.{IsJudged, Leads, NoVersion, OneRefused, VersionIn}
 use Rattle.identity.specs.Commits.{NamesVersion, text_in}
 use Rattle.identity.specs.Faults.{Refused}
-use Rattle.identity.specs.Knowing.{EachHas, IsVersion, TreeHas}
+use Rattle.identity.specs.Knowing.{EachHas, IsVersion, TreeHas, by_bytes}
 use Rattle.identity.specs.declared.commit.Judged.{Judged}
 use Rattle.identity.specs.declared.version.Version.{Version}
 use Rattle.identity.specs.declared.fault.IdentityFault.{IdentityFault}
@@ -46,11 +45,7 @@ all_found cmp P (x ∷ xs) k same found all = by (is_eq (cmp k x)) refl found (�
     by true at found rest = subst P (sym (same x at)) all.0
     by false at found rest = rest found
 
--- names are in the order of their bytes
-abbrev pub by_bytes : Name → Name → Ordering
-by_bytes one two = slice_cmp nat_cmp one.bytes two.bytes
-
-same_name : (one two : Name) → is_eq (by_bytes one two) ≡ true → one ≡ two
+pub same_name : (one two : Name) → is_eq (by_bytes one two) ≡ true → one ≡ two
 same_name one two tied =
     let bytes : one.bytes ≡ two.bytes = (bytes_eq-Decides one.bytes two.bytes).0 (sym (is_eq-slice_cmp one.bytes two.bytes) ∙ tied) in
     ap (λ (bytes : List ℕ). record { bytes = bytes }) bytes

@@ -1,4 +1,5 @@
 pub mod CommitLemmas
+pub mod CountLemmas
 pub mod ExtendLemmas
 pub mod NoFaultLemmas
 pub mod PersonLemmas

@@ -1,16 +1,15 @@
 -- What a text says as a version, both ways, and that what is written reads back.
 use Rattle.std.proofs.lemmas.Option.{same_Some}
 use Rattle.std.proofs.Common.{◌≡◌, ◌∙◌, ◌||◌, ◌==◌, refl, sym, ap, List, [], ◌∷◌, ℕ, Bool, true, false, Some, None, Option, arith}
-use Rattle.std.specs.Prelude.{IsTrue, codes, option_and_then, if◌then◌else◌, not, Result, Ok, Err, IfOk}
+use Rattle.std.specs.Prelude.{IsTrue, codes, option_and_then, if◌then◌else◌, Result, Ok, Err, IfOk}
 use Rattle.std.specs.Str.{IsUtf8, is_utf8}
 use Rattle.std.proofs.lemmas.Bool.{and_parts, eqb-true, or_left}
 use Rattle.std.proofs.lemmas.List.Elements.{All-nil}
-use Rattle.std.specs.List.{list_all}
 use Rattle.std.proofs.lemmas.Str.{is_utf8-from_IsUtf8}
 use Rattle.gb_text.proofs.ReadBackLemmas.{empty_is_line}
 use Rattle.json.specs.Print.{quoted}
 use Rattle.json.proofs.Printed.Utf8.{IsUtf8-are_ascii}
-use Rattle.gb_text.specs.Rules.{is_control, is_line_text, is_title_text}
+use Rattle.gb_text.specs.Rules.{is_line_text, is_title_text}
 use Rattle.json_span.specs.Joined.{IsMemberOf}
 use Rattle.json_span.proofs.JoinLaws.{object_value}
 use Rattle.json_span.proofs.ValueLaws.{deeper}

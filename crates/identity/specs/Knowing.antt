@@ -1,12 +1,16 @@
 -- What is known of versions that were judged: of the trees that name them, and of the objects that they are.
-use Rattle.std.specs.Prelude.{◌≡◌, false, List, ℕ, Some, Result, Ok, Err}
-use Rattle.std.specs.List.{All, AllByRecursion}
+use Rattle.std.specs.Prelude.{◌≡◌, ◌+◌, Bool, false, not, IsTrue, List, ℕ, Contains, Some, Result, Ok, Err}
+use Rattle.std.specs.List.{All, AllByRecursion, count_by}
+use Rattle.std.specs.BTreeSet.{BTreeSet, contains}
+use Rattle.std.specs.declared.cmp.Ordering.{Ordering}
+use Rattle.std.specs.Cmp.Lexicographic.{slice_cmp}
+use Rattle.std.specs.Ordering.{nat_cmp}
 use Rattle.gb_text.specs.declared.id.Name.{Name}
 use Rattle.object_store.specs.Held.{Objects}
 use Rattle.object_store.specs.Typed.{blob_at}
 use Rattle.commit_chain.specs.declared.chain.Met.{Met}
 use Rattle.identity.specs.Answers.{NoVersion, OneRefused}
-use Rattle.identity.specs.Commits.{text_in}
+use Rattle.identity.specs.Commits.{NamesVersion, text_in}
 use Rattle.identity.specs.Faults.{Refused}
 use Rattle.identity.specs.Version.{version_of}
 use Rattle.identity.specs.declared.known.Known.{Known}
@@ -33,6 +37,36 @@ pub record TreeHas (objects : Objects) (tree : Name) : Type 0 where
 pub record AreKnown (objects : Objects) (known : Known) : Type 0 where
   pub trees : AllByRecursion (TreeHas objects) known.trees.keys
   pub objects_are : AllByRecursion (IsVersion objects) known.objects.keys
+
+-- names are in the order of their bytes
+abbrev pub by_bytes : Name → Name → Ordering
+by_bytes one two = slice_cmp nat_cmp one.bytes two.bytes
+
+-- whether a name is among these
+abbrev pub knows : BTreeSet Name → Name → Bool
+knows names name = contains by_bytes names name
+
+-- what was known is known
+pub record StaysKnown (old new : Known) : Type 0 where
+  pub trees : (tree : Name) → IsTrue (knows old.trees tree) → IsTrue (knows new.trees tree)
+  pub objects : (object : Name) → IsTrue (knows old.objects object) → IsTrue (knows new.objects object)
+
+-- how many of these names are not known
+abbrev pub unknown : List Name → BTreeSet Name → ℕ
+unknown names known = count_by (λ name. not (knows known name)) names
+
+-- how many of these trees and of these versions are not known, and so are still to be read
+abbrev pub unread : List Name → List Name → Known → ℕ
+unread trees versions known = unknown trees known.trees + unknown versions known.objects
+
+-- a commit's tree is one of these trees, and what the tree names as its version one of these versions
+pub record IsFrom (objects : Objects) (trees versions : List Name) (met : Met) : Type 0 where
+  pub tree : Contains trees met.tree
+  pub version : (object : Name) → NamesVersion objects met.tree object → Contains versions object
+
+-- so it is with each of these commits
+abbrev pub AreFrom : Objects → List Name → List Name → List Met → Type 0
+AreFrom objects trees versions mets = (met : Met) → Contains mets met → IsFrom objects trees versions met
 
 -- each of these commits has a version
 abbrev pub EachHas : Objects → List Met → Type 0

@@ -1,5 +1,6 @@
 //! Persons, by the chains of their versions.
-ghost use Rattle.std.specs.Prelude.{◌≡◌, ◌≤◌, ◌+◌, ◌*◌, IsTrue, IfOk, IsErrOf, List, length};
+ghost use Rattle.std.specs.Prelude.{◌≡◌, ◌≤◌, ◌+◌, ◌*◌, IsTrue, IfOk, IsErrOf, OnOk, List, Contains, length};
+ghost use Rattle.gb_text.specs.declared.id.Name.{Name as NameValue};
 ghost use Rattle.gb_store.specs.Faults.{KeepsFaults};
 ghost use Rattle.object_store.specs.Held.{objects_after};
 ghost use Rattle.commit_chain.specs.Chain.{Walked};
@@ -7,6 +8,7 @@ ghost use Rattle.commit_chain.specs.declared.chain.Met.{Met as MetValue};
 ghost use Rattle.commit_chain.specs.declared.chain.TheConstants.{MOST_COMMITS};
 ghost use Rattle.identity.specs.Version.{person_name};
 ghost use Rattle.identity.specs.Answers.{ChainAnswers, CheckAnswers, CountAnswers, IsJudged, LastAnswers, LaterAnswers, WholeAnswers};
+ghost use Rattle.identity.specs.Knowing.{AreFrom};
 
 use crate::commit::{Judged, first_version, next_version, version_of};
 use crate::fault::IdentityFault;
@@ -27,8 +29,8 @@ pub struct Person {
     pub email: Text,
 }
 
-/// The person of the identity with this id and head. The whole chain is read: each commit, tree and
-/// version once.
+/// The person of the identity with this id and head. The whole chain is read: each commit, and each
+/// tree and version once, however many commits share it.
 pub fn read_chain<S: Store>(
     alloc: Global,
     disk: &mut S,
@@ -44,6 +46,12 @@ pub fn read_chain<S: Store>(
         → IfOk result (λ _. (walk : List MetValue)
         → Walked (objects_after (S.history disk.old) folder.now) head.now walk
         → S.object_reads disk.new ≤ S.object_reads disk.old + 3 * length walk) }
+    ensures distinct { IsTrue S.tells
+        → OnOk result ((walk : List MetValue) (trees versions : List NameValue)
+        → Walked (objects_after (S.history disk.old) folder.now) head.now walk
+        → AreFrom (objects_after (S.history disk.old) folder.now) trees versions walk
+        → S.object_reads disk.new
+        ≤ S.object_reads disk.old + (length walk + length trees + length versions)) }
     ensures caused { KeepsFaults S.never_fails S.faults (IsErrOf result IdentityFault.Disk)
         disk.old disk.new }
 {
@@ -65,6 +73,12 @@ pub fn versions<S: Store>(
     ensures reads { S.object_reads disk.new ≤ S.object_reads disk.old + 3 * MOST_COMMITS }
     ensures once { IfOk result
         (λ count. S.object_reads disk.new ≤ S.object_reads disk.old + 3 * count) }
+    ensures distinct { IsTrue S.tells
+        → OnOk result ((walk : List MetValue) (trees versions : List NameValue)
+        → Walked (objects_after (S.history disk.old) folder.now) head.now walk
+        → AreFrom (objects_after (S.history disk.old) folder.now) trees versions walk
+        → S.object_reads disk.new
+        ≤ S.object_reads disk.old + (length walk + length trees + length versions)) }
     ensures caused { KeepsFaults S.never_fails S.faults (IsErrOf result IdentityFault.Disk)
         disk.old disk.new }
 {
@@ -126,6 +140,12 @@ fn read_whole<S: Store>(
     ensures reads { S.object_reads disk.new ≤ S.object_reads disk.old + 3 * MOST_COMMITS }
     ensures once { IfOk result
         (λ whole. S.object_reads disk.new ≤ S.object_reads disk.old + 3 * whole.0) }
+    ensures distinct { IsTrue S.tells
+        → OnOk result ((walk : List MetValue) (trees versions : List NameValue)
+        → Walked (objects_after (S.history disk.old) folder.now) head.now walk
+        → AreFrom (objects_after (S.history disk.old) folder.now) trees versions walk
+        → S.object_reads disk.new
+        ≤ S.object_reads disk.old + (length walk + length trees + length versions)) }
     ensures caused { KeepsFaults S.never_fails S.faults (IsErrOf result IdentityFault.Disk)
         disk.old disk.new }
 {
@@ -149,6 +169,10 @@ fn check_versions<S: Store>(
         → CheckAnswers (objects_after (S.history disk.old) folder.now) id.now walk.now result }
     ensures unwritten { IsTrue S.tells → S.history disk.new ≡ S.history disk.old }
     ensures reads { S.object_reads disk.new ≤ S.object_reads disk.old + 2 * length walk.now }
+    ensures distinct { (trees versions : List NameValue) → IsTrue S.tells
+        → AreFrom (objects_after (S.history disk.old) folder.now) trees versions walk.now
+        → OnOk result (S.object_reads disk.new
+        ≤ S.object_reads disk.old + (length trees + length versions)) }
     ensures caused { KeepsFaults S.never_fails S.faults (IsErrOf result IdentityFault.Disk)
         disk.old disk.new }
 {
@@ -174,6 +198,12 @@ fn last_version<S: Store>(
         later.now result }
     ensures unwritten { IsTrue S.tells → S.history disk.new ≡ S.history disk.old }
     ensures reads { S.object_reads disk.new ≤ S.object_reads disk.old + 2 * length later.now }
+    ensures distinct { (trees versions : List NameValue) → IsTrue S.tells
+        → IsJudged (objects_after (S.history disk.old) folder.now) first
+        → Contains trees first.tree → Contains versions first.object
+        → AreFrom (objects_after (S.history disk.old) folder.now) trees versions later.now
+        → OnOk result (S.object_reads disk.new + 2
+        ≤ S.object_reads disk.old + (length trees + length versions)) }
     ensures caused { KeepsFaults S.never_fails S.faults (IsErrOf result IdentityFault.Disk)
         disk.old disk.new }
 {

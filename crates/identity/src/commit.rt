@@ -1,5 +1,5 @@
 //! The version of a commit, by way of its tree.
-ghost use Rattle.std.specs.Prelude.{◌≡◌, ◌≤◌, ◌+◌, IsTrue, IsErrOf};
+ghost use Rattle.std.specs.Prelude.{◌≡◌, ◌≤◌, ◌+◌, IsTrue, IfOk, IsErrOf};
 ghost use Rattle.gb_store.specs.Faults.{KeepsFaults};
 ghost use Rattle.object_store.specs.Held.{objects_after};
 ghost use Rattle.identity.specs.Commits.{NamesVersion, is_file, is_version_entry, version_object};
@@ -87,6 +87,7 @@ pub fn first_version<S: Store>(
 ) -> Result<Judged, IdentityFault>
     ensures answers { IsTrue S.tells
         → RootAnswers (objects_after (S.history disk.old) folder.now) id.now root.now result }
+    ensures tree { IfOk result (λ first. first.tree ≡ root.now.tree) }
     ensures unwritten { IsTrue S.tells → S.history disk.new ≡ S.history disk.old }
     ensures reads { S.object_reads disk.new ≤ S.object_reads disk.old + 2 }
     ensures caused { KeepsFaults S.never_fails S.faults (IsErrOf result IdentityFault.Disk)

@@ -1,11 +1,11 @@
 //! Which versions of a chain were judged already.
-ghost use Rattle.std.specs.Prelude.{◌≡◌, ◌≤◌, ◌+◌, ◌*◌, IsTrue, IsErrOf, OnOk, length};
-ghost use Rattle.std.specs.BTreeSet.{contains};
+ghost use Rattle.std.specs.Prelude.{◌≡◌, ◌≤◌, ◌+◌, ◌*◌, true, List, IsTrue, IsErrOf, OnOk, length};
+ghost use Rattle.std.specs.BTreeSet.{contains, IsEmpty, Updates};
 ghost use Rattle.gb_text.specs.declared.id.Name.{Name as NameValue};
 ghost use Rattle.gb_store.specs.Faults.{KeepsFaults};
 ghost use Rattle.object_store.specs.Held.{Objects, objects_after};
 ghost use Rattle.identity.specs.Commits.{NamesVersion};
-ghost use Rattle.identity.specs.Knowing.{AreKnown, EachAnswers, IsVersion, KnowingAnswers, ObjectAnswers};
+ghost use Rattle.identity.specs.Knowing.{AreFrom, AreKnown, EachAnswers, IsFrom, IsVersion, KnowingAnswers, ObjectAnswers, StaysKnown, unread};
 
 use crate::commit::{judge, version_name};
 use crate::fault::IdentityFault;
@@ -25,7 +25,9 @@ pub struct Known {
 impl Known {
     /// Nothing yet.
     pub fn none(alloc: Global) -> Known
-        ensures { (objects : Objects) → AreKnown objects result }
+        ensures are { (objects : Objects) → AreKnown objects result }
+        ensures trees { IsEmpty result.trees }
+        ensures objects { IsEmpty result.objects }
     {
         Known {
             trees: BTreeSet::new(alloc),
@@ -35,9 +37,13 @@ impl Known {
 
     /// A tree that names a version, and the object that it is.
     pub fn add(&mut self, tree: Name, object: Name) -> Result<(), Memory>
-        ensures { OnOk result ((objects : Objects) → AreKnown objects self.old
+        ensures are { OnOk result ((objects : Objects) → AreKnown objects self.old
             → NamesVersion objects tree object → IsVersion objects object
             → AreKnown objects self.new) }
+        ensures trees { OnOk result
+            (Updates ⟦<Name as Ord>⟧.cmp self.old.trees self.new.trees tree true) }
+        ensures objects { OnOk result
+            (Updates ⟦<Name as Ord>⟧.cmp self.old.objects self.new.objects object true) }
     {
         self.trees.insert(tree)?;
         self.objects.insert(object)?;
@@ -45,7 +51,8 @@ impl Known {
     }
 
     /// Judges the version of a commit. Nothing is read where its tree is known, and the tree alone
-    /// where that names a known object: so each tree and each version of a chain is read once.
+    /// where that names a known object. What was judged is known from then on, so each tree and each
+    /// version of a chain is read once.
     pub fn judge<S: Store>(
         &mut self,
         alloc: Global,
@@ -65,6 +72,13 @@ impl Known {
             → NamesVersion (objects_after (S.history disk.old) folder.now) met.now.tree object
             → IsTrue (contains ⟦<Name as Ord>⟧.cmp self.old.objects object)
             → S.object_reads disk.new ≤ S.object_reads disk.old + 1 }
+        ensures known { OnOk result
+            (IsTrue (contains ⟦<Name as Ord>⟧.cmp self.new.trees met.now.tree)) }
+        ensures kept { OnOk result (StaysKnown self.old self.new) }
+        ensures once { (trees versions : List NameValue) → IsTrue S.tells
+            → IsFrom (objects_after (S.history disk.old) folder.now) trees versions met.now
+            → OnOk result (S.object_reads disk.new + unread trees versions self.new
+            ≤ S.object_reads disk.old + unread trees versions self.old) }
         ensures caused { KeepsFaults S.never_fails S.faults (IsErrOf result IdentityFault.Disk)
             disk.old disk.new }
     {
@@ -118,6 +132,10 @@ impl Known {
             → EachAnswers (objects_after (S.history disk.old) folder.now) mets.now result }
         ensures unwritten { IsTrue S.tells → S.history disk.new ≡ S.history disk.old }
         ensures reads { S.object_reads disk.new ≤ S.object_reads disk.old + 2 * length mets.now }
+        ensures once { (trees versions : List NameValue) → IsTrue S.tells
+            → AreFrom (objects_after (S.history disk.old) folder.now) trees versions mets.now
+            → OnOk result (S.object_reads disk.new + unread trees versions self.new
+            ≤ S.object_reads disk.old + unread trees versions self.old) }
         ensures caused { KeepsFaults S.never_fails S.faults (IsErrOf result IdentityFault.Disk)
             disk.old disk.new }
     {

@@ -1,8 +1,10 @@
-use Rattle.std.proofs.Common.{◌≡◌, ℕ, List, length, Option, Some, Result, Ok, Err, sym, subst, rules}
+use Rattle.std.proofs.Common.{◌≡◌, ℕ, List, length, Option, Some, Result, Ok, Err, sym, ◌∙◌, ap, subst, rules, arith}
 use Rattle.gb_store.specs.Files.{History, files_of}
 use Rattle.object_store.specs.Held.{objects_in}
 use Rattle.commit_chain.specs.declared.chain.Met.{Met}
+use Rattle.commit_chain.proofs.PassLemmas.{one_walk}
 use Rattle.identity.specs.Answers.{CheckAnswers, WholeAnswers, HasChain}
+use Rattle.identity.specs.Knowing.{AreFrom}
 use Rattle.identity.specs.declared.version.Version.{Version}
 use Rattle.identity.specs.declared.fault.IdentityFault.{IdentityFault}
 use Rattle.identity.proofs.PersonLemmas.{WholeRefused, HasChain-checked}
@@ -30,3 +32,13 @@ returns-in-Some-clause-answers g c = λ tells.
     let counted : c.len.result ≡ length c.in_ok-walk.walk.items = search rules in
     subst (λ (n : ℕ). HasChain objects c.args.id.now c.args.head.now n c.in-Some.last) (sym counted)
     (HasChain-checked objects c.args.id.now c.args.head.now c.in_ok-walk.walk.items c.in-Some.last walked.0 walked.1 answer)
+
+pub returns-in-Some-clause-distinct : goal.returns-in-Some-clause-distinct
+returns-in-Some-clause-distinct g c = λ tells walk trees versions walked from.
+    let objects = objects_in (files_of (g.S.Store.history c.args.disk.now)) c.args.folder.now in
+    let whole = c.in_ok-walk.ensures.answers tells in
+    let one : walk ≡ c.in_ok-walk.walk.items = one_walk objects c.args.head.now walk c.in_ok-walk.walk.items walked whole.0 in
+    let read : walk ≡ c.deref.result.now = one ∙ sym c.deref.ensures.value in
+    let here : AreFrom (objects_in (files_of (g.S.Store.history c.walk.new.disk)) c.args.folder.now) trees versions c.deref.result.now =
+    subst (λ (h : History). AreFrom (objects_in (files_of h) c.args.folder.now) trees versions c.deref.result.now) (sym (c.in_ok-walk.ensures.unwritten tells)) (subst (AreFrom objects trees versions) read from) in
+    omega (arith, ap length one, c.in_ok-walk.ensures.once, c.in_ok-last.ensures.distinct trees versions tells here)

@@ -1,13 +1,12 @@
-use Rattle.std.proofs.Common.{◌≡◌, ◌∙◌, IsTrue, [], take, length, get_or, Result, Ok, Err, sym, subst, rules, arith}
+use Rattle.std.proofs.Common.{◌≡◌, ◌∙◌, IsTrue, [], get_or, Result, Ok, Err, sym, subst, rules, arith}
 use Rattle.std.proofs.lemmas.List.{take_all}
-use Rattle.std.proofs.lemmas.List.Elements.{All-more}
+use Rattle.std.proofs.lemmas.List.Elements.{All-more, Contains-get_or}
 use Rattle.gb_store.specs.Files.{History}
 use Rattle.gb_store.proofs.FaultLemmas.{KeepsFaults_then}
 use Rattle.object_store.specs.Held.{objects_after}
 use Rattle.commit_chain.specs.declared.chain.Met.{Met}
-use Rattle.identity.specs.Knowing.{AreKnown, EachAnswers, EachHas, KnowingAnswers, TreeHas}
+use Rattle.identity.specs.Knowing.{AreKnown, EachAnswers, EachHas, IsFrom, KnowingAnswers, TreeHas}
 use Rattle.identity.specs.declared.fault.IdentityFault.{IdentityFault}
-use Rattle.identity.specs.declared.known.Known.{Known}
 use Rattle.identity.proofs.KnownLemmas.{OneRefused-at}
 use Rattle.identity.proofs.known.Known.judge_each.Goals as goal
 
@@ -34,6 +33,10 @@ loop-met-preserved g c = record {
   known = λ tells first. (answer tells first).1;
   unwritten = λ tells. c.in_ok-judge.ensures.unwritten tells ∙ c.loop-met.invariant.unwritten tells;
   reads = omega (arith, c.loop-met.invariant.reads, c.judge.ensures.reads);
+  once = λ trees versions tells from.
+      let here : IsFrom (objects_after (g.S.Store.history c.args.disk.now) c.args.folder.now) trees versions met = from met (Contains-get_or c.args.mets.now c.loop-met.met-index none c.loop-met-test.true) in
+      let step = c.in_ok-judge.ensures.once trees versions tells (subst (λ (h : History). IsFrom (objects_after h c.args.folder.now) trees versions met) (sym (c.loop-met.invariant.unwritten tells)) here) in
+      omega (arith, c.loop-met.invariant.once trees versions tells from, step);
   caused = KeepsFaults_then g.S.Store.never_fails g.S.Store.faults _ ⊥ c.args.disk.now c.loop-met.disk c.judge.new.disk c.loop-met.invariant.caused c.in_ok-judge.ensures.caused (λ none. absurd none) (λ fails. absurd (cc));
 }
   where

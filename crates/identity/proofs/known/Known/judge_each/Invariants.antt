@@ -1,7 +1,8 @@
-use Rattle.std.proofs.Common.{◌≡◌, ◌≤◌, ◌+◌, ◌*◌, IsTrue, take}
+use Rattle.std.proofs.Common.{◌≡◌, ◌≤◌, ◌+◌, ◌*◌, IsTrue, List, take}
+use Rattle.gb_text.specs.declared.id.Name.{Name}
 use Rattle.gb_store.specs.Faults.{KeepsFaults}
 use Rattle.object_store.specs.Held.{objects_after}
-use Rattle.identity.specs.Knowing.{AreKnown, EachHas}
+use Rattle.identity.specs.Knowing.{AreFrom, AreKnown, EachHas, unread}
 use Rattle.identity.proofs.known.Known.judge_each.Given as goal
 
 abbrev pub invariant-loop-met : goal.invariant-loop-met
@@ -12,5 +13,7 @@ invariant-loop-met g l = record {
       → AreKnown (objects_after (g.S.Store.history l.fn.disk) l.folder) l.self;
   unwritten : IsTrue g.S.Store.tells → g.S.Store.history l.disk ≡ g.S.Store.history l.fn.disk;
   reads : g.S.Store.object_reads l.disk ≤ g.S.Store.object_reads l.fn.disk + 2 * l.met-index;
+  once : (trees versions : List Name) → IsTrue g.S.Store.tells → AreFrom (objects_after (g.S.Store.history l.fn.disk) l.folder) trees versions l.mets
+      → g.S.Store.object_reads l.disk + unread trees versions l.self ≤ g.S.Store.object_reads l.fn.disk + unread trees versions l.fn.self;
   caused : KeepsFaults g.S.Store.never_fails g.S.Store.faults ⊥ l.fn.disk l.disk;
 }

@@ -1,7 +1,5 @@
 use Rattle.std.proofs.Common.{◌≡◌, Result, Err, sym, subst, rules}
 use Rattle.object_store.specs.Held.{objects_after}
-use Rattle.identity.specs.Answers.{NoVersion}
-use Rattle.identity.specs.Faults.{Refused}
 use Rattle.identity.specs.Knowing.{IsVersion, ObjectAnswers}
 use Rattle.identity.specs.declared.fault.IdentityFault.{IdentityFault}
 use Rattle.identity.proofs.KnownLemmas.{IsVersion-named, name_found}
