@@ -95,7 +95,7 @@ all_above : (t u : List ℕ) (us : List (List ℕ)) → by_bytes t u ≡ Less �
 all_above t u [] less all = tt
 all_above t u (v ∷ us) less all = (nat_list_cmp_total.trans t u v less all.0, all_above t u us less all.1)
 
-pub insert_ascends : (marks : Marks) (t : List ℕ) → IsStrictlySortedBy by_bytes (texts_of marks) → IsStrictlySortedBy by_bytes (texts_of (insert_entry by_bytes marks t tt))
+insert_ascends : (marks : Marks) (t : List ℕ) → IsStrictlySortedBy by_bytes (texts_of marks) → IsStrictlySortedBy by_bytes (texts_of (insert_entry by_bytes marks t tt))
 unfolding IsStrictlySortedBy
 insert_ascends [] t s = (tt, tt)
 insert_ascends (e ∷ es) t s = by (by_bytes t e.0) refl (insert_ascends es t s.1)

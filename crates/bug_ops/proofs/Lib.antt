@@ -3,7 +3,7 @@ pub mod AnswerLemmas
 pub mod WriteLemmas
 pub mod LabelLaws
 pub mod OrderLaws
-pub mod Places
-pub mod KeySearch
-pub mod SearchLemmas
-pub mod PairSearch
+pub mod Folds
+pub mod KeyOrder
+pub mod LabelSets
+pub mod PairMaps

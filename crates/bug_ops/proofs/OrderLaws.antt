@@ -32,7 +32,7 @@ use Rattle.bug_ops.proofs.LabelLaws.{changed_ascend}
 -- ---- metadata
 
 -- Entries ascend with a further pair.
-pub pair_ascends : (es : Entries) (p : Pair) → Ascends es → Ascends (with_pair es p)
+pair_ascends : (es : Entries) (p : Pair) → Ascends es → Ascends (with_pair es p)
 pair_ascends es p s = by (lookup (is_at (by_bytes p.key)) es) refl
   where
     by : (o : Option (List ℕ)) → lookup (is_at (by_bytes p.key)) es ≡ o → Ascends (if is_some o then es else insert_entry by_bytes es p.key p.value)

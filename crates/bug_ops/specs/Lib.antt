@@ -1,9 +1,8 @@
 pub mod BugForms
 pub mod BugTable
 pub mod FormsKeep
-pub mod Bug
 pub mod Snapshots
-pub mod Places
+pub mod Folds
 pub mod Kind
 pub mod Laws
 pub mod Mentions

@@ -3,10 +3,12 @@
 
 mod comments;
 mod copies;
+mod fold;
 mod kind;
 mod labels;
 mod laws;
 mod members;
+mod metadata;
 mod op;
 mod pairs;
 mod persons;
@@ -15,11 +17,9 @@ mod row;
 mod snapshot;
 mod write;
 
+pub use fold::Fold;
 pub use laws::{
     labels_go_by_mention, reached_snapshots_are_in_order, written_members_are_in_order,
 };
 pub use op::{BugOp, BugStatus};
 pub use snapshot::{Comment, Excerpt, Snapshot};
-
-#[cfg(test)]
-mod tests;

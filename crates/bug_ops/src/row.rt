@@ -1,18 +1,16 @@
 //! The row of a bug, field by field.
-ghost use Rattle.std.specs.Prelude.{◌≡◌, true, IfOk, OnOk};
-ghost use Rattle.std.specs.List.Sorted.{IsStrictlySortedBy};
-ghost use Rattle.op_kind.specs.Pairs.{AreInKeyOrder};
-ghost use Rattle.bug_ops.specs.Places.{AreMet, with_lists};
-ghost use Rattle.bug_ops.specs.Snapshots.{by_bytes, id_after, title_after, status_after};
+ghost use Rattle.std.specs.Prelude.{◌≡◌, IfOk, OnOk};
+ghost use Rattle.bug_ops.specs.Folds.{with_lists};
+ghost use Rattle.bug_ops.specs.Snapshots.{id_after, title_after, status_after};
 ghost use Rattle.bug_ops.specs.Snapshots.{labels_after, author_after, participants_after};
 ghost use Rattle.bug_ops.specs.Snapshots.{create_after, first_after, comments_after};
-ghost use Rattle.bug_ops.specs.Snapshots.{joined_pairs, metadata_after, row_after, empty_row};
+ghost use Rattle.bug_ops.specs.Snapshots.{metadata_after, row_after, empty_row};
 
 use crate::copies::{copy_ids, copy_pairs, copy_text, copy_texts};
-use crate::labels::{change, change_ordered};
+use crate::labels::changed_list;
 use crate::op::{BugOp, BugStatus, common_of};
-use crate::pairs::{join_ordered, join_pairs};
-use crate::persons::{Met, meet_person, same_id, see_person};
+use crate::pairs::join_pairs;
+use crate::persons::{same_id, see_person};
 use crate::snapshot::Excerpt;
 use gb_text::{Id, List, Memory, Text};
 use op_kind::Pair;
@@ -57,27 +55,12 @@ fn labels_apply(alloc: Global, labels: &mut List<Text>, op: &BugOp) -> Result<()
 {
     match op {
         BugOp::LabelChange { added, removed, .. } => {
-            *labels = change(
+            *labels = changed_list(
                 alloc,
                 labels.as_slice(),
                 added.as_slice(),
                 removed.as_slice(),
             )?;
-            Ok(())
-        }
-        _ => Ok(()),
-    }
-}
-
-fn ordered_labels_apply(alloc: Global, labels: &mut List<Text>, op: &BugOp) -> Result<(), Memory>
-    requires { IsStrictlySortedBy by_bytes labels.old }
-    ensures labels { OnOk result (labels.new ≡ labels_after labels.old op.now) }
-    ensures ascend { OnOk result (IsStrictlySortedBy by_bytes labels.new) }
-{
-    match op {
-        BugOp::LabelChange { added, removed, .. } => {
-            let before = std::mem::replace(labels, List::new(alloc));
-            *labels = change_ordered(alloc, before, added.as_slice(), removed.as_slice())?;
             Ok(())
         }
         _ => Ok(()),
@@ -99,18 +82,6 @@ fn see_participant(ids: &mut List<Id>, op: &BugOp) -> Result<(), Memory>
     match op {
         BugOp::Create { common, .. } => see_person(ids, common.place.author),
         BugOp::AddComment { common, .. } => see_person(ids, common.place.author),
-        _ => Ok(()),
-    }
-}
-
-fn meet_participant(met: &mut Met, ids: &mut List<Id>, op: &BugOp) -> Result<(), Memory>
-    requires { AreMet met.old ids.old }
-    ensures ids { OnOk result (ids.new ≡ participants_after ids.old op.now) }
-    ensures met { OnOk result (AreMet met.new ids.new) }
-{
-    match op {
-        BugOp::Create { common, .. } => meet_person(met, ids, common.place.author),
-        BugOp::AddComment { common, .. } => meet_person(met, ids, common.place.author),
         _ => Ok(()),
     }
 }
@@ -170,57 +141,9 @@ fn metadata_apply(
     }
 }
 
-// Joins pairs to metadata, which are in byte order of their keys from then on.
-fn join_metadata(
-    alloc: Global,
-    are_ordered: &mut bool,
-    metadata: &mut List<Pair>,
-    pairs: &[Pair],
-) -> Result<(), Memory>
-    requires { are_ordered.old ≡ true → AreInKeyOrder metadata.old }
-    ensures metadata { OnOk result (metadata.new ≡ joined_pairs metadata.old pairs.now) }
-    ensures ordered { OnOk result (are_ordered.new ≡ true → AreInKeyOrder metadata.new) }
-{
-    if *are_ordered {
-        let before = std::mem::replace(metadata, List::new(alloc));
-        *metadata = join_ordered(alloc, before, pairs)?;
-        return Ok(());
-    }
-    *metadata = join_pairs(alloc, metadata.as_slice(), pairs)?;
-    *are_ordered = true;
-    Ok(())
-}
-
-fn ordered_metadata_apply(
-    alloc: Global,
-    id: Id,
-    are_ordered: &mut bool,
-    metadata: &mut List<Pair>,
-    op: &BugOp,
-) -> Result<(), Memory>
-    requires { are_ordered.old ≡ true → AreInKeyOrder metadata.old }
-    ensures metadata { OnOk result (metadata.new ≡ metadata_after id metadata.old op.now) }
-    ensures ordered { OnOk result (are_ordered.new ≡ true → AreInKeyOrder metadata.new) }
-{
-    match op {
-        BugOp::Create { common, .. } => {
-            *are_ordered = false;
-            *metadata = copy_pairs(alloc, common.metadata.as_slice())?;
-            Ok(())
-        }
-        BugOp::SetMetadata { target, pairs, .. } => {
-            if same_id(target, &id) {
-                join_metadata(alloc, are_ordered, metadata, pairs.as_slice())?;
-            }
-            Ok(())
-        }
-        _ => Ok(()),
-    }
-}
-
-// All but the labels, the persons and the metadata.
+/// All but the labels, the persons and the metadata.
 #[tactic(auto, unfolding(crate::specs::Snapshots::row_after))]
-fn fields_apply(alloc: Global, row: &mut Excerpt, op: &BugOp) -> Result<(), Memory>
+pub(crate) fn fields_apply(alloc: Global, row: &mut Excerpt, op: &BugOp) -> Result<(), Memory>
     ensures { OnOk result (row.new ≡ with_lists row.old (row_after row.old op.now)) }
 {
     let place = common_of(op).place;
@@ -247,34 +170,6 @@ pub(crate) fn row_apply(alloc: Global, row: &mut Excerpt, op: &BugOp) -> Result<
     labels_apply(alloc, &mut row.labels, op)?;
     see_person(&mut row.actors, common_of(op).place.author)?;
     see_participant(&mut row.participants, op)
-}
-
-/// The row one operation further, whose labels ascend, whose persons were met, and of whose
-/// metadata is known whether they are in order.
-#[tactic(auto, unfolding(crate::specs::Snapshots::row_after))]
-pub(crate) fn met_apply(
-    alloc: Global,
-    actors: &mut Met,
-    participants: &mut Met,
-    are_ordered: &mut bool,
-    row: &mut Excerpt,
-    op: &BugOp,
-) -> Result<(), Memory>
-    requires labels { IsStrictlySortedBy by_bytes row.old.labels }
-    requires actors { AreMet actors.old row.old.actors }
-    requires participants { AreMet participants.old row.old.participants }
-    requires metadata { are_ordered.old ≡ true → AreInKeyOrder row.old.metadata }
-    ensures row { OnOk result (row.new ≡ row_after row.old op.now) }
-    ensures labels { OnOk result (IsStrictlySortedBy by_bytes row.new.labels) }
-    ensures actors { OnOk result (AreMet actors.new row.new.actors) }
-    ensures participants { OnOk result (AreMet participants.new row.new.participants) }
-    ensures metadata { OnOk result (are_ordered.new ≡ true → AreInKeyOrder row.new.metadata) }
-{
-    ordered_metadata_apply(alloc, row.id, are_ordered, &mut row.metadata, op)?;
-    fields_apply(alloc, row, op)?;
-    ordered_labels_apply(alloc, &mut row.labels, op)?;
-    meet_person(actors, &mut row.actors, common_of(op).place.author)?;
-    meet_participant(participants, &mut row.participants, op)
 }
 
 pub(crate) fn copy_row(alloc: Global, row: &Excerpt) -> Result<Excerpt, Memory>

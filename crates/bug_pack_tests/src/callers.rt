@@ -10,7 +10,7 @@ ghost use Rattle.bug_ops.specs.Kind.{bug_kind};
 ghost use Rattle.bug_ops.specs.Snapshots.{empty_snapshot};
 ghost use Rattle.bug_ops.specs.declared.op.BugOp.{BugOp as OpValue};
 
-use bug_ops::{BugOp, Excerpt, Snapshot};
+use bug_ops::{BugOp, Excerpt, Fold, Snapshot};
 use gb_text::Memory;
 use op_kind::{OpKind, folds_append, kinds_read_what_they_write};
 use op_pack::Pack;
@@ -30,24 +30,24 @@ pub fn fold_both(alloc: Global, ops: &[BugOp]) -> Result<(Snapshot, Excerpt), Me
     ensures bug { IfOk result (λ r. r.0 ≡ state_from bug_kind empty_snapshot ops.now) }
     ensures row { IfOk result (λ r. r.1 ≡ r.0.row) }
 {
-    let mut bug = BugOp::start(alloc);
-    let mut row = BugOp::row_of(alloc, &bug)?;
+    let mut fold = BugOp::start(alloc);
+    let mut row = BugOp::row_of(alloc, &fold)?;
     for op in ops {
-        BugOp::apply(alloc, &mut bug, op)?;
+        BugOp::apply(alloc, &mut fold, op)?;
         BugOp::row_apply(alloc, &mut row, op)?;
     }
-    Ok((bug, row))
+    Ok((fold.finish(alloc)?, row))
 }
 
-// The bug some operations further.
-fn after_ops(alloc: Global, before: Snapshot, ops: &[BugOp]) -> Result<Snapshot, Memory>
-    ensures { IfOk result (λ bug. bug ≡ state_from bug_kind before ops.now) }
+// The fold some operations further.
+fn after_ops(alloc: Global, before: Fold, ops: &[BugOp]) -> Result<Fold, Memory>
+    ensures { IfOk result (λ fold. fold ≡ state_from bug_kind before ops.now) }
 {
-    let mut bug = before;
+    let mut fold = before;
     for op in ops {
-        BugOp::apply(alloc, &mut bug, op)?;
+        BugOp::apply(alloc, &mut fold, op)?;
     }
-    Ok(bug)
+    Ok(fold)
 }
 
 /// The bug of the operations of some packs, in order.
@@ -56,9 +56,9 @@ pub fn bug_of_packs(alloc: Global, packs: &[Pack<BugOp>]) -> Result<Snapshot, Me
         ≡ state_from bug_kind empty_snapshot (flat_map (λ pack. pack.ops) packs.now)) }
 {
     folds_append::<BugOp>();
-    let mut bug = BugOp::start(alloc);
+    let mut fold = BugOp::start(alloc);
     for pack in packs {
-        bug = after_ops(alloc, bug, pack.ops.as_slice())?;
+        fold = after_ops(alloc, fold, pack.ops.as_slice())?;
     }
-    Ok(bug)
+    fold.finish(alloc)
 }

@@ -57,7 +57,7 @@ fn fold(alloc: Global, lines: &[&str]) -> u64 {
             return 0;
         }
     }
-    state.row.comments
+    state.finish(alloc).map_or(0, |bug| bug.row.comments)
 }
 
 // What a line counts.

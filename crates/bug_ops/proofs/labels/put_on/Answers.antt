@@ -1,17 +1,12 @@
--- A label is put where the search for it ended.
-use Rattle.std.proofs.Common.{◌∙◌, ap}
-use Rattle.std.specs.List.{insert}
-use Rattle.bug_ops.specs.Places.{marks_of}
-use Rattle.bug_ops.proofs.SearchLemmas.{put_where_sought, found_stays, put_ascends}
+-- One label more is put on.
+use Rattle.std.proofs.Common.{◌∙◌}
+use Rattle.bug_ops.proofs.LabelSets.{one_more_on}
 use Rattle.bug_ops.proofs.labels.put_on.Goals as goal
 
-pub returns-in_ok-insert-clause-label : goal.returns-in_ok-insert-clause-label
-returns-in_ok-insert-clause-label c =
-    ap marks_of (c.in_ok-insert.ensures.items ∙ ap (insert c.args.labels.now.items c.in-Err.place) c.in_ok-copy_text.ensures)
-    ∙ put_where_sought c.args.labels.now.items c.deref.result.now c.args.label.now c.in-Err.place c.deref.ensures.value c.requires c.in-Err.ensures.bound c.in-Err.ensures.position
-
-pub returns-in_ok-insert-clause-ascend : goal.returns-in_ok-insert-clause-ascend
-returns-in_ok-insert-clause-ascend c = put_ascends c.args.labels.now.items c.insert.new.self.items c.args.label.now (returns-in_ok-insert-clause-label c) c.requires
-
-pub returns-in_default-clause-label : goal.returns-in_default-clause-label
-returns-in_default-clause-label c = found_stays c.args.labels.now.items c.deref.result.now c.args.label.now c.in_default.field-0 c.deref.ensures.value c.requires c.in_default.ensures.bound c.in_default.ensures.position
+pub loop-label-preserved : goal.loop-label-preserved
+loop-label-preserved c = record {
+  labels =
+      c.loop-label.invariant.labels
+      ∙ one_more_on c.loop-label.labels.keys c.insert.new.self.keys c.args.added.now c.loop-label.label-index c.label-item.result c.in_ok-copy_text.field-0 c.loop-label-test.true c.label-item.is c.in_ok-copy_text.ensures c.in_ok-insert.ensures.keys;
+  ascend = c.insert.ensures.ordered;
+}

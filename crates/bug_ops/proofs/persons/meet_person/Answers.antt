@@ -1,7 +1,7 @@
 -- The person was met.
 use Rattle.std.proofs.Common.{sym, subst}
-use Rattle.bug_ops.specs.Places.{AreMet}
-use Rattle.bug_ops.proofs.Places.{on_ok, one_more_met}
+use Rattle.bug_ops.specs.Folds.{AreMet}
+use Rattle.bug_ops.proofs.Folds.{on_ok, one_more_met}
 use Rattle.bug_ops.proofs.persons.meet_person.Goals as goal
 
 pub returns-clause-met : goal.returns-clause-met

@@ -4,4 +4,4 @@ use Rattle.bug_ops.specs.Kind.{bug_kind}
 use Rattle.bug_pack_tests.proofs.callers.after_ops.Given as goal
 
 abbrev pub invariant-loop-op : goal.invariant-loop-op
-invariant-loop-op l = state_from bug_kind l.fn.before l.ops ≡ state_from bug_kind l.bug (drop l.op-index l.ops)
+invariant-loop-op l = state_from bug_kind l.fn.before l.ops ≡ state_from bug_kind l.fold (drop l.op-index l.ops)

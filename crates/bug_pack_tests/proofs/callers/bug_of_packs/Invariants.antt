@@ -8,4 +8,4 @@ use Rattle.bug_pack_tests.proofs.callers.bug_of_packs.Given as goal
 abbrev pub invariant-loop-pack : goal.invariant-loop-pack
 invariant-loop-pack l =
     state_from bug_kind empty_snapshot (flat_map (λ pack. pack.ops) l.packs)
-    ≡ state_from bug_kind l.bug (flat_map (λ pack. pack.ops) (drop l.pack-index l.packs))
+    ≡ state_from bug_kind l.fold (flat_map (λ pack. pack.ops) (drop l.pack-index l.packs))

@@ -6,6 +6,6 @@ use Rattle.bug_pack_tests.proofs.callers.fold_both.Given as goal
 
 abbrev pub invariant-loop-op : goal.invariant-loop-op
 invariant-loop-op l = record {
-  bug : state_from bug_kind empty_snapshot l.ops ≡ state_from bug_kind l.bug (drop l.op-index l.ops);
-  row : l.row ≡ l.bug.row;
+  bug : state_from bug_kind empty_snapshot l.ops ≡ state_from bug_kind l.fold (drop l.op-index l.ops);
+  row : l.row ≡ l.fold.row;
 }
