@@ -1,0 +1,57 @@
+//! What may be wrong with the commits below some heads, and why a walk stopped.
+use gb_text::Name;
+use object_store::KindFault;
+use std::alloc::AllocFailed;
+
+/// What is wrong with the commits below some heads.
+#[derive(Clone, Copy, Debug, PartialEq, Eq)]
+pub enum WalkFault {
+    /// No file stands under this name of a commit.
+    Missing(Name),
+    /// The file under this name is no object text with that SHA-1.
+    Damaged(Name),
+    /// The file under this name has more than 4,194,304 bytes.
+    Large(Name),
+    /// A head or a parent names this object, which is no commit.
+    NotCommit(Name),
+    /// There are more than 65,536 commits.
+    TooMany,
+}
+
+/// Why a walk gave no commits.
+#[derive(Clone, Copy, Debug, PartialEq, Eq)]
+pub enum WalkStop {
+    Memory,
+    /// The store failed.
+    Disk,
+    Fault(WalkFault),
+}
+
+impl From<KindFault> for WalkStop {
+    ghost use Rattle.std.specs.Prelude.{◌≡◌};
+    ghost use Rattle.commit_walk.specs.Stops.{stop_of};
+
+    ghost from_gives = { λ fault e. e ≡ stop_of fault };
+
+    fn from(fault: KindFault) -> Self {
+        match fault {
+            KindFault::Memory => WalkStop::Memory,
+            KindFault::Disk => WalkStop::Disk,
+            KindFault::Missing(name) => WalkStop::Fault(WalkFault::Missing(name)),
+            KindFault::Damaged(name) => WalkStop::Fault(WalkFault::Damaged(name)),
+            KindFault::Large(name) => WalkStop::Fault(WalkFault::Large(name)),
+            KindFault::OtherKind(name) => WalkStop::Fault(WalkFault::NotCommit(name)),
+        }
+    }
+}
+
+impl<T: Drop> From<AllocFailed<T>> for WalkStop {
+    ghost use Rattle.std.specs.Prelude.{◌≡◌};
+    ghost use Rattle.commit_walk.specs.declared.fault.WalkStop.TheVariants as stop;
+
+    ghost from_gives = { λ _ e. e ≡ stop.Memory };
+
+    fn from(_: AllocFailed<T>) -> Self {
+        WalkStop::Memory
+    }
+}

@@ -1,0 +1,17 @@
+//! The walk over all commits below some heads, where they branch and merge.
+#![tactic(auto)]
+
+mod below;
+mod fault;
+mod laws;
+mod queue;
+
+pub use below::{MOST_COMMITS, Met, walk};
+pub use fault::{WalkFault, WalkStop};
+pub use laws::{
+    a_walk_has_at_most_65536_commits, a_whole_walk_has_no_fault, below_is_transitive,
+    walks_have_the_same_commits, what_lies_below_stays,
+};
+
+#[cfg(test)]
+mod tests;

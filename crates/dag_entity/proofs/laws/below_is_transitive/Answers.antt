@@ -1,5 +1,0 @@
-use Rattle.dag_entity.proofs.BelowLemmas.{below_below}
-use Rattle.dag_entity.proofs.laws.below_is_transitive.Goals as goal
-
-pub returns : goal.returns
-returns c = λ objects heads others name all below. below_below objects heads others name all below

@@ -1,5 +1,0 @@
-use Rattle.dag_entity.proofs.BelowLemmas.{same_commits}
-use Rattle.dag_entity.proofs.laws.walks_have_the_same_commits.Goals as goal
-
-pub returns : goal.returns
-returns c = λ objects heads others one two first second same met. same_commits objects heads others one two first second same met
