@@ -17,7 +17,7 @@ pub use laws::{
     ancestors_have_lesser_clocks, below_is_transitive, below_is_what_adding_parents_gives,
     orders_are_determined, parents_stand_before_children,
 };
-pub use node::Node;
+pub use node::{Node, Rank};
 
 #[cfg(test)]
 mod tests;
