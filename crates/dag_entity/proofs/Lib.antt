@@ -1,0 +1,17 @@
+pub mod AgreeFaults
+pub mod AgreeGrowth
+pub mod AgreeLemmas
+pub mod AppendLemmas
+pub mod AppendedLemmas
+pub mod EntityLemmas
+pub mod GraphLemmas
+pub mod HeadLemmas
+pub mod JudgeLemmas
+pub mod JudgeSets
+pub mod LawExtending
+pub mod LawOrders
+pub mod LawTexts
+pub mod LawValid
+pub mod LoadLemmas
+pub mod OrderLemmas
+pub mod ReadLemmas

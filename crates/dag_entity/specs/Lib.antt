@@ -1,0 +1,10 @@
+pub mod Agreeing
+pub mod Appending
+pub mod Entities
+pub mod Extending
+pub mod Faults
+pub mod Heads
+pub mod Judging
+pub mod Loading
+pub mod Nodes
+pub mod Stops

@@ -1,0 +1,121 @@
+//! Laws of entities, each the contract of a function that does nothing.
+ghost use Rattle.std.specs.Prelude.{◌≡◌, ◌↔◌, ◌⊎◌, ℕ, List, [], ◌∷◌, ◌++◌, map, Some};
+ghost use Rattle.gb_text.specs.declared.id.Id.{Id as IdValue};
+ghost use Rattle.gb_text.specs.declared.id.Name.{Name as NameValue};
+ghost use Rattle.git_object.specs.declared.commit.Commit.{Commit as CommitValue};
+ghost use Rattle.object_store.specs.Held.{Objects};
+ghost use Rattle.commit_walk.specs.Below.{IsBelow, IsParent};
+ghost use Rattle.commit_walk.specs.Distinct.{AreDistinct};
+ghost use Rattle.commit_pack.specs.declared.fault.CommitPackFault.{CommitPackFault as FaultValue};
+ghost use Rattle.op_pack.specs.declared.pack.Pack.{Pack as PackValue};
+ghost use Rattle.dag_entity.specs.Entities.{AreAllInOrder, AreOperationCommits, IsEntity, IsOperationCommit, IsOperationList, ops_in, with_operations};
+ghost use Rattle.dag_entity.specs.Extending.{BeginsOnce, ClockRises, Extends, HasPackText, extended};
+ghost use Rattle.dag_entity.specs.Faults.{IsValid};
+ghost use Rattle.dag_entity.specs.Nodes.{HasPackFault, IsCommitBelow, pack_at};
+ghost use Rattle.dag_entity.specs.declared.entity.Entity.{Entity as EntityValue};
+ghost use Rattle.dag_entity.specs.declared.entity.Loaded.{Loaded as LoadedValue};
+ghost use Rattle.dag_entity.specs.declared.entity.Placed.{Placed as PlacedValue};
+
+use op_kind::OpKind;
+
+/// The packs of an entity that have an operation are its operation commits in order, and the
+/// operations of all its packs, one pack after the other, are its operations: an empty pack adds
+/// none.
+pub fn entities_give_their_operations<K: OpKind>()
+    ensures commits { (objects : Objects) (heads : List NameValue) (packs : List (PlacedValue K))
+        → AreAllInOrder K.meaning objects heads packs
+        → AreOperationCommits K.meaning objects heads (with_operations K.meaning packs) }
+    ensures operations { (objects : Objects) (heads : List NameValue)
+        (packs : List (PlacedValue K)) → AreAllInOrder K.meaning objects heads packs
+        → IsOperationList K.meaning objects heads (ops_in K.meaning packs) }
+{}
+
+/// The packs in order and the operations in order are determined. Heads with the same operation
+/// commits have the same operations, also in other objects: the edges between commits have no part
+/// in it.
+pub fn operations_are_determined<K: OpKind>()
+    ensures packs { (objects : Objects) (heads : List NameValue)
+        (one two : List (PlacedValue K))
+        → AreAllInOrder K.meaning objects heads one
+        → AreAllInOrder K.meaning objects heads two → one ≡ two }
+    ensures operations { (objects : Objects) (heads : List NameValue) (one two : List K)
+        → IsOperationList K.meaning objects heads one
+        → IsOperationList K.meaning objects heads two → one ≡ two }
+    ensures edges { (objects others : Objects) (heads tops : List NameValue) (one two : List K)
+        → ((placed : PlacedValue K) → IsOperationCommit K.meaning objects heads placed
+        ↔ IsOperationCommit K.meaning others tops placed)
+        → IsOperationList K.meaning objects heads one
+        → IsOperationList K.meaning others tops two → one ≡ two }
+{}
+
+/// No operation of an entity comes twice, and two of its operation commits never have the same pack
+/// text, even where their packs have the same id.
+pub fn each_operation_stands_once<K: OpKind>()
+    ensures texts { (objects : Objects) (id : IdValue) (heads : List NameValue)
+        (authors : List IdValue) (one two : PlacedValue K) (text : List ℕ)
+        → IsValid K.meaning objects id heads authors
+        → IsOperationCommit K.meaning objects heads one
+        → IsOperationCommit K.meaning objects heads two
+        → HasPackText objects one.commit text → HasPackText objects two.commit text
+        → one ≡ two }
+    ensures once { (objects : Objects) (id : IdValue) (heads : List NameValue)
+        (authors : List IdValue) (entity : EntityValue K)
+        → IsEntity K.meaning objects id heads authors entity
+        → AreDistinct (map (λ (op : K). (K.meaning.common_of op).place.id)
+        (ops_in K.meaning entity.packs)) }
+{}
+
+/// An entity begins at its one commit without parents, with an operation that may be first and whose
+/// id is the entity's. Every other commit has a greater edit clock than each of its parents.
+pub fn valid_entities_are_well_formed<K: OpKind>()
+    ensures root { (objects : Objects) (id : IdValue) (heads : List NameValue)
+        (authors : List IdValue) (entity : EntityValue K)
+        → IsEntity K.meaning objects id heads authors entity
+        → BeginsOnce K.meaning objects heads id entity.create }
+    ensures clocks { (objects : Objects) (id : IdValue) (heads : List NameValue)
+        (authors : List IdValue) (entity : EntityValue K) (high low : NameValue)
+        → IsEntity K.meaning objects id heads authors entity
+        → IsBelow objects heads high → IsParent objects high low
+        → ClockRises objects high low }
+{}
+
+/// A commit below the heads has a pack or a fault, and never both.
+pub fn commits_have_a_pack_or_a_fault<K: OpKind>()
+    ensures either { (objects : Objects) (heads : List NameValue) (name : NameValue)
+        (commit : CommitValue) → IsCommitBelow objects heads name commit
+        → ((pack : PackValue K) × (pack_at K.meaning objects name ≡ Some pack))
+        ⊎ ((fault : FaultValue) × HasPackFault K.meaning objects heads name fault) }
+    ensures never_both { (objects : Objects) (heads : List NameValue) (name : NameValue)
+        (pack : PackValue K) (fault : FaultValue)
+        → pack_at K.meaning objects name ≡ Some pack
+        → HasPackFault K.meaning objects heads name fault → ⊥ }
+{}
+
+/// A commit over the heads of an entity with clocks above theirs, operations that may follow and are
+/// new, and an author among the authors, makes an entity again: nothing is wrong with it, all packs
+/// keep their places, and the new operations come at the end.
+pub fn a_later_commit_is_valid<K: OpKind>()
+    ensures valid { (objects : Objects) (id : IdValue) (heads : List NameValue)
+        (authors : List IdValue) (entity : EntityValue K) (node : LoadedValue K)
+        → IsEntity K.meaning objects id heads authors entity
+        → Extends K.meaning objects heads authors entity.packs node
+        → IsValid K.meaning objects id (node.placed.commit ∷ []) authors }
+    ensures packs { (objects : Objects) (id : IdValue) (heads : List NameValue)
+        (authors : List IdValue) (entity : EntityValue K) (node : LoadedValue K)
+        → IsEntity K.meaning objects id heads authors entity
+        → Extends K.meaning objects heads authors entity.packs node
+        → AreAllInOrder K.meaning objects (node.placed.commit ∷ [])
+        (entity.packs ++ node.placed ∷ []) }
+    ensures operations { (objects : Objects) (id : IdValue) (heads : List NameValue)
+        (authors : List IdValue) (entity : EntityValue K) (node : LoadedValue K)
+        → IsEntity K.meaning objects id heads authors entity
+        → Extends K.meaning objects heads authors entity.packs node
+        → IsOperationList K.meaning objects (node.placed.commit ∷ [])
+        (ops_in K.meaning entity.packs ++ node.placed.pack.ops) }
+    ensures entity { (objects : Objects) (id : IdValue) (heads : List NameValue)
+        (authors : List IdValue) (entity : EntityValue K) (node : LoadedValue K)
+        → IsEntity K.meaning objects id heads authors entity
+        → Extends K.meaning objects heads authors entity.packs node
+        → IsEntity K.meaning objects id (node.placed.commit ∷ []) authors
+        (extended entity node) }
+{}

@@ -1,0 +1,33 @@
+//! Entities: the graph of commits below heads, what may be wrong with it, and its packs in order.
+#![tactic(auto)]
+
+mod agree_laws;
+mod append_laws;
+mod appending;
+mod entity;
+mod fault;
+mod heads;
+mod judge;
+mod laws;
+mod load;
+mod order;
+mod read;
+
+pub use agree_laws::{
+    agreeing_stores_have_the_same_commits, agreeing_stores_have_the_same_faults,
+    agreeing_stores_have_the_same_order, agreeing_stores_have_the_same_packs,
+    more_authors_make_nothing_wrong, new_objects_change_nothing_of_a_valid_entity,
+    other_faults_do_not_depend_on_the_authors, stores_agree_both_ways, what_is_needed_stays,
+};
+pub use append_laws::{
+    appended_commits_come_after_their_needs, appended_commits_have_their_nodes,
+    appended_parts_are_plain,
+};
+pub use appending::{CommitPlan, append, plan_append};
+pub use entity::{Entity, Placed};
+pub use fault::EntityFault;
+pub use laws::{
+    a_later_commit_is_valid, commits_have_a_pack_or_a_fault, each_operation_stands_once,
+    entities_give_their_operations, operations_are_determined, valid_entities_are_well_formed,
+};
+pub use read::read_entity;

@@ -1,0 +1,28 @@
+//! The order of packs: by edit clock, then by pack id, then by the name of their commit.
+ghost use Rattle.std.specs.Prelude.{◌≡◌, IsPermutation};
+ghost use Rattle.commit_walk.specs.Distinct.{AreDistinct};
+ghost use Rattle.dag_entity.specs.Entities.{Rise, commits_of, rank_of};
+
+use crate::entity::Placed;
+use dag_graph::Rank;
+use op_kind::OpKind;
+
+/// Puts the packs of commits into their order.
+pub(crate) fn sort_packs<K: OpKind>(packs: &mut Vec<Placed<K>>)
+    requires { AreDistinct (commits_of packs.old.items) }
+    ensures same { IsPermutation packs.old.items packs.new.items }
+    ensures rise { Rise packs.new.items }
+{
+    packs.sort_unstable_by_key(|placed| rank_of(placed));
+}
+
+// What the order compares.
+fn rank_of<K: OpKind>(placed: &Placed<K>) -> Rank
+    ensures { result ≡ rank_of placed.now }
+{
+    Rank {
+        edit: placed.pack.edit,
+        pack: placed.pack.id,
+        name: placed.commit,
+    }
+}
