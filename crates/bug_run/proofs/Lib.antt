@@ -1,7 +1,5 @@
 pub mod AnswerLemmas
-pub mod FreeLemmas
-pub mod LogLemmas
-pub mod StepLemmas
+pub mod LawLemmas
 pub mod RunLemmas
 pub mod RunsLemmas
 pub mod Examples

@@ -1,10 +1,7 @@
-pub mod Answers
 pub mod Log
 pub mod Printed
 pub mod Refusals
 pub mod Run
 pub mod Runs
-pub mod Stops
 pub mod Told
-pub mod Walk
 pub mod Words

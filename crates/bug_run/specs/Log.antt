@@ -1,95 +1,113 @@
--- The log of a bug: a line for each commit of its chain, from the root to the head.
-use Rattle.std.specs.Prelude.{◌≡◌, ◌<◌, ◌≤◌, ◌⊎◌, ⊤, ℕ, List, [], ◌∷◌, ◌++◌, length, codes, decimal, Some, None, IsSome, Result, Ok, Err, option_and_then}
-use Rattle.std.specs.List.{flat_map, AllAdjacentBelow}
+-- The log of a bug: a line for each pack of the entity at its head, in the entity's order.
+use Rattle.std.specs.Prelude.{◌≡◌, ◌⊎◌, ⊤, ℕ, List, [], ◌∷◌, ◌++◌, codes, decimal, Some, None, Result, Ok, Err}
+use Rattle.std.specs.List.{flat_map}
 use Rattle.hex.specs.Hex.{encode_lower}
 use Rattle.gb_text.specs.declared.id.Id.{Id}
 use Rattle.gb_text.specs.declared.id.Name.{Name}
 use Rattle.gb_text.specs.Folder.{joined}
 use Rattle.gb_store.specs.Files.{Files}
-use Rattle.object_store.specs.Held.{Objects, objects_in}
+use Rattle.object_store.specs.Held.{objects_in}
 use Rattle.ref_store.specs.Refs.{Head, Bad}
-use Rattle.object_store.specs.Typed.{tree_at}
-use Rattle.commit_chain.specs.Chain.{Walked, MeetsMerge}
-use Rattle.commit_chain.specs.declared.chain.Met.{Met}
-use Rattle.commit_chain.specs.declared.chain.TheConstants.{MOST_COMMITS}
-use Rattle.op_pack.specs.Heads.{edit_clock_of}
-use Rattle.op_kind.specs.AnyKind.{any_kind}
-use Rattle.commit_pack.specs.Packs.{pack_under}
-use Rattle.bug_run.specs.Walk.{LogFaultHolds}
-use Rattle.bug_run.specs.declared.log.Step.{Step}
-use Rattle.bug_run.specs.declared.fault.WalkFault.{WalkFault}
-use Rattle.repo_state.specs.Sides.{found_by, head_at, ref_place}
+use Rattle.bug_ops.specs.Kind.{bug_kind}
+use Rattle.bug_ops.specs.declared.op.BugOp.{BugOp}
+use Rattle.dag_entity.specs.Entities.{IsEntity, ReadsEach}
+use Rattle.dag_entity.specs.Faults.{EntityFaultHolds}
+use Rattle.dag_entity.specs.declared.entity.Entity.{Entity}
+use Rattle.dag_entity.specs.declared.entity.Placed.{Placed}
+use Rattle.dag_entity.specs.declared.fault.EntityFault.{EntityFault}
+use Rattle.dag_entity.specs.declared.fault.EntityFault.TheVariants as fault
+use Rattle.repo_state.specs.Answers.{DamagedRef}
+use Rattle.repo_state.specs.Sides.{AreIds, found_by, head_at, ref_place}
 use Rattle.repo_state.specs.declared.refusal.Refusal.TheVariants as refusal
 use Rattle.repo_state.specs.declared.refusal.Stop.{Stop}
 use Rattle.repo_state.specs.declared.refusal.Stop.TheVariants as stop
 use Rattle.repo_state.specs.declared.side.HeadEntry.{HeadEntry}
 use Rattle.repo_state.specs.declared.side.Side.TheVariants as side
 
--- a commit that the walk met has a pack: its tree says one, and the blob that the tree names is its text
-abbrev pub HasPack : Objects → Met → Type 0
-HasPack objects met = IsSome (pack_under any_kind objects met.tree)
-
--- the steps are these commits, each with a pack, and with the edit clock of its tree
-abbrev pub Clocked : Objects → List Met → List Step → Type 0
-Clocked objects [] [] = ⊤
-Clocked objects [] (step ∷ steps) = ⊥
-Clocked objects (met ∷ mets) [] = ⊥
-Clocked objects (met ∷ mets) (step ∷ steps) =
-    (step.name ≡ met.name) × HasPack objects met × (option_and_then edit_clock_of (tree_at objects met.tree) ≡ Some step.clock) × Clocked objects mets steps
-
--- each clock is below the next
-abbrev pub Rises : List Step → Type 0
-Rises steps = AllAdjacentBelow (λ below above. below.clock < above.clock) steps (length steps)
-
--- the commits of a chain with their edit clocks, from the root to the head: at most 65,536, each clock above the one before
-pub record IsLog (objects : Objects) (head : Name) (steps : List Step) : Type 0 where
-  pub walk : List Met
-  pub walked : Walked objects head walk
-  pub count : length walk ≤ MOST_COMMITS
-  pub clocked : Clocked objects walk steps
-  pub rising : Rises steps
-
--- the line of a commit: its edit clock, a space, its name
-abbrev pub log_line : Step → List ℕ
-log_line step = decimal step.clock ++ codes " " ++ encode_lower step.name.bytes ++ codes "\n"
+-- the line of a pack: its edit clock, a space, the name of its commit
+abbrev pub log_line : Placed BugOp → List ℕ
+log_line placed = decimal placed.pack.edit ++ codes " " ++ encode_lower placed.commit.bytes ++ codes "\n"
 
 -- the lines
-abbrev pub log_text_of : List Step → List ℕ
-log_text_of steps = flat_map log_line steps
+abbrev pub log_text_of : List (Placed BugOp) → List ℕ
+log_text_of packs = flat_map log_line packs
 
--- why the log of a bug is damaged: its ref is no ref text, or the walk from its head meets no merge and has a fault
-abbrev pub IsDamagedBug : Files → List ℕ → Id → Type 0
-IsDamagedBug files folder id =
-    (head_at files folder side.Bugs id ≡ Bad)
-    ⊎ ((head : Name) × (head_at files folder side.Bugs id ≡ Head head)
-    × ((name : Name) → MeetsMerge (objects_in files folder) head name → ⊥)
-    × (fault : WalkFault) × LogFaultHolds (objects_in files folder) head fault)
+-- the ids of the local identities: those whose refs stand
+abbrev pub AreLocal : Files → List ℕ → List Id → Type 0
+AreLocal files folder authors = AreIds files folder side.Identities authors
 
--- the log of the bug with this id and this head, or why there is none
-abbrev pub WalkTold : Files → List ℕ → HeadEntry → Result (List ℕ) Stop → Type 0
-WalkTold files folder bug (Ok text) = (steps : List Step) × IsLog (objects_in files folder) bug.name steps × (text ≡ log_text_of steps)
-WalkTold files folder bug (Err stop.Memory) = ⊤
-WalkTold files folder bug (Err stop.Disk) = ⊤
-WalkTold files folder bug (Err (stop.Refused (refusal.MergeCommit name))) = MeetsMerge (objects_in files folder) bug.name name
-WalkTold files folder bug (Err (stop.Refused (refusal.Damaged path))) =
-    (path ≡ joined folder (ref_place side.Bugs bug.id)) × ((name : Name) → MeetsMerge (objects_in files folder) bug.name name → ⊥)
-    × (fault : WalkFault) × LogFaultHolds (objects_in files folder) bug.name fault
-WalkTold files folder bug (Err (stop.Refused _)) = ⊥
+-- the entity of a bug at its head, whose authors are local identities, and with which nothing is wrong
+pub record IsBug (files : Files) (folder : List ℕ) (bug : HeadEntry) (entity : Entity BugOp) : Type 0 where
+  pub authors : List Id
+  pub locals : AreLocal files folder authors
+  pub is : IsEntity bug_kind (objects_in files folder) bug.id (bug.name ∷ []) authors entity
+
+-- something is wrong with the entity at a bug's head, where its authors are to be local identities
+pub record HasBugFault (files : Files) (folder : List ℕ) (bug : HeadEntry) : Type 0 where
+  pub authors : List Id
+  pub locals : AreLocal files folder authors
+  pub fault : EntityFault
+  pub holds : EntityFaultHolds bug_kind (objects_in files folder) bug.id (bug.name ∷ []) authors fault
+
+-- the log of a bug
+pub record IsLog (files : Files) (folder : List ℕ) (bug : HeadEntry) (text : List ℕ) : Type 0 where
+  pub entity : Entity BugOp
+  pub is : IsBug files folder bug entity
+  pub lines : text ≡ log_text_of entity.packs
 
 -- the bug that a word finds, whose ref reads
 pub record FindsBug (files : Files) (folder word : List ℕ) (bug : HeadEntry) : Type 0 where
   pub found : found_by files folder side.Bugs word ≡ Some bug.id
   pub head : head_at files folder side.Bugs bug.id ≡ Head bug.name
 
+-- why a bug is damaged: its ref is no ref text, or something is wrong with the entity at its head
+abbrev pub IsDamagedBug : Files → List ℕ → Id → Type 0
+IsDamagedBug files folder id =
+    (head_at files folder side.Bugs id ≡ Bad)
+    ⊎ ((head : Name) × (head_at files folder side.Bugs id ≡ Head head) × HasBugFault files folder (record { id = id; name = head }))
+
 -- the answer to `log`, each with what is so of the files; want of memory and faults of the disk have no cause here
 abbrev pub LogAnswers : Files → List ℕ → List ℕ → Result (List ℕ) Stop → Type 0
-LogAnswers files folder word (Ok text) =
-    (bug : HeadEntry) × FindsBug files folder word bug × (steps : List Step) × IsLog (objects_in files folder) bug.name steps × (text ≡ log_text_of steps)
+LogAnswers files folder word (Ok text) = (bug : HeadEntry) × FindsBug files folder word bug × IsLog files folder bug text
 LogAnswers files folder word (Err stop.Memory) = ⊤
 LogAnswers files folder word (Err stop.Disk) = ⊤
 LogAnswers files folder word (Err (stop.Refused refusal.NotFound)) = found_by files folder side.Bugs word ≡ None
-LogAnswers files folder word (Err (stop.Refused (refusal.MergeCommit name))) =
-    (bug : HeadEntry) × FindsBug files folder word bug × MeetsMerge (objects_in files folder) bug.name name
 LogAnswers files folder word (Err (stop.Refused (refusal.Damaged path))) =
     (id : Id) × (found_by files folder side.Bugs word ≡ Some id) × (path ≡ joined folder (ref_place side.Bugs id)) × IsDamagedBug files folder id
 LogAnswers files folder word (Err (stop.Refused _)) = ⊥
+
+-- ---- the answers to parts
+
+-- why there is no entity of this bug
+abbrev pub BugRefused : Files → List ℕ → HeadEntry → Stop → Type 0
+BugRefused files folder bug stop.Memory = ⊤
+BugRefused files folder bug stop.Disk = ⊤
+BugRefused files folder bug (stop.Refused (refusal.Damaged path)) = (path ≡ joined folder (ref_place side.Bugs bug.id)) × HasBugFault files folder bug
+BugRefused files folder bug (stop.Refused _) = ⊥
+
+-- the entity of this bug, or why there is none
+abbrev pub BugAnswers : Files → List ℕ → HeadEntry → Result (Entity BugOp) Stop → Type 0
+BugAnswers files folder bug (Ok entity) = IsBug files folder bug entity
+BugAnswers files folder bug (Err s) = BugRefused files folder bug s
+
+-- the log of this bug, or why there is none
+abbrev pub LogOfBug : Files → List ℕ → HeadEntry → Result (List ℕ) Stop → Type 0
+LogOfBug files folder bug (Ok text) = IsLog files folder bug text
+LogOfBug files folder bug (Err s) = BugRefused files folder bug s
+
+-- what a fault of a bug's entity is to the log: damage of its ref, but for want of memory and faults of the disk
+abbrev pub StopOf : List ℕ → Id → EntityFault → Stop → Type 0
+StopOf folder id fault.Memory s = s ≡ stop.Memory
+StopOf folder id fault.Disk s = s ≡ stop.Disk
+StopOf folder id _ s = DamagedRef folder side.Bugs id s
+
+-- ---- the reads
+
+-- at most three objects were read for each of some commits below the head of this bug
+abbrev pub ReadsBelow : Files → List ℕ → HeadEntry → ℕ → ℕ → Type 0
+ReadsBelow files folder bug before after = ReadsEach (objects_in files folder) (bug.name ∷ []) 3 before after
+
+-- no object was read, or so many below the head of the bug that a word finds
+abbrev pub ReadsLog : Files → List ℕ → List ℕ → ℕ → ℕ → Type 0
+ReadsLog files folder word before after =
+    (after ≡ before) ⊎ ((bug : HeadEntry) × FindsBug files folder word bug × ReadsBelow files folder bug before after)

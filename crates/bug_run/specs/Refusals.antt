@@ -3,7 +3,7 @@ use Rattle.std.specs.Prelude.{ℕ, List, ◌++◌, codes, decimal}
 use Rattle.hex.specs.Hex.{encode_lower}
 use Rattle.repo_state.specs.Stops.{number_of}
 use Rattle.repo_state.specs.declared.refusal.Refusal.{Refusal}
-use Rattle.repo_state.specs.declared.refusal.Refusal.TheVariants.{NoUser, NotFound, BadText, EntityExists, NameTaken, TooLarge, Damaged, SomeRefused, BadFolder, MergeCommit}
+use Rattle.repo_state.specs.declared.refusal.Refusal.TheVariants.{NoUser, NotFound, BadText, EntityExists, NameTaken, TooLarge, Damaged, SomeRefused, BadFolder}
 
 -- what a refusal says behind its number; the lines of `SomeRefused` stand in the answer, so that its words are never told
 abbrev pub refusal_words : Refusal → List ℕ
@@ -16,7 +16,6 @@ refusal_words (TooLarge count) = codes "too large " ++ decimal count
 refusal_words (Damaged path) = codes "damaged " ++ path
 refusal_words (SomeRefused count) = codes "some refused " ++ decimal count
 refusal_words BadFolder = codes "bad folder"
-refusal_words (MergeCommit name) = codes "merge commit " ++ encode_lower name.bytes
 
 -- its line
 abbrev pub refusal_line : Refusal → List ℕ

@@ -1,10 +1,8 @@
 //! The top call: what the words ask, done over a store and told to a sink.
 #![tactic(auto)]
 
-mod fault;
 mod laws;
 mod log;
-mod pack;
 mod print;
 mod refusal;
 mod status;
@@ -12,7 +10,6 @@ mod told;
 mod top;
 mod words;
 
-pub use fault::WalkFault;
 pub use laws::{a_log_has_no_fault, logs_are_determined, runs_keep_folders};
 pub use status::Status;
 pub use top::run;

@@ -38,7 +38,6 @@ fn push_words(line: &mut String, refusal: &Refusal) -> Result<(), AllocError>
         }
         Refusal::SomeRefused(count) => push_counted(line, "some refused ", *count),
         Refusal::BadFolder => line.push_str("bad folder"),
-        Refusal::MergeCommit(name) => push_with_name(line, "merge commit ", name),
     }
 }
 

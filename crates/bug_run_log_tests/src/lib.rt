@@ -5,4 +5,8 @@
 #[cfg(test)]
 mod bug;
 #[cfg(test)]
+mod graphs;
+#[cfg(test)]
+mod runs;
+#[cfg(test)]
 mod tests;

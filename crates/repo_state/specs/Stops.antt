@@ -37,4 +37,3 @@ number_of (refusal.TooLarge count) = 13
 number_of (refusal.Damaged path) = 14
 number_of (refusal.SomeRefused count) = 15
 number_of refusal.BadFolder = 17
-number_of (refusal.MergeCommit name) = 18

@@ -28,8 +28,6 @@ pub enum Refusal {
     SomeRefused(u64),
     /// 17: the folder word is no folder.
     BadFolder,
-    /// 18: this commit of the bug has two parents or more.
-    MergeCommit(Name),
 }
 
 impl Refusal {
@@ -50,7 +48,6 @@ impl Refusal {
             Refusal::Damaged(_) => 14,
             Refusal::SomeRefused(_) => 15,
             Refusal::BadFolder => 17,
-            Refusal::MergeCommit(_) => 18,
         }
     }
 }

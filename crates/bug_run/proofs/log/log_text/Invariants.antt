@@ -2,5 +2,5 @@ use Rattle.std.proofs.Common.{◌≡◌, string_bytes, take, flat_map}
 use Rattle.bug_run.specs.Log.{log_line}
 use Rattle.bug_run.proofs.log.log_text.Given as goal
 
-abbrev pub invariant-loop-step : goal.invariant-loop-step
-invariant-loop-step l = string_bytes l.text ≡ flat_map log_line (take l.step-index l.steps)
+abbrev pub invariant-loop-placed : goal.invariant-loop-placed
+invariant-loop-placed l = string_bytes l.text ≡ flat_map log_line (take l.placed-index l.packs)
