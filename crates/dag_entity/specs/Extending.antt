@@ -1,5 +1,6 @@
 -- What an entity's commits are like, and a commit over its heads with the entity that it makes.
 use Rattle.std.specs.Prelude.{◌≡◌, ◌≤◌, ◌<◌, ◌+◌, ℕ, true, List, [], ◌∷◌, ◌++◌, length, All, Contains, Some}
+use Rattle.std.specs.List.{AllByRecursion}
 use Rattle.gb_text.specs.declared.id.Id.{Id}
 use Rattle.gb_text.specs.declared.id.Name.{Name}
 use Rattle.git_object.specs.declared.commit.Commit.{Commit}
@@ -11,7 +12,7 @@ use Rattle.commit_walk.specs.declared.below.TheConstants.{MOST_COMMITS}
 use Rattle.commit_pack.specs.Packs.{NamesOps}
 use Rattle.op_kind.specs.Meaning.{Meaning}
 use Rattle.dag_entity.specs.Faults.{IsRootCommit, IsRootNode}
-use Rattle.dag_entity.specs.Judging.{OpensWell}
+use Rattle.dag_entity.specs.Judging.{OpensWell, later_ops}
 use Rattle.dag_entity.specs.Nodes.{IsNode, edit_at, ids_of}
 use Rattle.dag_entity.specs.declared.entity.Entity.{Entity}
 use Rattle.dag_entity.specs.declared.entity.Loaded.{Loaded}
@@ -41,6 +42,20 @@ module _ {Op State Row : Type 0} (k : Meaning Op State Row) where
     pub only : (name : Name) → IsRootCommit objects heads name → name ≡ root.placed.commit
     pub opens : OpensWell k id root.placed.pack create
 
+  -- what a commit without parents must meet, to begin the entity of an id
+  pub record Begins (objects : Objects) (id : Id) (authors : List Id) (node : Loaded Op) (create : ℕ) : Type 0 where
+    -- its name holds a commit with its pack, and without parents
+    pub is : IsNode k objects node
+    pub root : node.parents ≡ []
+    -- it has a create clock, and its first operation may be first and has the id
+    pub opens : OpensWell k id node.placed.pack create
+    -- each operation behind the first may follow
+    pub follow : AllByRecursion (λ (op : Op). k.is_following op ≡ true) (later_ops k true node.placed.pack.ops)
+    -- none of its operations comes twice
+    pub once : AreDistinct (ids_of k node.placed.pack)
+    -- its author is one of the authors
+    pub known : Contains authors node.placed.pack.author
+
   -- what a commit over the heads of an entity with these packs must meet
   pub record Extends (objects : Objects) (heads : List Name) (authors : List Id) (packs : List (Placed Op)) (node : Loaded Op) : Type 0 where
     -- its name holds a commit with its parents and its pack, and the parents are the heads
@@ -60,6 +75,17 @@ module _ {Op State Row : Type 0} (k : Meaning Op State Row) where
     pub known : Contains authors node.placed.pack.author
     -- there is room for it
     pub few : length packs < MOST_COMMITS
+
+-- the entity of an id with one commit, its root
+abbrev pub begun : {Op : Type 0} → Id → Loaded Op → ℕ → Entity Op
+begun id node create = record {
+  id = id;
+  heads = node.placed.commit ∷ [];
+  edit = node.placed.pack.edit;
+  create = create;
+  commits = 1;
+  packs = node.placed ∷ [];
+}
 
 -- the entity with one commit more: its only head, whose pack comes last
 abbrev pub extended : {Op : Type 0} → Entity Op → Loaded Op → Entity Op

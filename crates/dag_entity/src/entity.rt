@@ -26,7 +26,7 @@ pub struct Entity<K> {
 
 /// A commit that was read: its parents in order, and its pack.
 #[derive(Drop)]
-pub(crate) struct Loaded<K> {
-    pub(crate) parents: List<Name>,
-    pub(crate) placed: Placed<K>,
+pub struct Loaded<K> {
+    pub parents: List<Name>,
+    pub placed: Placed<K>,
 }

@@ -9,7 +9,7 @@ ghost use Rattle.commit_walk.specs.Distinct.{AreDistinct};
 ghost use Rattle.commit_pack.specs.declared.fault.CommitPackFault.{CommitPackFault as FaultValue};
 ghost use Rattle.op_pack.specs.declared.pack.Pack.{Pack as PackValue};
 ghost use Rattle.dag_entity.specs.Entities.{AreAllInOrder, AreOperationCommits, IsEntity, IsOperationCommit, IsOperationList, ops_in, with_operations};
-ghost use Rattle.dag_entity.specs.Extending.{BeginsOnce, ClockRises, Extends, HasPackText, extended};
+ghost use Rattle.dag_entity.specs.Extending.{Begins, BeginsOnce, ClockRises, Extends, HasPackText, begun, extended};
 ghost use Rattle.dag_entity.specs.Faults.{IsValid};
 ghost use Rattle.dag_entity.specs.Nodes.{HasPackFault, IsCommitBelow, pack_at};
 ghost use Rattle.dag_entity.specs.declared.entity.Entity.{Entity as EntityValue};
@@ -89,6 +89,15 @@ pub fn commits_have_a_pack_or_a_fault<K: OpKind>()
         (pack : PackValue K) (fault : FaultValue)
         → pack_at K.meaning objects name ≡ Some pack
         → HasPackFault K.meaning objects heads name fault → ⊥ }
+{}
+
+/// A commit without parents, with a create clock, a first operation that may be first and has the id,
+/// further ones that may follow, none of them twice, and an author among the authors, is an entity.
+pub fn a_first_commit_is_valid<K: OpKind>()
+    ensures { (objects : Objects) (id : IdValue) (authors : List IdValue) (node : LoadedValue K)
+        (create : ℕ) → Begins K.meaning objects id authors node create
+        → IsEntity K.meaning objects id (node.placed.commit ∷ []) authors
+        (begun id node create) }
 {}
 
 /// A commit over the heads of an entity with clocks above theirs, operations that may follow and are

@@ -24,10 +24,11 @@ pub use append_laws::{
     appended_parts_are_plain,
 };
 pub use appending::{CommitPlan, append, plan_append};
-pub use entity::{Entity, Placed};
+pub use entity::{Entity, Loaded, Placed};
 pub use fault::EntityFault;
 pub use laws::{
-    a_later_commit_is_valid, commits_have_a_pack_or_a_fault, each_operation_stands_once,
-    entities_give_their_operations, operations_are_determined, valid_entities_are_well_formed,
+    a_first_commit_is_valid, a_later_commit_is_valid, commits_have_a_pack_or_a_fault,
+    each_operation_stands_once, entities_give_their_operations, operations_are_determined,
+    valid_entities_are_well_formed,
 };
 pub use read::read_entity;
