@@ -22,7 +22,8 @@ use Rattle.repo_state.proofs.ListingLemmas.{Contains-from_map, Contains-map}
 Id-same : (one two : Id) → one.bytes ≡ two.bytes → one ≡ two
 Id-same one two e = λ i. record { bytes = e i }
 
-ids-same : (ones twos : List Id) → map (λ (id : Id). id.bytes) ones ≡ map (λ (id : Id). id.bytes) twos → ones ≡ twos
+-- ids with the same bytes are the same
+pub ids-same : (ones twos : List Id) → map (λ (id : Id). id.bytes) ones ≡ map (λ (id : Id). id.bytes) twos → ones ≡ twos
 ids-same [] [] e = refl
 ids-same [] (two ∷ twos) e = absurd (cc)
 ids-same (one ∷ ones) [] e = absurd (cc)

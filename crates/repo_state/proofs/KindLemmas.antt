@@ -1,8 +1,11 @@
--- What each write of a folder leaves of its objects, refs and user.
-use Rattle.std.proofs.Common.{◌≡◌, ◌≢◌, ◌⊎◌, inl, inr, ℕ, Bool, true, false, IsTrue, cond, List, [], ◌∷◌, ◌++◌, Option, Some, None, refl, sym, ◌∙◌, ap, subst}
-use Rattle.std.specs.Prelude.{is_some}
+-- What each write of a folder leaves of its objects, refs, user and clocks.
+use Rattle.std.proofs.Common.{◌≡◌, ◌≢◌, ◌≤◌, ◌⊎◌, inl, inr, ℕ, Bool, true, false, IsTrue, cond, List, [], ◌∷◌, ◌++◌, length, decimal, Option, Some, None, refl, sym, ◌∙◌, ap, subst, arith}
+use Rattle.std.specs.Prelude.{is_some, nat_le}
+use Rattle.std.proofs.lemmas.Bool.Decides.{nat_tests}
+use Rattle.std.proofs.lemmas.Fmt.{length-decimal-le}
 use Rattle.std.specs.Str.{bytes_eq}
 use Rattle.hex.specs.Hex.{encode_lower}
+use Rattle.gb_text.specs.Decimal.{decimal_of}
 use Rattle.gb_text.specs.Digits.{IsId, IsName, id_of, name_of}
 use Rattle.gb_text.specs.Folder.{joined}
 use Rattle.gb_text.specs.LineEnd.{line_of}
@@ -15,16 +18,22 @@ use Rattle.gb_store.specs.declared.store.Change.{Change}
 use Rattle.git_object.specs.Grammar.{object_name}
 use Rattle.object_store.specs.Held.{objects_in}
 use Rattle.object_store.specs.Puts.{object_write}
-use Rattle.ref_store.specs.Refs.{Head, head_or_bad, ref_of}
+use Rattle.lamport.specs.Clock.{clock_of, number_of}
+use Rattle.lamport.specs.declared.clock.TheConstants.{CAP}
+use Rattle.lamport.proofs.ClockLemmas.{clock_of-decimal}
+use Rattle.ref_store.specs.Refs.{Ref, Head, head_or_bad, ref_of}
 use Rattle.ref_store.specs.Setting.{ref_write}
 use Rattle.ref_store.proofs.MapLemmas.{joined-same, set_ref_reads, written-other, written-same}
 use Rattle.ref_store.proofs.RefLemmas.{line_of-more}
+use Rattle.repo_state.specs.Clocks.{clock_at, clock_in, clock_place, clock_write}
 use Rattle.repo_state.specs.Sides.{has_ref, head_at, is_there, ref_place}
 use Rattle.repo_state.specs.Sound.{IsNamedSide}
 use Rattle.repo_state.specs.Users.{BadUser, User, id_line, local_user, user_at, user_of, user_place, user_write}
+use Rattle.repo_state.specs.declared.clocks.ClockFile.{ClockFile}
 use Rattle.repo_state.specs.declared.side.Side.{Side}
 use Rattle.repo_state.specs.declared.side.Side.TheVariants as side
-use Rattle.repo_state.proofs.PlaceLemmas.{ref-not_object, ref-not_user, ref_place-same, ref_place-side, same_or_other, user-not_object}
+use Rattle.repo_state.specs.declared.user_file.TheConstants.{MOST_BYTES}
+use Rattle.repo_state.proofs.PlaceLemmas.{clock-not_object, clock-not_user, clock-other, ref-not_clock, ref-not_object, ref-not_user, ref_place-same, ref_place-side, same_or_other, user-not_object}
 
 -- ---- objects
 
@@ -41,6 +50,10 @@ objects-ref_write files folder of id head =
 pub objects-user_write : (files : Files) (folder : List ℕ) (user : Id) → objects_in (written files (user_write folder user)) folder ≡ objects_in files folder
 objects-user_write files folder user = λ i name. written-other files (user_write folder user) (joined folder (object_place name)) (user-not_object folder name) i
 
+-- and after a clock was
+pub objects-clock_write : (files : Files) (folder : List ℕ) (which : ClockFile) (n : ℕ) → objects_in (written files (clock_write folder which n)) folder ≡ objects_in files folder
+objects-clock_write files folder which n = λ i name. written-other files (clock_write folder which n) (joined folder (object_place name)) (clock-not_object folder which name) i
+
 -- ---- refs
 
 -- a ref reads as before where a write is not of its path
@@ -56,6 +69,10 @@ head_at-object_write files folder text of id =
 -- so does a write of the user
 pub head_at-user_write : (files : Files) (folder : List ℕ) (of : Side) (id user : Id) → head_at (written files (user_write folder user)) folder of id ≡ head_at files folder of id
 head_at-user_write files folder of id user = head_at-other files (user_write folder user) folder of id (λ e. ref-not_user folder of id (sym e))
+
+-- and a write of a clock
+pub head_at-clock_write : (files : Files) (folder : List ℕ) (of : Side) (id : Id) (which : ClockFile) (n : ℕ) → head_at (written files (clock_write folder which n)) folder of id ≡ head_at files folder of id
+head_at-clock_write files folder of id which n = head_at-other files (clock_write folder which n) folder of id (λ e. ref-not_clock folder of id which (sym e))
 
 -- after a head was set, the ref of an id reads as before, or it is that one and reads as the head
 pub head_at-ref_write : (files : Files) (folder : List ℕ) (of : Side) (id other : Id) (head : Name) → IsId id → IsId other → IsName head
@@ -146,3 +163,68 @@ user_at-set files folder id is stands =
   where
     still : IsTrue (has_ref (written files (user_write folder id)) folder side.Identities id)
     still = stands-put files (joined folder user_place) (id_line id) (joined folder (ref_place side.Identities id)) stands
+
+-- a write of a clock leaves the user, even one of whom no ref stands
+pub user_at-clock_write : (files : Files) (folder : List ℕ) (which : ClockFile) (n : ℕ) → user_at (written files (clock_write folder which n)) folder ≡ user_at files folder
+user_at-clock_write files folder which n =
+    ap (user_of (written files (clock_write folder which n)) folder) (written-other files (clock_write folder which n) (joined folder user_place) (clock-not_user folder which))
+    ∙ at_file (files (joined folder user_place))
+  where
+    at_id : (o : Option Id) → local_user (written files (clock_write folder which n)) folder o ≡ local_user files folder o
+    at_id None = refl
+    at_id (Some id) = ap (λ (ref : Ref). cond (is_there ref) (User id) BadUser) (head_at-clock_write files folder side.Identities id which n)
+
+    at_file : (o : Option (List ℕ)) → user_of (written files (clock_write folder which n)) folder o ≡ user_of files folder o
+    at_file None = refl
+    at_file (Some text) = at_id (id_of (line_of text))
+
+-- ---- clocks
+
+-- a clock reads as before where a write is not of its path
+clock_at-elsewhere : (files : Files) (change : Change) (folder : List ℕ) (which : ClockFile) → change.path ≢ joined folder (clock_place which)
+    → clock_at (written files change) folder which ≡ clock_at files folder which
+clock_at-elsewhere files change folder which other = ap clock_in (written-other files change (joined folder (clock_place which)) other)
+
+-- a write of an object leaves each clock
+pub clock_at-object_write : (files : Files) (folder text : List ℕ) (which : ClockFile) → clock_at (written files (object_write folder text)) folder which ≡ clock_at files folder which
+clock_at-object_write files folder text which =
+    clock_at-elsewhere files (object_write folder text) folder which (λ e. clock-not_object folder which (object_name text) (sym e))
+
+-- so does a head that is set
+pub clock_at-ref_write : (files : Files) (folder : List ℕ) (of : Side) (id : Id) (head : Name) (which : ClockFile) → clock_at (written files (ref_write folder (ref_place of id) head)) folder which ≡ clock_at files folder which
+clock_at-ref_write files folder of id head which = clock_at-elsewhere files (ref_write folder (ref_place of id) head) folder which (ref-not_clock folder of id which)
+
+-- and a user
+pub clock_at-user_write : (files : Files) (folder : List ℕ) (user : Id) (which : ClockFile) → clock_at (written files (user_write folder user)) folder which ≡ clock_at files folder which
+clock_at-user_write files folder user which = clock_at-elsewhere files (user_write folder user) folder which (λ e. clock-not_user folder which (sym e))
+
+-- and the other clock
+pub clock_at-other : (files : Files) (folder : List ℕ) (which other : ClockFile) (n : ℕ) → which ≢ other → clock_at (written files (clock_write folder which n)) folder other ≡ clock_at files folder other
+clock_at-other files folder which other n differ = clock_at-elsewhere files (clock_write folder which n) folder other (clock-other folder which other differ)
+
+-- the decimal of a clock is short
+clock_is_short : (n : ℕ) → n ≤ CAP → nat_le (length (decimal n)) MOST_BYTES ≡ true
+clock_is_short n le =
+    let few : length (decimal n) ≤ 20 = length-decimal-le 20 n (omega arith) (omega (arith, le)) (omega (arith, le)) in
+    grind (arith, nat_tests, few)
+
+-- a clock that was set to at most 2^62 reads as it was set
+pub clock_at-set : (files : Files) (folder : List ℕ) (which : ClockFile) (n : ℕ) → n ≤ CAP → clock_at (written files (clock_write folder which n)) folder which ≡ n
+clock_at-set files folder which n le =
+    ap clock_in (written-same files (clock_write folder which n)) ∙ ap (λ (b : Bool). cond b (clock_of (decimal n)) 0) (clock_is_short n le) ∙ clock_of-decimal n le
+
+-- a clock is at most 2^62
+pub clock_at-capped : (files : Files) (folder : List ℕ) (which : ClockFile) → clock_at files folder which ≤ CAP
+clock_at-capped files folder which = at_file (files (joined folder (clock_place which)))
+  where
+    at_number : (o : Option ℕ) → number_of o ≤ CAP
+    at_number None = omega arith
+    at_number (Some n) = omega arith
+
+    decide : (text : List ℕ) (b : Bool) → cond b (clock_of text) 0 ≤ CAP
+    decide text true = at_number (decimal_of (line_of text))
+    decide text false = omega arith
+
+    at_file : (o : Option (List ℕ)) → clock_in o ≤ CAP
+    at_file None = omega arith
+    at_file (Some text) = decide text (nat_le (length text) MOST_BYTES)

@@ -1,7 +1,12 @@
+pub mod BugLemmas
+pub mod BugSoundLemmas
+pub mod ClockFileLemmas
+pub mod FoundLemmas
 pub mod HeadIdLemmas
 pub mod IdLemmas
 pub mod KindLemmas
 pub mod ListingLemmas
 pub mod PeopleLemmas
 pub mod PlaceLemmas
+pub mod UndamagedLemmas
 pub mod UserFileLemmas

@@ -18,9 +18,12 @@ use Rattle.git_object.specs.Grammar.{Lacks}
 use Rattle.git_object.specs.Reading.{cut_at}
 use Rattle.git_object.proofs.CutLaws.{cut_again}
 use Rattle.ref_store.proofs.MapLemmas.{joined-same}
+use Rattle.repo_state.specs.Clocks.{clock_place}
 use Rattle.repo_state.specs.Sides.{dir_of, ref_place}
 use Rattle.repo_state.specs.Sound.{IsNamedSide, IsRemoteName}
 use Rattle.repo_state.specs.Users.{user_place}
+use Rattle.repo_state.specs.declared.clocks.ClockFile.{ClockFile}
+use Rattle.repo_state.specs.declared.clocks.ClockFile.TheVariants as clock
 use Rattle.repo_state.specs.declared.side.Side.{Side}
 use Rattle.repo_state.specs.declared.side.Side.TheVariants as side
 use Rattle.gb_text.proofs.DigitLemmas.{id_digits-same}
@@ -54,6 +57,35 @@ ref-not_user folder (side.RemoteIdentities remote) id = apart folder (ref_place 
 -- the user and an object
 pub user-not_object : (folder : List ℕ) (name : Name) → joined folder user_place ≢ joined folder (object_place name)
 user-not_object folder name = apart folder user_place (object_place name) 0 (λ e. omega arith)
+
+-- a clock and an object
+pub clock-not_object : (folder : List ℕ) (which : ClockFile) (name : Name) → joined folder (clock_place which) ≢ joined folder (object_place name)
+clock-not_object folder clock.BugsCreate name = apart folder (clock_place clock.BugsCreate) (object_place name) 0 (λ e. omega arith)
+clock-not_object folder clock.BugsEdit name = apart folder (clock_place clock.BugsEdit) (object_place name) 0 (λ e. omega arith)
+
+-- a clock and the user
+pub clock-not_user : (folder : List ℕ) (which : ClockFile) → joined folder (clock_place which) ≢ joined folder user_place
+clock-not_user folder clock.BugsCreate = apart folder (clock_place clock.BugsCreate) user_place 8 (λ e. omega arith)
+clock-not_user folder clock.BugsEdit = apart folder (clock_place clock.BugsEdit) user_place 8 (λ e. omega arith)
+
+-- the places of clocks begin alike
+clock-first : (which : ClockFile) → slice_index (clock_place which) 0 ≡ 103
+clock-first clock.BugsCreate = refl
+clock-first clock.BugsEdit = refl
+
+-- a ref and a clock
+pub ref-not_clock : (folder : List ℕ) (of : Side) (id : Id) (which : ClockFile) → joined folder (ref_place of id) ≢ joined folder (clock_place which)
+ref-not_clock folder side.Bugs id which = apart folder (ref_place side.Bugs id) (clock_place which) 0 (λ e. omega (arith, e ∙ clock-first which))
+ref-not_clock folder side.Identities id which = apart folder (ref_place side.Identities id) (clock_place which) 0 (λ e. omega (arith, e ∙ clock-first which))
+ref-not_clock folder (side.RemoteBugs remote) id which = apart folder (ref_place (side.RemoteBugs remote) id) (clock_place which) 0 (λ e. omega (arith, e ∙ clock-first which))
+ref-not_clock folder (side.RemoteIdentities remote) id which = apart folder (ref_place (side.RemoteIdentities remote) id) (clock_place which) 0 (λ e. omega (arith, e ∙ clock-first which))
+
+-- two clocks
+pub clock-other : (folder : List ℕ) (one two : ClockFile) → one ≢ two → joined folder (clock_place one) ≢ joined folder (clock_place two)
+clock-other folder clock.BugsCreate clock.BugsCreate differ = absurd (differ refl)
+clock-other folder clock.BugsCreate clock.BugsEdit differ = apart folder (clock_place clock.BugsCreate) (clock_place clock.BugsEdit) 20 (λ e. omega arith)
+clock-other folder clock.BugsEdit clock.BugsCreate differ = apart folder (clock_place clock.BugsEdit) (clock_place clock.BugsCreate) 20 (λ e. omega arith)
+clock-other folder clock.BugsEdit clock.BugsEdit differ = absurd (differ refl)
 
 -- the refs of one side stand at one place only for one id
 pub ref_place-same : (of : Side) (one two : Id) → IsId one → IsId two → ref_place of one ≡ ref_place of two → one ≡ two

@@ -1,8 +1,8 @@
 -- What a user file names, and that it is no object.
-use Rattle.std.proofs.Common.{◌≡◌, ℕ, ◌+◌, ◌*◌, ◌<◌, ◌==◌, Bool, true, false, List, ◌++◌, length, take, drop, Option, Some, None, IsTrue, refl, sym, ◌∙◌, ap, subst, append_assoc, arith, length-append, eqb-true}
+use Rattle.std.proofs.Common.{◌≡◌, ℕ, ◌+◌, ◌-◌, ◌*◌, ◌<◌, ◌==◌, Bool, true, false, List, [], ◌∷◌, ◌++◌, length, take, drop, Option, Some, None, IsTrue, refl, sym, ◌∙◌, ap, subst, append_assoc, arith, length-append, length-drop, eqb-true}
 use Rattle.std.specs.Prelude.{codes}
 use Rattle.std.proofs.Math.Seq.{drop-append_seam}
-use Rattle.std.proofs.lemmas.List.{take-append-drop, length-take-le}
+use Rattle.std.proofs.lemmas.List.{take-append-drop}
 use Rattle.std.proofs.lemmas.List.Folds.{list_all-append}
 use Rattle.std.proofs.lemmas.Grind.{common_steps}
 use Rattle.std.specs.List.{list_all}
@@ -38,33 +38,38 @@ long_is_bad files folder text long = each (id_of (line_of text)) refl
 
 -- ---- a user file is no object
 
--- a path that ends in a letter beyond `f` is none of an object
-user_ending_is_none : (path front : List ℕ) → path ≡ front ++ codes "r" → (b : Bool) → is_object_path path ≡ b → is_object_path path ≡ false
-user_ending_is_none path front is false e = e
-user_ending_is_none path front is true e =
+-- a path with a byte that is no digit among its last thirty-eight is none of an object
+pub ending_is_none : (path front tail : List ℕ) (c : ℕ) → path ≡ front ++ c ∷ tail → is_hex_digit c ≡ false → length tail < 38 → (b : Bool) → is_object_path path ≡ b → is_object_path path ≡ false
+ending_is_none path front tail c is other short false e = e
+ending_is_none path front tail c is other short true e =
     let form = form_of_parts path e in
     let rest = both (length form.rest == 38) (list_all is_hex_digit form.rest) form.rest_digits in
     let size : length form.rest ≡ 38 = eqb-true _ _ rest.0 in
     let before = form.front ++ codes "objects/" ++ form.fan ++ codes "/" in
-    let above = before ++ take 37 form.rest in
-    let cut : form.rest ≡ take 37 form.rest ++ drop 37 form.rest = sym (take-append-drop 37 form.rest) in
-    let one : path ≡ above ++ drop 37 form.rest =
+    let k = 37 - length tail in
+    let above = before ++ take k form.rest in
+    let cut : form.rest ≡ take k form.rest ++ drop k form.rest = sym (take-append-drop k form.rest) in
+    let one : path ≡ above ++ drop k form.rest =
     form.is ∙ ap (λ (t : List ℕ). form.front ++ codes "objects/" ++ form.fan ++ codes "/" ++ t) cut ∙ simp append_assoc in
-    let first : length path ≡ length above + length (drop 37 form.rest) = ap length one ∙ length-append above (drop 37 form.rest) in
-    let last : length (drop 37 form.rest) ≡ 1 = omega (arith, ap length cut, length-append (take 37 form.rest) (drop 37 form.rest), length-take-le 37 form.rest (omega arith)) in
-    let second : length path ≡ length front + 1 = ap length is ∙ length-append front (codes "r") in
+    let first : length path ≡ length above + length (drop k form.rest) = ap length one ∙ length-append above (drop k form.rest) in
+    let last : length (drop k form.rest) ≡ length tail + 1 = omega (arith, length-drop k form.rest) in
+    let second : length path ≡ length front + (length tail + 1) = ap length is ∙ omega (arith, length-append front (c ∷ tail)) in
     let same : length above ≡ length front = omega arith in
-    let here : drop (length above) path ≡ drop 37 form.rest = ap (drop (length above)) one ∙ drop-append_seam above (drop 37 form.rest) in
-    let there : drop (length above) path ≡ codes "r" = ap (λ (k : ℕ). drop k path) same ∙ ap (drop (length front)) is ∙ drop-append_seam front (codes "r") in
-    let digits : list_all is_hex_digit (drop 37 form.rest) ≡ true =
-    (both (list_all is_hex_digit (take 37 form.rest)) (list_all is_hex_digit (drop 37 form.rest)) (sym (list_all-append is_hex_digit (take 37 form.rest) (drop 37 form.rest)) ∙ ap (list_all is_hex_digit) (sym cut) ∙ rest.1)).1 in
-    let letter : false ≡ true = ap (list_all is_hex_digit) (sym there ∙ here) ∙ digits in
-    absurd (cc letter)
+    let here : drop (length above) path ≡ drop k form.rest = ap (drop (length above)) one ∙ drop-append_seam above (drop k form.rest) in
+    let there : drop (length above) path ≡ c ∷ tail = ap (λ (n : ℕ). drop n path) same ∙ ap (drop (length front)) is ∙ drop-append_seam front (c ∷ tail) in
+    let digits : list_all is_hex_digit (drop k form.rest) ≡ true =
+    (both (list_all is_hex_digit (take k form.rest)) (list_all is_hex_digit (drop k form.rest)) (sym (list_all-append is_hex_digit (take k form.rest) (drop k form.rest)) ∙ ap (list_all is_hex_digit) (sym cut) ∙ rest.1)).1 in
+    let letter : is_hex_digit c ≡ true = (both (is_hex_digit c) (list_all is_hex_digit tail) (ap (list_all is_hex_digit) (sym there ∙ here) ∙ digits)).0 in
+    absurd (cc (sym other ∙ letter))
+
+-- nor is one of such a place below a folder
+pub place_is_no_object : (folder front tail : List ℕ) (c : ℕ) → is_hex_digit c ≡ false → length tail < 38 → is_object_path (joined folder (front ++ c ∷ tail)) ≡ false
+place_is_no_object folder front tail c other short =
+    let path : joined folder (front ++ c ∷ tail) ≡ (folder ++ joint folder ++ front) ++ c ∷ tail = simp append_assoc in
+    ending_is_none (joined folder (front ++ c ∷ tail)) (folder ++ joint folder ++ front) tail c path other short (is_object_path (joined folder (front ++ c ∷ tail))) refl
 
 user_place_is_no_object : (folder : List ℕ) → is_object_path (joined folder user_place) ≡ false
-user_place_is_no_object folder =
-    let path : joined folder user_place ≡ (folder ++ joint folder ++ codes "git-bug/use") ++ codes "r" = simp append_assoc in
-    user_ending_is_none (joined folder user_place) (folder ++ joint folder ++ codes "git-bug/use") path (is_object_path (joined folder user_place)) refl
+user_place_is_no_object folder = place_is_no_object folder (codes "git-bug/use") [] 114 refl (omega arith)
 
 -- a read of the user file reads no object
 pub reads_none : (folder path : List ℕ) (old new : ℕ) → path ≡ joined folder user_place → new ≡ reads_after path old → new ≡ old

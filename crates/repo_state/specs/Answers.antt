@@ -1,13 +1,13 @@
 -- The answers to reads and writes of a folder's state, each with what is so of the files. Want of memory and
 -- faults of the disk have no cause here.
-use Rattle.std.specs.Prelude.{◌≡◌, ◌≤◌, ◌+◌, ◌*◌, ◌⊎◌, ⊤, ℕ, List, ◌∷◌, length, map, Contains, Vec, Option, Some, None, Result, Ok, Err}
+use Rattle.std.specs.Prelude.{◌≡◌, ◌≤◌, ◌+◌, ◌*◌, ◌⊎◌, ⊤, ℕ, List, ◌∷◌, ◌++◌, reverse, length, map, Contains, Vec, Option, Some, None, Result, Ok, Err}
 use Rattle.std.specs.declared.alloc.Global.{Global}
 use Rattle.gb_text.specs.Digits.{IsId}
 use Rattle.gb_text.specs.Folder.{joined}
 use Rattle.gb_text.specs.declared.id.Id.{Id}
 use Rattle.gb_text.specs.declared.id.Name.{Name}
-use Rattle.gb_store.specs.Files.{Files, History}
-use Rattle.gb_store.specs.Moments.{MaybeWrote}
+use Rattle.gb_store.specs.Files.{Files, History, files_of}
+use Rattle.gb_store.specs.Moments.{MaybeWrote, WroteSome}
 use Rattle.gb_store.specs.declared.store.Change.{Change}
 use Rattle.object_store.specs.Held.{objects_in}
 use Rattle.ref_store.specs.Refs.{Ref, Absent, Head, Bad}
@@ -17,9 +17,11 @@ use Rattle.identity.specs.Commits.{HasNoVersion}
 use Rattle.identity.specs.Persons.{Shows}
 use Rattle.identity.specs.declared.chain.Person.{Person}
 use Rattle.identity.specs.declared.fault.IdentityFault.{IdentityFault}
+use Rattle.repo_state.specs.Clocks.{clock_at, see_writes}
 use Rattle.repo_state.specs.Sides.{AreHeads, found_by, head_at, ref_place}
 use Rattle.repo_state.specs.Users.{UserFound, NoUser, User, BadUser, user_at, user_place, user_write}
 use Rattle.repo_state.specs.People.{AllShow}
+use Rattle.repo_state.specs.declared.clocks.ClockFile.{ClockFile}
 use Rattle.repo_state.specs.declared.refusal.Refusal.TheVariants as refusal
 use Rattle.repo_state.specs.declared.refusal.Stop.{Stop}
 use Rattle.repo_state.specs.declared.refusal.Stop.TheVariants as stop
@@ -107,6 +109,13 @@ PutAnswers change old new (Ok done) = new ≡ change ∷ old
 PutAnswers change old new (Err stop.Memory) = new ≡ old
 PutAnswers change old new (Err stop.Disk) = MaybeWrote change old new
 PutAnswers change old new (Err (stop.Refused r)) = ⊥
+
+-- the answer to a clock that sees a number: its write was made where the clock changes, or was not
+abbrev pub SeeAnswers : List ℕ → ClockFile → ℕ → History → History → Result Unit Stop → Type 0
+SeeAnswers folder which number old new (Ok done) = new ≡ reverse (see_writes folder which (clock_at (files_of old) folder which) number) ++ old
+SeeAnswers folder which number old new (Err stop.Memory) = WroteSome (see_writes folder which (clock_at (files_of old) folder which) number) old new
+SeeAnswers folder which number old new (Err stop.Disk) = WroteSome (see_writes folder which (clock_at (files_of old) folder which) number) old new
+SeeAnswers folder which number old new (Err (stop.Refused r)) = ⊥
 
 -- a write of the user file, of this identity
 abbrev pub PutsUser : List ℕ → Id → Files → Change → Type 0

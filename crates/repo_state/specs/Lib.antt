@@ -1,4 +1,6 @@
 pub mod Answers
+pub mod Bugs
+pub mod Clocks
 pub mod People
 pub mod Sides
 pub mod Sound

@@ -1,5 +1,5 @@
 -- Sound folders: the parts of soundness, by name, and what keeps them.
-use Rattle.std.specs.Prelude.{◌≡◌, ◌≤◌, ⊤, ℕ, ◌==◌, ◌||◌, List, length, IsTrue, Some}
+use Rattle.std.specs.Prelude.{◌≡◌, ◌≢◌, ◌≤◌, ⊤, ℕ, ◌==◌, ◌||◌, List, [], ◌∷◌, length, IsTrue, Some}
 use Rattle.std.specs.List.{list_all}
 use Rattle.std.specs.Char.{is_ascii_alphanumeric}
 use Rattle.gb_text.specs.Digits.{IsId, IsName}
@@ -13,7 +13,15 @@ use Rattle.object_store.specs.Held.{Objects as Held, object_at, objects_in}
 use Rattle.object_batch.specs.Needs.{AllHeld}
 use Rattle.object_store.specs.Typed.{commit_at}
 use Rattle.ref_store.specs.Refs.{Ref, Absent, Head, Bad}
+use Rattle.bug_ops.specs.Kind.{bug_kind}
+use Rattle.bug_ops.specs.declared.op.BugOp.{BugOp}
+use Rattle.dag_entity.specs.Faults.{EntityFaultHolds}
+use Rattle.dag_entity.specs.Nodes.{IsNodeBelow}
+use Rattle.dag_entity.specs.declared.entity.Loaded.{Loaded}
+use Rattle.dag_entity.specs.declared.fault.EntityFault.{EntityFault}
+use Rattle.dag_entity.specs.declared.fault.EntityFault.TheVariants.{AuthorUnknown}
 use Rattle.identity.specs.Persons.{IsChain}
+use Rattle.repo_state.specs.Bugs.{IsLocal}
 use Rattle.repo_state.specs.Sides.{head_at}
 use Rattle.repo_state.specs.Users.{BadUser, user_at}
 use Rattle.repo_state.specs.declared.side.Side.{Side}
@@ -36,6 +44,26 @@ abbrev pub IsSoundTracking : Held → Ref → Type 0
 IsSoundTracking objects Absent = ⊤
 IsSoundTracking objects (Head head) = (commit : Commit) × (commit_at objects head ≡ Some commit)
 IsSoundTracking objects Bad = ⊥
+
+-- nothing is wrong with the entity of a bug at this head, but perhaps that an author is unknown
+abbrev pub HasNoFault : Held → Id → Name → Type 0
+HasNoFault objects id head = (f : EntityFault) → ((author : Id) → f ≢ AuthorUnknown author) → EntityFaultHolds bug_kind objects id (head ∷ []) [] f → ⊥
+
+-- the author of each pack below a bug's head is a local identity
+abbrev pub AreAuthorsLocal : List ℕ → Files → Name → Type 0
+AreAuthorsLocal folder files head = (node : Loaded BugOp) → IsNodeBelow bug_kind (objects_in files folder) (head ∷ []) node → IsLocal files folder node.placed.pack.author
+
+-- a bug's ref: one that stands reads, and nothing is wrong with the entity at its head, but perhaps that an author is unknown
+abbrev pub IsSoundBug : Held → Id → Ref → Type 0
+IsSoundBug objects id Absent = ⊤
+IsSoundBug objects id (Head head) = HasNoFault objects id head
+IsSoundBug objects id Bad = ⊥
+
+-- and its authors are local identities
+abbrev pub IsAuthoredBug : List ℕ → Files → Id → Ref → Type 0
+IsAuthoredBug folder files id Absent = ⊤
+IsAuthoredBug folder files id (Head head) = HasNoFault (objects_in files folder) id head × AreAuthorsLocal folder files head
+IsAuthoredBug folder files id Bad = ⊥
 
 -- the name of a remote: 1 to 64 letters, digits, `_` or `-` of ASCII
 pub record IsRemoteName (remote : List ℕ) : Type 0 where
@@ -60,6 +88,14 @@ HasWholeObjects folder files = AreWhole (objects_in files folder)
 abbrev pub HasSoundIdentities : List ℕ → Files → Type 0
 HasSoundIdentities folder files = (id : Id) → IsId id → IsSoundIdentity (objects_in files folder) id (head_at files folder side.Identities id)
 
+-- each local bug's ref reads, and nothing is wrong with the entity at its head, but perhaps that an author is unknown
+abbrev pub HasSoundBugs : List ℕ → Files → Type 0
+HasSoundBugs folder files = (id : Id) → IsId id → IsSoundBug (objects_in files folder) id (head_at files folder side.Bugs id)
+
+-- and the authors of each are local identities
+abbrev pub HasKnownAuthors : List ℕ → Files → Type 0
+HasKnownAuthors folder files = (id : Id) → IsId id → IsAuthoredBug folder files id (head_at files folder side.Bugs id)
+
 -- each tracking ref reads, and names a held commit
 abbrev pub HasSoundTracking : List ℕ → Files → Type 0
 HasSoundTracking folder files = (remote : List ℕ) → IsRemoteName remote → (id : Id) → IsId id
@@ -74,6 +110,8 @@ HasSoundUser folder files = user_at files folder ≡ BadUser → ⊥
 pub data Part : Type 0 where
   Objects : Part
   Identities : Part
+  Bugs : Part
+  Authors : Part
   Tracking : Part
   User : Part
 
@@ -81,6 +119,8 @@ pub data Part : Type 0 where
 abbrev pub HasPart : Part → List ℕ → Files → Type 0
 HasPart Objects folder files = HasWholeObjects folder files
 HasPart Identities folder files = HasSoundIdentities folder files
+HasPart Bugs folder files = HasSoundBugs folder files
+HasPart Authors folder files = HasKnownAuthors folder files
 HasPart Tracking folder files = HasSoundTracking folder files
 HasPart User folder files = HasSoundUser folder files
 

@@ -1,14 +1,17 @@
 //! Laws of a folder's state, each the contract of a function that does nothing.
-ghost use Rattle.std.specs.Prelude.{◌≡◌, ◌≢◌, ◌↔◌, [], List, ℕ, IsTrue, map};
+ghost use Rattle.std.specs.Prelude.{◌≡◌, ◌≢◌, ◌↔◌, ◌≤◌, [], List, ℕ, IsTrue, map};
 ghost use Rattle.gb_text.specs.Digits.{IsId, IsName};
 ghost use Rattle.gb_text.specs.declared.id.Id.{Id};
 ghost use Rattle.gb_text.specs.declared.id.Name.{Name};
 ghost use Rattle.gb_store.specs.Files.{Files, files_of, written};
 ghost use Rattle.ref_store.specs.Refs.{Head};
 ghost use Rattle.ref_store.specs.Setting.{ref_write};
+ghost use Rattle.lamport.specs.declared.clock.TheConstants.{CAP};
+ghost use Rattle.repo_state.specs.Clocks.{clock_at, clock_write};
 ghost use Rattle.repo_state.specs.Sides.{AllRead, AreHeads, AreIds, has_ref, head_at, ref_place};
 ghost use Rattle.repo_state.specs.Sound.{IsNamedSide, IsSound};
 ghost use Rattle.repo_state.specs.Users.{User, user_at, user_write};
+ghost use Rattle.repo_state.specs.declared.clocks.ClockFile.{ClockFile};
 ghost use Rattle.repo_state.specs.declared.side.HeadEntry.{HeadEntry};
 ghost use Rattle.repo_state.specs.declared.side.Side.{Side as SideValue};
 ghost use Rattle.repo_state.specs.declared.side.Side.TheVariants as side;
@@ -29,8 +32,10 @@ pub fn ids_are_those_of_the_heads()
         → ((heads : List HeadEntry) × AreHeads files folder of heads) ↔ AllRead files folder of }
 {}
 
-/// A head that was set reads as it was set, and every other head and the user as before. The user
-/// that was set reads as it was set where its ref stands, and every head as before.
+/// A head that was set reads as it was set, and every other head, the user and the clocks as before.
+/// The user that was set reads as it was set where its ref stands, and every head and the clocks as
+/// before. A clock that was set to at most 2^62 reads as it was set, and every head, the user and the
+/// other clock as before.
 pub fn heads_and_user_are_a_map()
     ensures same { (files : Files) (folder : List ℕ) (of : SideValue) (id : Id) (head : Name)
         → IsName head
@@ -53,4 +58,22 @@ pub fn heads_and_user_are_a_map()
     ensures heads { (files : Files) (folder : List ℕ) (of : SideValue) (id user : Id)
         → head_at (written files (user_write folder user)) folder of id
         ≡ head_at files folder of id }
+    ensures set_clock { (files : Files) (folder : List ℕ) (which : ClockFile) (n : ℕ) → n ≤ CAP
+        → clock_at (written files (clock_write folder which n)) folder which ≡ n }
+    ensures other_clock { (files : Files) (folder : List ℕ) (which other : ClockFile) (n : ℕ)
+        → which ≢ other → clock_at (written files (clock_write folder which n)) folder other
+        ≡ clock_at files folder other }
+    ensures heads_by_clock { (files : Files) (folder : List ℕ) (of : SideValue) (id : Id)
+        (which : ClockFile) (n : ℕ)
+        → head_at (written files (clock_write folder which n)) folder of id
+        ≡ head_at files folder of id }
+    ensures user_by_clock { (files : Files) (folder : List ℕ) (which : ClockFile) (n : ℕ)
+        → user_at (written files (clock_write folder which n)) folder ≡ user_at files folder }
+    ensures clocks_by_head { (files : Files) (folder : List ℕ) (of : SideValue) (id : Id)
+        (head : Name) (which : ClockFile)
+        → clock_at (written files (ref_write folder (ref_place of id) head)) folder which
+        ≡ clock_at files folder which }
+    ensures clocks_by_user { (files : Files) (folder : List ℕ) (user : Id) (which : ClockFile)
+        → clock_at (written files (user_write folder user)) folder which
+        ≡ clock_at files folder which }
 {}

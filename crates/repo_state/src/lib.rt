@@ -1,6 +1,8 @@
 //! A folder as maps of heads, people and the user, and what a sound folder is.
 #![tactic(auto)]
 
+mod bugs;
+mod clocks;
 mod env;
 mod laws;
 mod people;
@@ -9,6 +11,8 @@ mod refusal;
 mod side;
 mod user_file;
 
+pub use bugs::{bug_at, read_bug};
+pub use clocks::{ClockFile, clock, clock_changes, see};
 pub use env::Env;
 pub use laws::{an_empty_folder_is_sound, heads_and_user_are_a_map, ids_are_those_of_the_heads};
 pub use people::names;

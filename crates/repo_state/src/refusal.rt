@@ -14,6 +14,10 @@ pub enum Refusal {
     NotFound,
     /// 4: the argument at this place, counted from 1, breaks its rule.
     BadText(u64),
+    /// 7: the edit clock of the bug's head, of this name, is 2^63 - 1, so that no later one is left.
+    ClockFull(Name),
+    /// 8: the bug has the operation of this id already.
+    RepeatedOperation(Id),
     /// 9: an entity of this id stands already.
     EntityExists(Id),
     /// 10: another text stands under this name of an object that was to be written, or two of them
@@ -42,6 +46,8 @@ impl Refusal {
             Refusal::NoUser => 1,
             Refusal::NotFound => 2,
             Refusal::BadText(_) => 4,
+            Refusal::ClockFull(_) => 7,
+            Refusal::RepeatedOperation(_) => 8,
             Refusal::EntityExists(_) => 9,
             Refusal::NameTaken(_) => 10,
             Refusal::TooLarge(_) => 13,

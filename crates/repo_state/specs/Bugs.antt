@@ -1,0 +1,105 @@
+-- The bugs of a folder: the entity at a bug's head, what is wrong with one, and what a read of it answers.
+use Rattle.std.specs.Prelude.{◌≡◌, ◌⊎◌, ⊤, ℕ, List, [], ◌∷◌, Contains, IsTrue, Some, Result, Ok, Err}
+use Rattle.gb_text.specs.Digits.{IsId}
+use Rattle.gb_text.specs.Folder.{joined}
+use Rattle.gb_text.specs.declared.id.Id.{Id}
+use Rattle.gb_text.specs.declared.id.Name.{Name}
+use Rattle.gb_store.specs.Files.{Files}
+use Rattle.object_store.specs.Held.{objects_in}
+use Rattle.ref_store.specs.Refs.{Absent, Head, Bad}
+use Rattle.bug_ops.specs.Kind.{bug_kind}
+use Rattle.bug_ops.specs.declared.op.BugOp.{BugOp}
+use Rattle.dag_entity.specs.Entities.{IsEntity, ReadsEach}
+use Rattle.dag_entity.specs.Faults.{EntityFaultHolds}
+use Rattle.dag_entity.specs.declared.entity.Entity.{Entity}
+use Rattle.dag_entity.specs.declared.fault.EntityFault.{EntityFault}
+use Rattle.dag_entity.specs.declared.fault.EntityFault.TheVariants as fault
+use Rattle.repo_state.specs.Answers.{DamagedRef}
+use Rattle.repo_state.specs.Sides.{AreIds, found_by, has_ref, head_at, ref_place}
+use Rattle.repo_state.specs.declared.refusal.Refusal.TheVariants as refusal
+use Rattle.repo_state.specs.declared.refusal.Stop.{Stop}
+use Rattle.repo_state.specs.declared.refusal.Stop.TheVariants as stop
+use Rattle.repo_state.specs.declared.side.HeadEntry.{HeadEntry}
+use Rattle.repo_state.specs.declared.side.Side.TheVariants as side
+
+-- ---- local identities, who are the authors of a folder's bugs
+
+-- a local identity: a ref of its id stands
+pub record IsLocal (files : Files) (folder : List ℕ) (id : Id) : Type 0 where
+  pub is_id : IsId id
+  pub stands : IsTrue (has_ref files folder side.Identities id)
+
+-- the ids of the local identities
+abbrev pub AreLocal : Files → List ℕ → List Id → Type 0
+AreLocal files folder authors = AreIds files folder side.Identities authors
+
+-- ---- the entity of a bug
+
+-- each id is that of a local identity
+abbrev pub EachIsLocal : Files → List ℕ → List Id → Type 0
+EachIsLocal files folder ids = (id : Id) → Contains ids id → IsLocal files folder id
+
+-- the entity of a bug at its head, whose authors are local identities, and with which nothing is wrong
+pub record IsBug (files : Files) (folder : List ℕ) (bug : HeadEntry) (entity : Entity BugOp) : Type 0 where
+  pub authors : List Id
+  pub locals : EachIsLocal files folder authors
+  pub is : IsEntity bug_kind (objects_in files folder) bug.id (bug.name ∷ []) authors entity
+
+-- something is wrong with the entity at a bug's head, where its authors are to be local identities
+pub record HasBugFault (files : Files) (folder : List ℕ) (bug : HeadEntry) : Type 0 where
+  pub authors : List Id
+  pub locals : AreLocal files folder authors
+  pub fault : EntityFault
+  pub holds : EntityFaultHolds bug_kind (objects_in files folder) bug.id (bug.name ∷ []) authors fault
+
+-- the bug that a word finds, whose ref reads
+pub record FindsBug (files : Files) (folder word : List ℕ) (bug : HeadEntry) : Type 0 where
+  pub found : found_by files folder side.Bugs word ≡ Some bug.id
+  pub head : head_at files folder side.Bugs bug.id ≡ Head bug.name
+
+-- why a bug is damaged: its ref is no ref text, or something is wrong with the entity at its head
+abbrev pub IsDamagedBug : Files → List ℕ → Id → Type 0
+IsDamagedBug files folder id =
+    (head_at files folder side.Bugs id ≡ Bad)
+    ⊎ ((head : Name) × (head_at files folder side.Bugs id ≡ Head head) × HasBugFault files folder (record { id = id; name = head }))
+
+-- ---- the answers
+
+-- why there is no entity of this bug
+abbrev pub BugRefused : Files → List ℕ → HeadEntry → Stop → Type 0
+BugRefused files folder bug stop.Memory = ⊤
+BugRefused files folder bug stop.Disk = ⊤
+BugRefused files folder bug (stop.Refused (refusal.Damaged path)) = (path ≡ joined folder (ref_place side.Bugs bug.id)) × HasBugFault files folder bug
+BugRefused files folder bug (stop.Refused _) = ⊥
+
+-- the entity of this bug, or why there is none
+abbrev pub BugAnswers : Files → List ℕ → HeadEntry → Result (Entity BugOp) Stop → Type 0
+BugAnswers files folder bug (Ok entity) = IsBug files folder bug entity
+BugAnswers files folder bug (Err s) = BugRefused files folder bug s
+
+-- the entity of the bug with this id at its head, or why there is none
+abbrev pub ReadsBug : Files → List ℕ → Id → Result (Entity BugOp) Stop → Type 0
+ReadsBug files folder id (Ok entity) = (head : Name) × (head_at files folder side.Bugs id ≡ Head head) × IsBug files folder (record { id = id; name = head }) entity
+ReadsBug files folder id (Err stop.Memory) = ⊤
+ReadsBug files folder id (Err stop.Disk) = ⊤
+ReadsBug files folder id (Err (stop.Refused refusal.NotFound)) = head_at files folder side.Bugs id ≡ Absent
+ReadsBug files folder id (Err (stop.Refused (refusal.Damaged path))) = (path ≡ joined folder (ref_place side.Bugs id)) × IsDamagedBug files folder id
+ReadsBug files folder id (Err (stop.Refused _)) = ⊥
+
+-- what a fault of this bug's entity is to a command: damage of its ref, but for want of memory and faults of the disk
+abbrev pub StopOf : List ℕ → Id → EntityFault → Stop → Type 0
+StopOf folder id fault.Memory s = s ≡ stop.Memory
+StopOf folder id fault.Disk s = s ≡ stop.Disk
+StopOf folder id _ s = DamagedRef folder side.Bugs id s
+
+-- ---- the reads
+
+-- at most three objects were read for each of some commits below the head of this bug
+abbrev pub ReadsBelow : Files → List ℕ → HeadEntry → ℕ → ℕ → Type 0
+ReadsBelow files folder bug before after = ReadsEach (objects_in files folder) (bug.name ∷ []) 3 before after
+
+-- no object was read, or so many below the head of the bug with this id
+abbrev pub ReadsAtHead : Files → List ℕ → Id → ℕ → ℕ → Type 0
+ReadsAtHead files folder id before after =
+    (after ≡ before)
+    ⊎ ((head : Name) × (head_at files folder side.Bugs id ≡ Head head) × ReadsBelow files folder (record { id = id; name = head }) before after)

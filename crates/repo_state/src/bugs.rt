@@ -1,0 +1,86 @@
+//! The bugs of a folder.
+ghost use Rattle.std.specs.Prelude.{◌≡◌, ◌≤◌, ◌+◌, ◌*◌, length, IsTrue, IsErrOf, IfOk};
+ghost use Rattle.commit_walk.specs.declared.below.TheConstants.{MOST_COMMITS};
+ghost use Rattle.bug_ops.specs.Kind.{bug_kind};
+ghost use Rattle.dag_entity.specs.Entities.{KeepsRules};
+ghost use Rattle.gb_store.specs.Faults.{KeepsFaults};
+ghost use Rattle.gb_store.specs.Files.{files_of};
+ghost use Rattle.repo_state.specs.Answers.{OnlyDamaged, OnlyMissed};
+ghost use Rattle.repo_state.specs.Bugs.{BugAnswers, ReadsAtHead, ReadsBelow, ReadsBug, StopOf};
+
+use crate::refs::{damaged, head, ids};
+use crate::refusal::{Refusal, Stop};
+use crate::side::{HeadEntry, Side};
+use bug_ops::BugOp;
+use dag_entity::{Entity, EntityFault, read_entity};
+use gb_store::Store;
+use gb_text::{Folder, Id};
+use std::alloc::Global;
+
+/// The entity of the bug with this id, at its head. Its authors are to be local identities.
+/// `NotFound` exactly where no ref of the id stands; `Damaged`, with the path of the ref, exactly
+/// where that is no ref text, or something is wrong with the entity.
+pub fn read_bug<S: Store>(
+    alloc: Global,
+    disk: &mut S,
+    folder: &Folder,
+    id: &Id,
+) -> Result<Entity<BugOp>, Stop>
+    ensures answers { IsTrue S.tells
+        → ReadsBug (files_of (S.history disk.old)) folder.now id.now result }
+    ensures only_missed { OnlyMissed result }
+    ensures rules { IfOk result (λ entity. KeepsRules bug_kind entity.packs) }
+    ensures unwritten { IsTrue S.tells → S.history disk.new ≡ S.history disk.old }
+    ensures reads { IsTrue S.tells → ReadsAtHead (files_of (S.history disk.old)) folder.now id.now
+        (S.object_reads disk.old) (S.object_reads disk.new) }
+    ensures once { IfOk result (λ entity. S.object_reads disk.new
+        ≤ S.object_reads disk.old + 3 * length entity.packs) }
+    ensures most { S.object_reads disk.new ≤ S.object_reads disk.old + 3 * (MOST_COMMITS + 1) }
+    ensures caused { KeepsFaults S.never_fails S.faults (IsErrOf result Stop.Disk)
+        disk.old disk.new }
+{
+    let Some(name) = head(alloc, disk, folder, &Side::Bugs, id)? else {
+        return Err(Stop::Refused(Refusal::NotFound));
+    };
+    bug_at(alloc, disk, folder, &HeadEntry { id: *id, name })
+}
+
+/// The entity of a bug at this head. Its authors are to be local identities. `Damaged`, with the path
+/// of the bug's ref, exactly where something is wrong with it.
+pub fn bug_at<S: Store>(
+    alloc: Global,
+    disk: &mut S,
+    folder: &Folder,
+    bug: &HeadEntry,
+) -> Result<Entity<BugOp>, Stop>
+    ensures answers { IsTrue S.tells
+        → BugAnswers (files_of (S.history disk.old)) folder.now bug.now result }
+    ensures only_damaged { OnlyDamaged result }
+    ensures rules { IfOk result (λ entity. KeepsRules bug_kind entity.packs) }
+    ensures unwritten { IsTrue S.tells → S.history disk.new ≡ S.history disk.old }
+    ensures reads { IsTrue S.tells → ReadsBelow (files_of (S.history disk.old)) folder.now bug.now
+        (S.object_reads disk.old) (S.object_reads disk.new) }
+    ensures once { IfOk result (λ entity. S.object_reads disk.new
+        ≤ S.object_reads disk.old + 3 * length entity.packs) }
+    ensures most { S.object_reads disk.new ≤ S.object_reads disk.old + 3 * (MOST_COMMITS + 1) }
+    ensures caused { KeepsFaults S.never_fails S.faults (IsErrOf result Stop.Disk)
+        disk.old disk.new }
+{
+    let authors = ids(alloc, disk, folder, &Side::Identities)?;
+    let heads = [bug.name];
+    match read_entity::<BugOp, S>(alloc, disk, folder, &bug.id, &heads, authors.as_slice()) {
+        Ok(entity) => Ok(entity),
+        Err(fault) => Err(stop_of(alloc, folder, bug, fault)),
+    }
+}
+
+// What a fault of this bug's entity is to a command.
+fn stop_of(alloc: Global, folder: &Folder, bug: &HeadEntry, fault: EntityFault) -> Stop
+    ensures { StopOf folder.now bug.now.id fault result }
+{
+    match fault {
+        EntityFault::Memory => Stop::Memory,
+        EntityFault::Disk => Stop::Disk,
+        _ => damaged(alloc, folder, &Side::Bugs, &bug.id),
+    }
+}
