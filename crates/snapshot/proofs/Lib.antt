@@ -1,0 +1,6 @@
+pub mod FoundLemmas
+pub mod PersonLemmas
+pub mod LabelLemmas
+pub mod CommentLemmas
+pub mod MetadataLemmas
+pub mod StepLemmas

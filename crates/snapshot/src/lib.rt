@@ -1,0 +1,15 @@
+//! What a bug is, said by the last mention of each thing, and that folding its operations gives it.
+#![tactic(auto)]
+
+mod bug;
+mod copies;
+mod laws;
+#[cfg(test)]
+mod tests;
+
+pub use bug::{compile, excerpt_of};
+pub use laws::{
+    a_no_op_changes_who_acted_and_when, comments_are_counted, labels_are_those_that_are_on,
+    metadata_have_the_first_value_of_each_key, one_more_operation_is_one_step,
+    operations_that_keep_the_rules_are_a_bug, persons_stand_once, snapshots_are_those_of_the_fold,
+};
