@@ -1,0 +1,2 @@
+pub mod CombinedLemmas
+mod Examples
