@@ -1,0 +1,73 @@
+//! Lines, and how persons are named in them.
+ghost use Rattle.std.specs.Prelude.{◌≡◌, ◌++◌, OnOk, codes, decimal, string_bytes};
+ghost use Rattle.render.specs.Lines.{name_among, short_of, told_line};
+ghost use Rattle.render.specs.Show.{moment_line, person_line};
+
+use gb_text::{Id, push_ascii, push_line_end, push_number};
+use identity::Person;
+use std::alloc::AllocError;
+
+/// Adds a line of a word and a text.
+pub(crate) fn push_told(text: &mut String, word: &str, told: &str) -> Result<(), AllocError>
+    ensures { OnOk result
+        (string_bytes text.new ≡ string_bytes text.old ++ told_line word.now told.now) }
+{
+    text.push_str(word)?;
+    text.push_str(" ")?;
+    text.push_str(told)?;
+    push_line_end(text)
+}
+
+/// Adds a line that names a person.
+pub(crate) fn push_person(
+    text: &mut String,
+    names: &[Person],
+    word: &str,
+    id: &Id,
+) -> Result<(), AllocError>
+    ensures { OnOk result
+        (string_bytes text.new ≡ string_bytes text.old ++ person_line names.now word.now id.now) }
+{
+    text.push_str(word)?;
+    text.push_str(" ")?;
+    push_named(text, names, id)?;
+    push_line_end(text)
+}
+
+/// Adds a line of a clock and a time.
+pub(crate) fn push_moment(
+    text: &mut String,
+    word: &str,
+    clock: u64,
+    time: u64,
+) -> Result<(), AllocError>
+    ensures { OnOk result
+        (string_bytes text.new ≡ string_bytes text.old ++ moment_line word.now clock time) }
+{
+    text.push_str(word)?;
+    text.push_str(" ")?;
+    push_number(text, clock)?;
+    text.push_str(" ")?;
+    push_number(text, time)?;
+    push_line_end(text)
+}
+
+/// Adds the name of the first person with this id, or the id's first digits where there is none.
+pub(crate) fn push_named(text: &mut String, names: &[Person], id: &Id) -> Result<(), AllocError>
+    ensures { OnOk result
+        (string_bytes text.new ≡ string_bytes text.old ++ name_among names.now id.now) }
+{
+    for person in names {
+        if person.id == *id {
+            return text.push_str(person.name.as_str());
+        }
+    }
+    push_short(text, id)
+}
+
+// Adds the first seven digits of an id.
+fn push_short(text: &mut String, id: &Id) -> Result<(), AllocError>
+    ensures { OnOk result (string_bytes text.new ≡ string_bytes text.old ++ short_of id.now) }
+{
+    push_ascii(text, &id.text()[..7])
+}

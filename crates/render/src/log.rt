@@ -1,0 +1,29 @@
+//! The log of a bug.
+ghost use Rattle.std.specs.Prelude.{◌≡◌, ◌++◌, IfOk, OnOk, string_bytes};
+ghost use Rattle.render.specs.Log.{log_line, log_text_of};
+
+use bug_ops::BugOp;
+use dag_entity::Placed;
+use gb_text::{Memory, Text, push_line_end, push_name, push_number};
+use std::alloc::{AllocError, Global};
+
+/// The lines of these packs: of each its edit clock and the name of its commit.
+pub fn log_text(alloc: Global, packs: &[Placed<BugOp>]) -> Result<Text, Memory>
+    ensures { IfOk result (λ text. text ≡ log_text_of packs.now) }
+{
+    let mut text = String::new(alloc);
+    for placed in packs {
+        push_line(&mut text, placed)?;
+    }
+    Ok(Text::from_string(text))
+}
+
+// Adds the line of a pack.
+fn push_line(text: &mut String, placed: &Placed<BugOp>) -> Result<(), AllocError>
+    ensures { OnOk result (string_bytes text.new ≡ string_bytes text.old ++ log_line placed.now) }
+{
+    push_number(text, placed.pack.edit)?;
+    text.push_str(" ")?;
+    push_name(text, &placed.commit)?;
+    push_line_end(text)
+}
