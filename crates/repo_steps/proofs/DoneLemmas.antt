@@ -1,5 +1,5 @@
 -- What a command that nothing keeps from being done leaves: its writes are of their kinds, and make its step.
-use Rattle.std.proofs.Common.{◌≡◌, ◌<◌, ℕ, false, true, Bool, IsTrue, cond, List, [], ◌∷◌, ◌++◌, length, reverse, Contains, Option, Some, None, option_and_then, Result, Ok, Err, inl, inr, refl, sym, ◌∙◌, ap, subst, append_assoc, arith}
+use Rattle.std.proofs.Common.{◌≡◌, ◌<◌, ◌≤◌, ◌^◌, ℕ, false, true, Bool, IsTrue, cond, List, [], ◌∷◌, ◌++◌, length, reverse, Contains, Option, Some, None, option_and_then, Result, Ok, Err, inl, inr, refl, sym, ◌∙◌, ap, subst, append_assoc, arith}
 use Rattle.std.proofs.lemmas.List.{reverse-append}
 use Rattle.std.specs.Option.{option_map}
 use Rattle.gb_text.specs.Digits.{IsId, id_of}
@@ -16,6 +16,13 @@ use Rattle.object_batch.specs.Batches.{MayBePut}
 use Rattle.object_batch.proofs.ClashLemmas.{Contains-cons_cases}
 use Rattle.ref_store.specs.Refs.{Absent, Head, ref_of}
 use Rattle.identity.specs.Extending.{IsLonger}
+use Rattle.gb_text.specs.declared.decimal.TheConstants.{LIMIT}
+use Rattle.bug_ops.specs.Kind.{bug_kind}
+use Rattle.bug_ops.specs.declared.op.BugOp.{BugOp}
+use Rattle.commit_walk.specs.declared.below.TheConstants.{MOST_COMMITS}
+use Rattle.dag_entity.specs.declared.entity.Entity.{Entity}
+use Rattle.repo_state.specs.Bugs.{IsLocal}
+use Rattle.repo_state.proofs.BugLemmas.{head_edit}
 use Rattle.repo_state.specs.Sides.{found_by, has_ref, head_at, is_there, ref_place, standing}
 use Rattle.repo_state.specs.Users.{UserFound, BadUser, NoUser, User, entry_by, entry_of_user, id_line, user_at, user_entry, user_place, user_write}
 use Rattle.repo_state.specs.declared.env.Env.{Env}
@@ -28,13 +35,21 @@ use Rattle.identity.proofs.IdLemmas.{IsId-version_id}
 use Rattle.repo_state.proofs.KindLemmas.{head_at-user_write, objects-user_write, user_at-set}
 use Rattle.repo_state.proofs.PlaceLemmas.{ref-not_user, same_or_other, user-not_object}
 use Rattle.repo_steps.specs.Answers.{EditAnswers, IsDone, IsStopped}
-use Rattle.repo_steps.specs.Doings.{Doing, HasUser, MayStep, MayWrite, doing_of, edited_user, first_user_write, new_made, new_objects, new_text, new_user, set_user, set_writes, user_writes, version_writes}
+use Rattle.repo_steps.specs.BugDoings.{HasBug, added_by, addition_objects, addition_writes, bad_bug, bad_message, begun_bug, bug_entry, comment_op, create_op, later_addition, later_by, longer_bug, noop_op, op_id, op_ids, root_addition, some_id}
+use Rattle.repo_steps.specs.Checks.{AllPass}
+use Rattle.repo_steps.specs.Doing.{Doing}
+use Rattle.repo_steps.specs.Doings.{MayStep, doing_of}
+use Rattle.repo_steps.specs.PeopleDoings.{HasUser, MayWrite, edited_user, first_user_write, new_made, new_objects, new_text, new_user, set_user, set_writes, user_writes, version_writes}
 use Rattle.repo_steps.specs.Kinds.{IsWrite, a_user}
-use Rattle.repo_steps.specs.Steps.{OnlyChanges, Steps, first_user, first_user_place, new_version}
+use Rattle.repo_steps.specs.Steps.{BugBegins, BugGrows, OnlyChanges, Steps, first_user, first_user_place, new_version}
+use Rattle.repo_steps.specs.declared.edit.Addition.{Addition}
 use Rattle.repo_steps.specs.declared.edit.Edit.{Edit}
 use Rattle.repo_steps.specs.declared.edit.Edit.TheVariants as edit
 use Rattle.repo_steps.proofs.AddLemmas.{MayExtend, added_below, added_extends, added_head, added_only, added_wrote, added_writes, after_add}
+use Rattle.repo_steps.proofs.BugDoneLemmas.{IsId-op_id, MadeBug, bug_begun, bug_grown, some_user_is}
+use Rattle.repo_steps.proofs.ClearLemmas.{bug_one}
 use Rattle.repo_steps.proofs.HeadLemmas.{head_at-absent}
+use Rattle.repo_state.proofs.FoundLemmas.{IsLocal-user, found_is}
 use Rattle.repo_steps.proofs.OnlyLemmas.{OnlyChanges-none, OnlyChanges-put, OnlyChanges-then, ref_left, user_left}
 use Rattle.repo_steps.proofs.WriteLemmas.{all_both}
 
@@ -77,21 +92,6 @@ module _ (folder : List ℕ) (id : Id) (head : Name) (old new : Files) (only : O
       (λ place among e. ref-not_user folder side.Identities id (ap (joined folder) (only_place (ref_place side.Identities id) place among) ∙ sym e)) stand sound
 
 -- ---- what words and the user file find
-
--- a word that finds an id is its digits, and a ref of it stands
-pub found_is : (files : Files) (folder : List ℕ) (of : Side) (word : List ℕ) (id : Id) → found_by files folder of word ≡ Some id
-    → (id_of word ≡ Some id) × IsTrue (has_ref files folder of id)
-found_is files folder of word id found = each (id_of word) refl found
-  where
-    decide : (other : Id) (b : Bool) → has_ref files folder of other ≡ b → cond b (Some other) None ≡ Some id → (other ≡ id) × IsTrue (has_ref files folder of id)
-    decide other true stands e = let same : other ≡ id = cc in (same, subst (λ (i : Id). IsTrue (has_ref files folder of i)) same stands)
-    decide other false stands e = absurd (cc)
-
-    each : (o : Option Id) → id_of word ≡ o → option_and_then (standing files folder of) o ≡ Some id → (id_of word ≡ Some id) × IsTrue (has_ref files folder of id)
-    each None read e = absurd (cc)
-    each (Some other) read e =
-        let is = decide other (has_ref files folder of other) refl e in
-        (read ∙ ap Some is.0, is.1)
 
 -- the user with its head is found
 entry_is : (folder : List ℕ) (files : Files) (user : HasUser folder files) → user_entry files folder ≡ Some (record { id = user.id; name = user.head })
@@ -247,10 +247,102 @@ set_made_so env word old passes = record {
     all : user_write env.folder id ∷ old ≡ after (set_user env word old) old
     all = ap (λ (o : Option Id). reverse (set_writes env.folder o) ++ old) (sym found)
 
+-- ---- bugs
+
+-- a user stands whose identity is local
+local_user_is : (folder : List ℕ) (files : Files) → (user_at files folder ≡ BadUser → ⊥) → (user_at files folder ≡ NoUser → ⊥) → (id : Id) × (user_at files folder ≡ User id) × IsLocal files folder id
+local_user_is folder files good some =
+    let is = some_user_is (user_at files folder) good some in
+    (is.0, is.1, IsLocal-user files folder is.0 is.1)
+
+-- a moment within the limit is a number of 64 bits
+before_limit : (env : Env) → env.now ≤ LIMIT → env.now < 2 ^ 64
+before_limit env within = omega (arith, within)
+
+-- the bug that a word finds has its head
+bug_entry_is : (folder : List ℕ) (files : Files) (word : List ℕ) (bug : HasBug folder files word) → bug_entry folder files word ≡ Some bug.bug
+bug_entry_is folder files word bug =
+    ap (option_and_then (λ (id : Id). entry_by id (head_at files folder side.Bugs id))) bug.finds.found ∙ ap (entry_by bug.bug.id) bug.finds.head
+
+-- a bug that begins with an operation
+begun_made_so : (env : Env) (bad : Option ℕ) (op : BugOp) (command : Edit) (old : History) → doing_of env command old ≡ begun_bug env bad op old
+    → ((old new : Files) (told : Id) → BugBegins env op old new told → Steps env command old new told)
+    → env.now < 2 ^ 64 → bug_kind.is_opening op ≡ true → IsId (op_id op) → AllPass (begun_bug env bad op old).checks → IsMade env command old
+begun_made_so env bad op command old is_doing is_step moment opens is_id passes = record {
+  told = op_id op;
+  is_told = ap (λ (doing : Doing). doing.told) is_doing;
+  wrote = subst (λ (doing : Doing). Wrote (IsWrite env.folder) old (after doing old)) (sym is_doing) (subst (λ (o : Option Addition). Wrote (IsWrite env.folder) old (reverse (addition_writes env (files_of old) o) ++ old)) (sym same) made.wrote);
+  steps = subst (λ (doing : Doing). Steps env command (files_of old) (files_of (after doing old)) (op_id op)) (sym is_doing)
+      (is_step (files_of old) _ (op_id op) (subst (λ (o : Option Addition). BugBegins env op (files_of old) (files_of (reverse (addition_writes env (files_of old) o) ++ old)) (op_id op)) (sym same) made.step));
+}
+  where
+    user : (id : Id) × (user_at (files_of old) env.folder ≡ User id) × IsLocal (files_of old) env.folder id
+    user = local_user_is env.folder (files_of old) passes.1.0 passes.1.1.0
+
+    same : option_map (root_addition env.folder (files_of old) op) (some_id (user_at (files_of old) env.folder)) ≡ Some (root_addition env.folder (files_of old) op user.0)
+    same = ap (λ (found : UserFound). option_map (root_addition env.folder (files_of old) op) (some_id found)) user.1
+
+    free : MayBePut env.folder (addition_objects env.now (Some (root_addition env.folder (files_of old) op user.0))) old
+    free = subst (λ (o : Option Addition). MayBePut env.folder (addition_objects env.now o) old) same passes.1.1.1.1.1.0
+
+    made : MadeBug env old (root_addition env.folder (files_of old) op user.0) (λ (new : Files). BugBegins env op (files_of old) new (op_id op))
+    made = bug_begun env old op passes.0.1 moment opens user.0 user.1 user.2 free passes.1.1.1.1.0 is_id
+
+-- a bug that has one operation more
+longer_made_so : (env : Env) (bad : Option ℕ) (word : List ℕ) (op : BugOp) (command : Edit) (old : History) → doing_of env command old ≡ longer_bug env bad word op old
+    → ((old new : Files) (told : Id) → BugGrows env word op old new told → Steps env command old new told)
+    → env.now < 2 ^ 64 → bug_kind.is_following op ≡ true → AllPass (longer_bug env bad word op old).checks → IsMade env command old
+longer_made_so env bad word op command old is_doing is_step moment follows passes = record {
+  told = op_id op;
+  is_told = ap (λ (doing : Doing). doing.told) is_doing;
+  wrote = subst (λ (doing : Doing). Wrote (IsWrite env.folder) old (after doing old)) (sym is_doing) (subst (λ (o : Option Addition). Wrote (IsWrite env.folder) old (reverse (addition_writes env (files_of old) o) ++ old)) (sym same) made.wrote);
+  steps = subst (λ (doing : Doing). Steps env command (files_of old) (files_of (after doing old)) (op_id op)) (sym is_doing)
+      (is_step (files_of old) _ (op_id op) (subst (λ (o : Option Addition). BugGrows env word op (files_of old) (files_of (reverse (addition_writes env (files_of old) o) ++ old)) (op_id op)) (sym same) made.step));
+}
+  where
+    files : Files
+    files = files_of old
+
+    user : (id : Id) × (user_at files env.folder ≡ User id) × IsLocal files env.folder id
+    user = local_user_is env.folder files passes.1.0 passes.1.1.0
+
+    bug : HasBug env.folder files word
+    bug = passes.1.1.1.1.0
+
+    -- what each check says of the bug is so of this one
+    of_this : (Bars : HeadEntry → Entity BugOp → Type 0) (other : HasBug env.folder files word) → (Bars other.bug other.entity → ⊥) → Bars bug.bug bug.entity → ⊥
+    of_this Bars other none bars = none
+        (let one = bug_one env.folder files word bug other in
+        subst (λ (entity : Entity BugOp). Bars other.bug entity) one.1 (subst (λ (head : HeadEntry). Bars head bug.entity) one.0 bars))
+
+    addition : Addition
+    addition = later_addition env.folder files op user.0 bug.bug bug.entity.edit
+
+    same : option_and_then (later_by env.folder files word op) (some_id (user_at files env.folder)) ≡ Some addition
+    same = ap (λ (found : UserFound). option_and_then (later_by env.folder files word op) (some_id found)) user.1
+        ∙ ap (option_and_then (added_by env.folder files op user.0)) (bug_entry_is env.folder files word bug)
+        ∙ ap (option_map (later_addition env.folder files op user.0 bug.bug)) (head_edit (objects_in files env.folder) bug.bug.name bug.entity.edit bug.is.is.edit)
+
+    free : MayBePut env.folder (addition_objects env.now (Some addition)) old
+    free = subst (λ (o : Option Addition). MayBePut env.folder (addition_objects env.now o) old) same passes.1.1.1.1.1.1.1.1.1.0
+
+    made : MadeBug env old addition (λ (new : Files). BugGrows env word op files new (op_id op))
+    made = bug_grown env old word op passes.0.1 moment follows user.0 user.1 user.2 bug
+        (of_this (λ head entity. entity.edit ≡ LIMIT) passes.1.1.1.1.1.0.0 passes.1.1.1.1.1.0.1)
+        (of_this (λ head entity. MOST_COMMITS ≤ length entity.packs) passes.1.1.1.1.1.1.0.0 passes.1.1.1.1.1.1.0.1)
+        (of_this (λ head entity. Contains (op_ids entity.packs) (op_id op)) passes.1.1.1.1.1.1.1.1.0.0 passes.1.1.1.1.1.1.1.1.0.1)
+        free (id_of-is word bug.bug.id (found_is files env.folder side.Bugs word bug.bug.id bug.finds.found).0).0
+
 made_so : (env : Env) (command : Edit) (old : History) → MayStep env command old → IsMade env command old
 made_so env (edit.UserNew name email) old passes = new_made_so env name email old passes
 made_so env (edit.UserEdit name email) old passes = edited_made_so env name email old passes
 made_so env (edit.UserSet word) old passes = set_made_so env word old passes
+made_so env (edit.New title message) old passes =
+    begun_made_so env (bad_bug title message) (create_op env title message) (edit.New title message) old refl (λ old new told step. step) (before_limit env passes.0.1.within.time) refl (IsId-op_id (create_op env title message)) passes
+made_so env (edit.Comment word message) old passes =
+    longer_made_so env (bad_message message) word (comment_op env message) (edit.Comment word message) old refl (λ old new told step. step) (before_limit env passes.0.1.within.time) refl passes
+made_so env (edit.Noop word) old passes =
+    longer_made_so env None word (noop_op env) (edit.Noop word) old refl (λ old new told step. step) (before_limit env passes.0.1.within.time) refl passes
 
 -- ---- whatever is answered
 

@@ -1,5 +1,5 @@
 -- Nothing is lost by writes, of their own folder or of one apart from it; and folders apart stay sound.
-use Rattle.std.proofs.Common.{◌≡◌, ℕ, false, cond, Option, Some, None, List, [], ◌∷◌, ◌++◌, refl, sym, ◌∙◌, ap, subst}
+use Rattle.std.proofs.Common.{◌≡◌, ℕ, false, cond, Option, Some, None, List, [], ◌∷◌, ◌++◌, refl, sym, ◌∙◌, ap, subst, arith}
 use Rattle.gb_text.specs.Digits.{id_of}
 use Rattle.gb_text.specs.Folder.{is_rooted, joined}
 use Rattle.gb_text.specs.LineEnd.{line_of}
@@ -12,21 +12,31 @@ use Rattle.gb_store.specs.ObjectPath.{object_place}
 use Rattle.gb_store.specs.declared.store.Change.{Change}
 use Rattle.gb_store.proofs.FrameLemmas.{written-apart}
 use Rattle.gb_store.proofs.MomentLemmas.{AllMoments-from_Wrote}
+use Rattle.object_store.specs.Growth.{OnlyGrew}
 use Rattle.object_store.specs.Held.{Objects, objects_in}
+use Rattle.object_batch.proofs.ClashLemmas.{Contains-first}
 use Rattle.commit_chain.specs.Chain.{Chain}
 use Rattle.commit_chain.specs.declared.chain.Met.{Met}
 use Rattle.commit_chain.proofs.StayLemmas.{Chain_stays}
+use Rattle.commit_walk.specs.Below.{IsBelow as Below, head as at_top}
+use Rattle.commit_walk.proofs.BelowLemmas.{IsBelow-stays, below_below}
+use Rattle.commit_walk.proofs.DistinctLemmas.{Contains-one}
 use Rattle.ref_store.specs.Refs.{Ref, ref_of}
+use Rattle.repo_state.specs.Clocks.{clock_at, clock_in, clock_place}
 use Rattle.repo_state.specs.Sides.{head_at, is_there, ref_place}
-use Rattle.repo_state.specs.Sound.{AreWhole, HasPart, IsSoundIdentity, IsSoundTracking, KeepsParts, Part}
+use Rattle.repo_state.specs.Sound.{AreWhole, HasPart, IsAuthoredBug, IsSoundBug, IsSoundIdentity, IsSoundTracking, KeepsParts, Part}
 use Rattle.repo_state.specs.Sound as parts
 use Rattle.repo_state.specs.Users.{BadUser, User, local_user, user_at, user_of, user_place}
+use Rattle.repo_state.specs.declared.clocks.ClockFile.{ClockFile}
+use Rattle.repo_state.specs.declared.clocks.ClockFile.TheVariants as file
 use Rattle.repo_state.specs.declared.side.Side.{Side}
 use Rattle.repo_state.specs.declared.side.Side.TheVariants as side
 use Rattle.repo_steps.specs.Kept.{LosesNothing}
 use Rattle.repo_steps.specs.Kinds.{IsWrite}
+use Rattle.repo_steps.proofs.LossLemmas.{bug-below, clock-rises, head-below}
 use Rattle.repo_steps.proofs.PlaceLemmas.{place_plain}
-use Rattle.repo_steps.proofs.SoundLemmas.{head-below, write-grew, write-place}
+use Rattle.repo_steps.proofs.SoundBugLemmas.{authored-grew, bug-grew}
+use Rattle.repo_steps.proofs.SoundLemmas.{write-grew, write-place}
 
 -- ---- steps by the single parent
 
@@ -43,6 +53,8 @@ pub LosesNothing-none : (folder : List ℕ) (files : Files) → LosesNothing fol
 LosesNothing-none folder files = record {
   objects = record { stays = λ name text stands. stands };
   heads = λ id is head stands. record { head = head; is_head = stands; leads = record { above = []; chain = refl } };
+  bugs = λ id is head stands. record { head = head; is_head = stands; below = at_top (Contains-first head []) };
+  clocks = λ which. omega arith;
 }
 
 -- nor by two that lose nothing, one after the other
@@ -61,6 +73,17 @@ LosesNothing-then folder old mid new first second = record {
               (Chain_stays (objects_in mid folder) (objects_in new folder) second.objects one.head one.leads.above head one.leads.chain);
         };
       };
+  bugs = λ id is head stands.
+      let one = first.bugs id is head stands in
+      let two = second.bugs id is one.head one.is_head in
+      record {
+        head = two.head;
+        is_head = two.is_head;
+        below = below_below (objects_in new folder) (two.head ∷ []) (one.head ∷ []) head
+            (λ low c. subst (Below (objects_in new folder) (two.head ∷ [])) (Contains-one one.head low c) two.below)
+            (IsBelow-stays (objects_in mid folder) (objects_in new folder) second.objects (one.head ∷ []) head one.below);
+      };
+  clocks = λ which. omega (arith, first.clocks which, second.clocks which);
 }
 
 -- by one write in the folder
@@ -70,6 +93,10 @@ write-loses_nothing folder files change write = record {
   heads = λ id is head stands.
       let later = head-below folder files change write id is head stands in
       record { head = later.0; is_head = later.1; leads = record { above = later.2.above; chain = later.2.chain } };
+  bugs = λ id is head stands.
+      let later = bug-below folder files change write id is head stands in
+      record { head = later.0; is_head = later.1; below = later.2 };
+  clocks = clock-rises folder files change write;
 }
 
 -- ---- a folder apart
@@ -93,6 +120,10 @@ module _ (folder other : List ℕ) (apart : Overlap folder other → ⊥) (files
   same_head : (of : Side) (id : Id) → head_at (written files change) folder of id ≡ head_at files folder of id
   same_head of id = ap ref_of (same_file (ref_place of id) (plain-ref of id))
 
+  same_clock : (which : ClockFile) → clock_at (written files change) folder which ≡ clock_at files folder which
+  same_clock file.BugsCreate = ap clock_in (same_file (clock_place file.BugsCreate) refl)
+  same_clock file.BugsEdit = ap clock_in (same_file (clock_place file.BugsEdit) refl)
+
   same_user : user_at (written files change) folder ≡ user_at files folder
   same_user = ap (user_of (written files change) folder) (same_file user_place refl) ∙ by_text (files (joined folder user_place))
     where
@@ -104,11 +135,19 @@ module _ (folder other : List ℕ) (apart : Overlap folder other → ⊥) (files
       by_text None = refl
       by_text (Some text) = local (id_of (line_of text))
 
+  same-grew : OnlyGrew (objects_in files folder) (objects_in (written files change) folder)
+  same-grew = record { stays = λ name text stands. ap (λ (objects : Objects). objects name) same_objects ∙ stands }
+
   keeps-part : (part : Part) → HasPart part folder files → HasPart part folder (written files change)
   keeps-part parts.Objects has = subst AreWhole (sym same_objects) has
   keeps-part parts.Identities has = λ id is.
       subst (IsSoundIdentity (objects_in (written files change) folder) id) (sym (same_head side.Identities id))
       (subst (λ (objects : Objects). IsSoundIdentity objects id (head_at files folder side.Identities id)) (sym same_objects) (has id is))
+  keeps-part parts.Bugs has = λ id is.
+      subst (IsSoundBug (objects_in (written files change) folder) id) (sym (same_head side.Bugs id)) (bug-grew _ _ same-grew id _ (has id is))
+  keeps-part parts.Authors has = λ id is.
+      subst (IsAuthoredBug folder (written files change) id) (sym (same_head side.Bugs id))
+      (authored-grew folder files (written files change) same-grew (λ author _ stands. ap is_there (same_head side.Identities author) ∙ stands) id _ (has id is))
   keeps-part parts.Tracking has = λ remote named id is. (
     tracking (side.RemoteBugs remote) id (has remote named id is).0,
     tracking (side.RemoteIdentities remote) id (has remote named id is).1,
@@ -123,8 +162,10 @@ module _ (folder other : List ℕ) (apart : Overlap folder other → ⊥) (files
 
   apart-loses_nothing : LosesNothing folder files (written files change)
   apart-loses_nothing = record {
-    objects = record { stays = λ name text stands. ap (λ (objects : Objects). objects name) same_objects ∙ stands };
+    objects = same-grew;
     heads = λ id is head stands. record { head = head; is_head = same_head side.Identities id ∙ stands; leads = record { above = []; chain = refl } };
+    bugs = λ id is head stands. record { head = head; is_head = same_head side.Bugs id ∙ stands; below = at_top (Contains-first head []) };
+    clocks = λ which. omega (arith, same_clock which);
   }
 
 -- ---- over the writes of a call

@@ -1,11 +1,15 @@
+pub mod AddBugLemmas
 pub mod AddLemmas
+pub mod BugDoneLemmas
 pub mod ClearLemmas
 pub mod DamageLemmas
 pub mod DoneLemmas
 pub mod HeadLemmas
 pub mod KeptLemmas
+pub mod LossLemmas
 pub mod OnlyLemmas
 pub mod PlaceLemmas
+pub mod SoundBugLemmas
 pub mod SoundLemmas
 pub mod StepLemmas
 pub mod WriteLemmas

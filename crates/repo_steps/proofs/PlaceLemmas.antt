@@ -13,9 +13,10 @@ use Rattle.gb_text.proofs.AsciiLemmas.{encode_lower-digits}
 use Rattle.gb_store.specs.ObjectPath.{object_place}
 use Rattle.repo_state.specs.Sides.{dir_of}
 use Rattle.repo_state.specs.Sound.{IsNamedSide}
+use Rattle.repo_state.specs.declared.clocks.ClockFile.TheVariants as file
 use Rattle.repo_state.specs.declared.side.Side.{Side}
 use Rattle.repo_state.specs.declared.side.Side.TheVariants as side
-use Rattle.repo_steps.specs.Kinds.{IsPlace, a_ref_place, an_object_place, is_dotless, the_user_place}
+use Rattle.repo_steps.specs.Kinds.{IsPlace, a_clock_place, a_ref_place, an_object_place, is_dotless, the_user_place}
 
 -- where a rule that holds of no dot holds of each character, none is a dot
 by_rule : (rule : ℕ → Bool) → rule 46 ≡ false → (text : List ℕ) → list_all rule text ≡ true → is_dotless text ≡ true
@@ -58,6 +59,8 @@ pub place_dotless : (place : List ℕ) → IsPlace place → is_dotless place �
 place_dotless place (an_object_place name is) = object_dotless name is
 place_dotless place (a_ref_place of named id is) = joined (dir_of of) (47 ∷ encode_lower id.bytes) (dir_dotless of named) (digits_dotless id.bytes is.bytes)
 place_dotless place the_user_place = refl
+place_dotless place (a_clock_place file.BugsCreate) = refl
+place_dotless place (a_clock_place file.BugsEdit) = refl
 
 -- no place begins with a slash
 pub place_plain : (place : List ℕ) → IsPlace place → is_rooted place ≡ false
@@ -67,3 +70,5 @@ place_plain place (a_ref_place side.Identities named id is) = refl
 place_plain place (a_ref_place (side.RemoteBugs remote) named id is) = refl
 place_plain place (a_ref_place (side.RemoteIdentities remote) named id is) = refl
 place_plain place the_user_place = refl
+place_plain place (a_clock_place file.BugsCreate) = refl
+place_plain place (a_clock_place file.BugsEdit) = refl

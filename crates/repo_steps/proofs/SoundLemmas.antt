@@ -1,5 +1,5 @@
--- Each kind of write keeps each part of a sound folder, and loses nothing.
-use Rattle.std.proofs.Common.{◌≡◌, ◌≢◌, ◌⊎◌, inl, inr, ℕ, List, [], Option, Some, None, option_and_then, refl, sym, ◌∙◌, ap, subst, arith}
+-- Each kind of write keeps each part of a sound folder.
+use Rattle.std.proofs.Common.{◌≡◌, ◌≢◌, ◌⊎◌, inl, inr, ℕ, List, IsTrue, Option, Some, None, option_and_then, refl, sym, ◌∙◌, ap, subst}
 use Rattle.gb_text.specs.Digits.{IsId, IsName}
 use Rattle.gb_text.specs.Folder.{joined}
 use Rattle.gb_text.specs.declared.id.Id.{Id}
@@ -18,7 +18,6 @@ use Rattle.object_store.proofs.HeldLemmas.{object_at-held, object_at-is}
 use Rattle.object_batch.specs.Needs.{AllHeld, PutsAfterNeeds}
 use Rattle.git_object.proofs.NameLaws.{IsName-object_name}
 use Rattle.object_store.proofs.PathLemmas.{path_name}
-use Rattle.commit_chain.specs.Chain.{Meets}
 use Rattle.object_store.specs.Typed.{as_commit}
 use Rattle.ref_store.specs.Refs.{Ref, Absent, Head, Bad}
 use Rattle.ref_store.specs.Setting.{ref_write}
@@ -27,16 +26,19 @@ use Rattle.object_store.specs.Growth.{OnlyGrew}
 use Rattle.identity.specs.Persons.{IsChain}
 use Rattle.identity.proofs.ExtendLemmas.{chain_stays}
 use Rattle.object_store.proofs.GrowthLemmas.{object_stays, stays}
-use Rattle.repo_state.specs.Sides.{head_at, ref_place}
-use Rattle.repo_state.specs.Sound.{AreWhole, HasSoundIdentities, HasSoundTracking, HasSoundUser, HasPart, HasWholeObjects, IsNamedSide, IsSound, IsSoundIdentity, IsSoundTracking, KeepsParts, Part}
+use Rattle.lamport.specs.Clock.{seen_by}
+use Rattle.repo_state.specs.Clocks.{clock_at, clock_place, clock_write}
+use Rattle.repo_state.specs.Sides.{has_ref, head_at, is_there, ref_place}
+use Rattle.repo_state.specs.Sound.{AreWhole, HasKnownAuthors, HasNoFault, HasSoundBugs, HasSoundIdentities, HasSoundTracking, HasSoundUser, HasPart, HasWholeObjects, IsAuthoredBug, IsNamedSide, IsSound, IsSoundBug, IsSoundIdentity, IsSoundTracking, KeepsParts, Part}
 use Rattle.repo_state.specs.Sound as parts
 use Rattle.repo_state.specs.Users.{user_place, user_write}
 use Rattle.repo_state.specs.declared.side.Side.{Side}
 use Rattle.repo_state.specs.declared.side.Side.TheVariants as side
 use Rattle.repo_state.proofs.IdLemmas.{IsId-chain}
-use Rattle.repo_state.proofs.KindLemmas.{head_at-object_write, head_at-other_side, head_at-ref_write, head_at-user_write, objects-ref_write, objects-user_write, user_at-put, user_at-set, written-free}
-use Rattle.repo_state.proofs.PlaceLemmas.{ref-not_user, same_or_other, user-not_object}
-use Rattle.repo_steps.specs.Kinds.{IsBelow, IsIdentityHeadWrite, IsObjectWrite, IsPlace, IsUserWrite, IsWrite, a_ref_place, a_user, an_identity_head, an_object, an_object_place, ref_to, the_user_place}
+use Rattle.repo_state.proofs.KindLemmas.{head_at-clock_write, head_at-object_write, head_at-other_side, head_at-ref_write, head_at-user_write, objects-clock_write, objects-ref_write, objects-user_write, user_at-put, user_at-set, written-free}
+use Rattle.repo_state.proofs.PlaceLemmas.{clock-not_user, ref-not_user, same_or_other, user-not_object}
+use Rattle.repo_steps.specs.Kinds.{IsBugHeadWrite, IsClockWrite, IsIdentityHeadWrite, IsObjectWrite, IsPlace, IsUserWrite, IsWrite, a_bug_head, a_clock, a_clock_place, a_ref_place, a_user, an_identity_head, an_object, an_object_place, the_user_place}
+use Rattle.repo_steps.proofs.SoundBugLemmas.{HasNoFault-grew, authored-grew, bug-grew}
 
 -- ---- objects that grew
 
@@ -119,15 +121,23 @@ put-whole files folder texts change put whole = record { held = held; needs = ne
 -- ---- each kind of write
 
 module _ (folder : List ℕ) (files : Files) (change : Change) where
+  -- what a write of a clock sets it to
+  abbrev pub clock_after : IsClockWrite folder files change → ℕ
+  clock_after w = seen_by (clock_at files folder w.which) w.number
+
   -- what holds after each kind of write holds after each write
-  by_kind : (P : Change → Type 0)
+  pub by_kind : (P : Change → Type 0)
       → ((w : IsObjectWrite folder files change) → P (object_write folder w.puts.text))
       → ((w : IsIdentityHeadWrite folder files change) → P (ref_write folder (ref_place side.Identities w.id) w.head))
       → ((w : IsUserWrite folder files change) → P (user_write folder w.id))
+      → ((w : IsBugHeadWrite folder files change) → P (ref_write folder (ref_place side.Bugs w.id) w.head))
+      → ((w : IsClockWrite folder files change) → P (clock_write folder w.which (clock_after w)))
       → IsWrite folder files change → P change
-  by_kind P object head user (an_object w) = subst P (sym w.puts.write) (object w)
-  by_kind P object head user (an_identity_head w) = subst P (sym w.write) (head w)
-  by_kind P object head user (a_user w) = subst P (sym w.write) (user w)
+  by_kind P object head user bug clock (an_object w) = subst P (sym w.puts.write) (object w)
+  by_kind P object head user bug clock (an_identity_head w) = subst P (sym w.write) (head w)
+  by_kind P object head user bug clock (a_user w) = subst P (sym w.write) (user w)
+  by_kind P object head user bug clock (a_bug_head w) = subst P (sym w.write) (bug w)
+  by_kind P object head user bug clock (a_clock w) = subst P (sym w.write) (clock w)
 
   -- objects are only added
   pub write-grew : IsWrite folder files change → OnlyGrew (objects_in files folder) (objects_in (written files change) folder)
@@ -135,9 +145,11 @@ module _ (folder : List ℕ) (files : Files) (change : Change) where
       (λ w. put-grew files folder w.puts.text w.puts.free)
       (λ w. same-grew (objects_in files folder) (objects_in (written files (ref_write folder (ref_place side.Identities w.id) w.head)) folder) (objects-ref_write files folder side.Identities w.id w.head))
       (λ w. same-grew (objects_in files folder) (objects_in (written files (user_write folder w.id)) folder) (objects-user_write files folder w.id))
+      (λ w. same-grew (objects_in files folder) (objects_in (written files (ref_write folder (ref_place side.Bugs w.id) w.head)) folder) (objects-ref_write files folder side.Bugs w.id w.head))
+      (λ w. same-grew (objects_in files folder) (objects_in (written files (clock_write folder w.which (clock_after w))) folder) (objects-clock_write files folder w.which (clock_after w)))
 
   -- the ref of an identity reads as before, or the write set it to the head that it reads as
-  identity-after : (id : Id) → IsId id → IsWrite folder files change
+  pub identity-after : (id : Id) → IsId id → IsWrite folder files change
       → (head_at (written files change) folder side.Identities id ≡ head_at files folder side.Identities id)
       ⊎ ((w : IsIdentityHeadWrite folder files change) × (w.id ≡ id) × (head_at (written files change) folder side.Identities id ≡ Head w.head))
   identity-after id is = by_kind
@@ -149,14 +161,42 @@ module _ (folder : List ℕ) (files : Files) (change : Change) where
         | inr set ↦ inr (w, set.0, set.1)
       ])
       (λ w. inl (head_at-user_write files folder side.Identities id w.id))
+      (λ w. inl (head_at-other_side files folder side.Bugs side.Identities w.id id w.head tt tt (λ e. cc e)))
+      (λ w. inl (head_at-clock_write files folder side.Identities id w.which (clock_after w)))
 
-  -- a ref that is no identity's reads as before
-  other-after : (of : Side) (id : Id) → IsNamedSide of → side.Identities ≢ of → IsWrite folder files change
+  -- an identity's ref that stands still stands
+  identity-stands : IsWrite folder files change → (id : Id) → IsId id
+      → IsTrue (has_ref files folder side.Identities id) → IsTrue (has_ref (written files change) folder side.Identities id)
+  identity-stands wrote id is stands = elim (identity-after id is wrote) [
+    | inl same ↦ ap is_there same ∙ stands
+    | inr set ↦ ap is_there set.2
+  ]
+
+  -- the ref of a bug reads as before, or the write set it to the head that it reads as
+  pub bug-after : (id : Id) → IsId id → IsWrite folder files change
+      → (head_at (written files change) folder side.Bugs id ≡ head_at files folder side.Bugs id)
+      ⊎ ((w : IsBugHeadWrite folder files change) × (w.id ≡ id) × (head_at (written files change) folder side.Bugs id ≡ Head w.head))
+  bug-after id is = by_kind
+      (λ (c : Change). (head_at (written files c) folder side.Bugs id ≡ head_at files folder side.Bugs id)
+      ⊎ ((w : IsBugHeadWrite folder files change) × (w.id ≡ id) × (head_at (written files c) folder side.Bugs id ≡ Head w.head)))
+      (λ w. inl (head_at-object_write files folder w.puts.text side.Bugs id))
+      (λ w. inl (head_at-other_side files folder side.Identities side.Bugs w.id id w.head tt tt (λ e. cc e)))
+      (λ w. inl (head_at-user_write files folder side.Bugs id w.id))
+      (λ w. elim (head_at-ref_write files folder side.Bugs w.id id w.head w.is_id is w.is_name) [
+        | inl same ↦ inl same
+        | inr set ↦ inr (w, set.0, set.1)
+      ])
+      (λ w. inl (head_at-clock_write files folder side.Bugs id w.which (clock_after w)))
+
+  -- a tracking ref reads as before
+  other-after : (of : Side) (id : Id) → IsNamedSide of → side.Identities ≢ of → side.Bugs ≢ of → IsWrite folder files change
       → head_at (written files change) folder of id ≡ head_at files folder of id
-  other-after of id is_of other = by_kind (λ (c : Change). head_at (written files c) folder of id ≡ head_at files folder of id)
+  other-after of id is_of other also = by_kind (λ (c : Change). head_at (written files c) folder of id ≡ head_at files folder of id)
       (λ w. head_at-object_write files folder w.puts.text of id)
       (λ w. head_at-other_side files folder side.Identities of w.id id w.head tt is_of other)
       (λ w. head_at-user_write files folder of id w.id)
+      (λ w. head_at-other_side files folder side.Bugs of w.id id w.head tt is_of also)
+      (λ w. head_at-clock_write files folder of id w.which (clock_after w))
 
   -- ---- the parts of a sound folder
 
@@ -166,6 +206,8 @@ module _ (folder : List ℕ) (files : Files) (change : Change) where
       (λ w. put-whole files folder _ change w.puts whole)
       (λ w. subst AreWhole (sym (objects-ref_write files folder side.Identities w.id w.head)) whole)
       (λ w. subst AreWhole (sym (objects-user_write files folder w.id)) whole)
+      (λ w. subst AreWhole (sym (objects-ref_write files folder side.Bugs w.id w.head)) whole)
+      (λ w. subst AreWhole (sym (objects-clock_write files folder w.which (clock_after w))) whole)
 
   -- its identities stay sound
   keeps-identities : HasSoundIdentities folder files → IsWrite folder files change → HasSoundIdentities folder (written files change)
@@ -175,17 +217,34 @@ module _ (folder : List ℕ) (files : Files) (change : Change) where
         (chain_stays _ _ (write-grew wrote) id set.0.head (subst (λ (i : Id). IsChain (objects_in files folder) i set.0.head) set.1 set.0.chain)).0
   ]
 
+  -- its bugs stay sound
+  keeps-bugs : HasSoundBugs folder files → IsWrite folder files change → HasSoundBugs folder (written files change)
+  keeps-bugs sound wrote = λ id is. elim (bug-after id is wrote) [
+    | inl same ↦ subst (IsSoundBug (objects_in (written files change) folder) id) (sym same) (bug-grew _ _ (write-grew wrote) id _ (sound id is))
+    | inr set ↦ subst (IsSoundBug (objects_in (written files change) folder) id) (sym set.2)
+        (HasNoFault-grew _ _ (write-grew wrote) id set.0.head (subst (λ (i : Id). HasNoFault (objects_in files folder) i set.0.head) set.1 set.0.no_fault))
+  ]
+
+  -- their authors stay local identities
+  keeps-authors : HasKnownAuthors folder files → IsWrite folder files change → HasKnownAuthors folder (written files change)
+  keeps-authors sound wrote = λ id is. elim (bug-after id is wrote) [
+    | inl same ↦ subst (IsAuthoredBug folder (written files change) id) (sym same) (authored-grew folder files (written files change) (write-grew wrote) (identity-stands wrote) id _ (sound id is))
+    | inr set ↦ subst (IsAuthoredBug folder (written files change) id) (sym set.2)
+        (authored-grew folder files (written files change) (write-grew wrote) (identity-stands wrote) id (Head set.0.head)
+        (subst (λ (i : Id). HasNoFault (objects_in files folder) i set.0.head) set.1 set.0.no_fault, set.0.authors))
+  ]
+
   -- its tracking refs stay sound
   keeps-tracking : HasSoundTracking folder files → IsWrite folder files change → HasSoundTracking folder (written files change)
   keeps-tracking sound wrote = λ remote named id is.
       let was = sound remote named id is in (
-        one (side.RemoteBugs remote) id named (λ e. cc e) was.0,
-        one (side.RemoteIdentities remote) id named (λ e. cc e) was.1,
+        one (side.RemoteBugs remote) id named (λ e. cc e) (λ e. cc e) was.0,
+        one (side.RemoteIdentities remote) id named (λ e. cc e) (λ e. cc e) was.1,
       )
     where
-      one : (of : Side) (id : Id) → IsNamedSide of → side.Identities ≢ of
+      one : (of : Side) (id : Id) → IsNamedSide of → side.Identities ≢ of → side.Bugs ≢ of
           → IsSoundTracking (objects_in files folder) (head_at files folder of id) → IsSoundTracking (objects_in (written files change) folder) (head_at (written files change) folder of id)
-      one of id is_of other was = subst (IsSoundTracking (objects_in (written files change) folder)) (sym (other-after of id is_of other wrote)) (tracking-grew _ _ (write-grew wrote) _ was)
+      one of id is_of other also was = subst (IsSoundTracking (objects_in (written files change) folder)) (sym (other-after of id is_of other also wrote)) (tracking-grew _ _ (write-grew wrote) _ was)
 
   -- its user file names a local identity still
   keeps-user : HasSoundUser folder files → IsWrite folder files change → HasSoundUser folder (written files change)
@@ -193,41 +252,17 @@ module _ (folder : List ℕ) (files : Files) (change : Change) where
       (λ w bad. sound (sym (user_at-put files folder (joined folder (object_place (object_name w.puts.text))) w.puts.text (λ e. user-not_object folder (object_name w.puts.text) (sym e)) sound) ∙ bad))
       (λ w bad. sound (sym (user_at-put files folder (joined folder (ref_place side.Identities w.id)) _ (ref-not_user folder side.Identities w.id) sound) ∙ bad))
       (λ w bad. cc (sym (user_at-set files folder w.id w.is_id w.stands) ∙ bad))
+      (λ w bad. sound (sym (user_at-put files folder (joined folder (ref_place side.Bugs w.id)) _ (ref-not_user folder side.Bugs w.id) sound) ∙ bad))
+      (λ w bad. sound (sym (user_at-put files folder (joined folder (clock_place w.which)) _ (clock-not_user folder w.which) sound) ∙ bad))
 
   -- each part stays
   pub keeps-part : (part : Part) → HasPart part folder files → IsWrite folder files change → HasPart part folder (written files change)
   keeps-part parts.Objects = keeps-whole
   keeps-part parts.Identities = keeps-identities
+  keeps-part parts.Bugs = keeps-bugs
+  keeps-part parts.Authors = keeps-authors
   keeps-part parts.Tracking = keeps-tracking
   keeps-part parts.User = keeps-user
-
-  -- ---- what is lost
-
-  -- below the head of an identity stands what stood there
-  pub head-below : IsWrite folder files change → (id : Id) → IsId id → (head : Name) → head_at files folder side.Identities id ≡ Head head
-      → (later : Name) × (head_at (written files change) folder side.Identities id ≡ Head later) × Meets (objects_in (written files change) folder) later head
-  head-below wrote id is head was = at (identity-after id is wrote)
-    where
-      -- the head that was there is the present one
-      below : (objects : Objects) (later : Name) (present : Option Name) → ref_to present ≡ Head head → IsBelow objects present later → Meets objects later head
-      below objects later None e met = absurd (cc)
-      below objects later (Some old) e met = let same : old ≡ head = cc in subst (Meets objects later) same met
-
-      at : (head_at (written files change) folder side.Identities id ≡ head_at files folder side.Identities id)
-          ⊎ ((w : IsIdentityHeadWrite folder files change) × (w.id ≡ id) × (head_at (written files change) folder side.Identities id ≡ Head w.head))
-          → (later : Name) × (head_at (written files change) folder side.Identities id ≡ Head later) × Meets (objects_in (written files change) folder) later head
-      at (inl same) = (head, same ∙ was, record { above = []; chain = refl; near = omega arith })
-      at (inr set) =
-          let w = set.0 in
-          let present : ref_to w.present ≡ Head head = sym w.is_present ∙ ap (head_at files folder side.Identities) set.1 ∙ was in (
-            w.head,
-            set.2,
-            below _ w.head w.present present
-                (subst (λ (objects : Objects). IsBelow objects w.present w.head) (sym (objects-after w)) w.below),
-          )
-        where
-          objects-after : (w : IsIdentityHeadWrite folder files change) → objects_in (written files change) folder ≡ objects_in files folder
-          objects-after w = ap (λ (c : Change). objects_in (written files c) folder) w.write ∙ objects-ref_write files folder side.Identities w.id w.head
 
   -- ---- where is written
 
@@ -241,6 +276,8 @@ module _ (folder : List ℕ) (files : Files) (change : Change) where
     ap (λ (c : Change). c.path) w.write,
   )
   write-place (a_user w) = (user_place, the_user_place, ap (λ (c : Change). c.path) w.write)
+  write-place (a_bug_head w) = (ref_place side.Bugs w.id, a_ref_place side.Bugs tt w.id w.is_id, ap (λ (c : Change). c.path) w.write)
+  write-place (a_clock w) = (clock_place w.which, a_clock_place w.which, ap (λ (c : Change). c.path) w.write)
 
 -- what is written by kinds keeps each part at each moment
 pub keeps_parts : (folder : List ℕ) (old new : History) → Wrote (IsWrite folder) old new → KeepsParts folder old new

@@ -8,46 +8,85 @@ use Rattle.gb_text.specs.declared.id.Name.{Name}
 use Rattle.gb_store.specs.Files.{Files, written}
 use Rattle.object_batch.proofs.ClashLemmas.{Contains-cons_cases}
 use Rattle.ref_store.specs.Refs.{Head, ref_of}
+use Rattle.lamport.specs.Clock.{edit_time_of, seen_by}
+use Rattle.bug_ops.specs.declared.op.BugOp.{BugOp}
+use Rattle.dag_entity.specs.declared.entity.Entity.{Entity}
+use Rattle.repo_state.specs.Clocks.{clock_at, clock_in, clock_place}
 use Rattle.repo_state.specs.Sides.{has_ref, head_at, is_there, ref_place}
 use Rattle.repo_state.specs.Users.{UserFound, BadUser, NoUser, User, local_user, user_at, user_of, user_place, user_write}
+use Rattle.repo_state.specs.declared.clocks.ClockFile.{ClockFile}
+use Rattle.repo_state.specs.declared.clocks.ClockFile.TheVariants as file
 use Rattle.repo_state.specs.declared.env.Env.{Env}
+use Rattle.repo_state.specs.declared.side.HeadEntry.{HeadEntry}
 use Rattle.repo_state.specs.declared.side.Side.{Side}
 use Rattle.repo_state.specs.declared.side.Side.TheVariants as side
-use Rattle.repo_state.proofs.PlaceLemmas.{ref-not_object, ref-not_user, same_or_other, user-not_object}
-use Rattle.repo_steps.specs.Doings.{new_made}
-use Rattle.repo_steps.specs.Steps.{OnlyChanges, Steps, UserEditSteps, UserNewSteps, UserSetSteps, first_user, first_user_place}
+use Rattle.repo_state.proofs.PlaceLemmas.{clock-not_object, clock-not_user, clock-other, ref-not_clock, ref-not_object, ref-not_user, same_or_other, user-not_object}
+use Rattle.repo_steps.specs.BugDoings.{addition_head, comment_op, create_op, later_addition, noop_op, root_addition}
+use Rattle.repo_steps.specs.PeopleDoings.{new_made}
+use Rattle.repo_steps.specs.Steps.{BugBegins, BugGrows, IsObjectFile, OnlyChanges, Steps, UserEditSteps, UserNewSteps, UserSetSteps, first_user, first_user_place}
 use Rattle.repo_steps.specs.declared.edit.Edit.{Edit}
 use Rattle.repo_steps.specs.declared.edit.Edit.TheVariants as edit
-use Rattle.repo_steps.proofs.ClearLemmas.{user-head, user-same}
+use Rattle.repo_steps.proofs.ClearLemmas.{bug_one, one_user, user-head, user-same}
 
--- ---- one identity's ref, and perhaps the user
+-- ---- places apart
 
--- the place of the user, where it is written
-first_user_place-is : (found : UserFound) (place : List ℕ) → Contains (first_user_place found) place → place ≡ user_place
-first_user_place-is NoUser place member = sym (elim (Contains-cons_cases user_place [] place member) [ inl is ↦ is | inr later ↦ absurd (omega (arith, later.1)) ])
-first_user_place-is (User id) place member = absurd (omega (arith, member.1))
-first_user_place-is BadUser place member = absurd (omega (arith, member.1))
+-- a path at none of these places
+abbrev IsApart : List ℕ → List ℕ → List (List ℕ) → Type 0
+IsApart folder path places = (place : List ℕ) → Contains places place → path ≢ joined folder place
 
--- where such a step reads the refs in the same files, each reads the same
-heads-same : (folder : List ℕ) (set : Id) (rest : List (List ℕ)) (old one two : Files) → ((place : List ℕ) → Contains rest place → place ≡ user_place)
-    → OnlyChanges folder (ref_place side.Identities set ∷ rest) old one → OnlyChanges folder (ref_place side.Identities set ∷ rest) old two
-    → head_at one folder side.Identities set ≡ head_at two folder side.Identities set
-    → (of : Side) (id : Id) → head_at one folder of id ≡ head_at two folder of id
-heads-same folder set rest old one two is_user first second heads of id = elim (same_or_other path (joined folder (ref_place side.Identities set))) [
+apart_none : (folder path : List ℕ) → IsApart folder path []
+apart_none folder path place among = absurd (omega (arith, among.1))
+
+apart_more : (folder path place : List ℕ) (rest : List (List ℕ)) → path ≢ joined folder place → IsApart folder path rest → IsApart folder path (place ∷ rest)
+apart_more folder path place rest differ apart other among e = elim (Contains-cons_cases place rest other among) [
+  | inl is ↦ differ (e ∙ ap (joined folder) (sym is))
+  | inr later ↦ apart other later e
+]
+
+apart_one : (folder path place : List ℕ) → path ≢ joined folder place → IsApart folder path (place ∷ [])
+apart_one folder path place differ = apart_more folder path place [] differ (apart_none folder path)
+
+-- nor at that of the user, where it is written
+apart_first_user : (folder path : List ℕ) → path ≢ joined folder user_place → (found : UserFound) → IsApart folder path (first_user_place found)
+apart_first_user folder path differ NoUser = apart_one folder path user_place differ
+apart_first_user folder path differ (User id) = apart_none folder path
+apart_first_user folder path differ BadUser = apart_none folder path
+
+-- nor at those of the clocks
+apart_clocks : (folder path : List ℕ) → ((which : ClockFile) → path ≢ joined folder (clock_place which)) → IsApart folder path (clock_place file.BugsCreate ∷ clock_place file.BugsEdit ∷ [])
+apart_clocks folder path differ =
+    apart_more folder path (clock_place file.BugsCreate) (clock_place file.BugsEdit ∷ []) (differ file.BugsCreate) (apart_one folder path (clock_place file.BugsEdit) (differ file.BugsEdit))
+
+-- ---- what two steps leave
+
+-- two steps that change these places, and add objects
+module _ (folder : List ℕ) (places : List (List ℕ)) (old one two : Files) (first : OnlyChanges folder places old one) (second : OnlyChanges folder places old two) where
+  -- each other file reads the same
+  file-same : (path : List ℕ) → IsApart folder path places → (IsObjectFile folder path → ⊥) → one path ≡ two path
+  file-same path apart no_object = first.others path apart no_object ∙ sym (second.others path apart no_object)
+
+  user_file-same : IsApart folder (joined folder user_place) places → one (joined folder user_place) ≡ two (joined folder user_place)
+  user_file-same apart = file-same (joined folder user_place) apart (λ file. user-not_object folder file.name file.is)
+
+  clock-same : (which : ClockFile) → IsApart folder (joined folder (clock_place which)) places → clock_at one folder which ≡ clock_at two folder which
+  clock-same which apart = ap clock_in (file-same (joined folder (clock_place which)) apart (λ file. clock-not_object folder which file.name file.is))
+
+-- where they change one ref, and both leave the same in it, each ref reads the same
+heads-same : (folder : List ℕ) (set : Side) (id : Id) (rest : List (List ℕ)) (old one two : Files)
+    → ((of : Side) (other : Id) → IsApart folder (joined folder (ref_place of other)) rest)
+    → OnlyChanges folder (ref_place set id ∷ rest) old one → OnlyChanges folder (ref_place set id ∷ rest) old two
+    → head_at one folder set id ≡ head_at two folder set id
+    → (of : Side) (other : Id) → head_at one folder of other ≡ head_at two folder of other
+heads-same folder set id rest old one two no_ref first second heads of other = elim (same_or_other path (joined folder (ref_place set id))) [
   | inl same ↦ ap (λ (p : List ℕ). ref_of (one p)) same ∙ heads ∙ sym (ap (λ (p : List ℕ). ref_of (two p)) same)
-  | inr other ↦ ap ref_of (kept one first other ∙ sym (kept two second other))
+  | inr differ ↦
+      ap ref_of
+      (file-same folder (ref_place set id ∷ rest) old one two first second path (apart_more folder path (ref_place set id) rest differ (no_ref of other))
+      (λ file. ref-not_object folder of other file.name file.is))
 ]
   where
     path : List ℕ
-    path = joined folder (ref_place of id)
-
-    kept : (new : Files) → OnlyChanges folder (ref_place side.Identities set ∷ rest) old new → path ≢ joined folder (ref_place side.Identities set) → new path ≡ old path
-    kept new only other = only.others path
-        (λ place member e. elim (Contains-cons_cases (ref_place side.Identities set) rest place member) [
-          | inl is ↦ other (e ∙ ap (joined folder) (sym is))
-          | inr later ↦ ref-not_user folder of id (e ∙ ap (joined folder) (is_user place later))
-        ])
-        (λ file. ref-not_object folder of id file.name file.is)
+    path = joined folder (ref_place of other)
 
 -- ---- the user
 
@@ -67,43 +106,53 @@ users-same folder one two same heads = at_file (one (joined folder user_place)) 
     at_file None = refl
     at_file (Some text) = at_id (id_of (line_of text))
 
-user-kept : (folder : List ℕ) (set : Id) (old new : Files) → OnlyChanges folder (ref_place side.Identities set ∷ []) old new → new (joined folder user_place) ≡ old (joined folder user_place)
-user-kept folder set old new only = only.others (joined folder user_place)
-    (λ place member e. elim (Contains-cons_cases (ref_place side.Identities set) [] place member) [
-      | inl is ↦ ref-not_user folder side.Identities set (ap (joined folder) is ∙ sym e)
-      | inr later ↦ absurd (omega (arith, later.1))
-    ])
-    (λ file. user-not_object folder file.name file.is)
-
 -- ---- each command
 
--- the same id is told, each head reads the same, and the user is the same
+-- the same id is told, each head and each clock reads the same, and the user is the same
 pub record Same (folder : List ℕ) (one two : Files) (first second : Id) : Type 0 where
   pub told : first ≡ second
   pub heads : (of : Side) (id : Id) → head_at one folder of id ≡ head_at two folder of id
   pub user : user_at one folder ≡ user_at two folder
+  pub clocks : (which : ClockFile) → clock_at one folder which ≡ clock_at two folder which
 
 new-same : (env : Env) (name email : List ℕ) (old one two : Files) (first second : Id) → UserNewSteps env name email old one first → UserNewSteps env name email old two second
     → Same env.folder one two first second
 new-same env name email old one two first second here there = record {
   told = ids;
-  heads = heads-same env.folder first (first_user_place (user_at old env.folder)) old one two (first_user_place-is (user_at old env.folder)) here.only
-      (subst (λ (id : Id). OnlyChanges env.folder (ref_place side.Identities id ∷ first_user_place (user_at old env.folder)) old two) (sym ids) there.only)
+  heads = heads-same env.folder side.Identities first (first_user_place found) old one two
+      (λ of id. apart_first_user env.folder (joined env.folder (ref_place of id)) (ref-not_user env.folder of id) found) here.only only
       (here.head ∙ sym there.head ∙ ap (head_at two env.folder side.Identities) (sym ids));
-  user = here.user ∙ ap (first_user (user_at old env.folder)) ids ∙ sym there.user;
+  user = here.user ∙ ap (first_user found) ids ∙ sym there.user;
+  clocks = λ which. clock-same env.folder (ref_place side.Identities first ∷ first_user_place found) old one two here.only only which
+      (apart_more env.folder (joined env.folder (clock_place which)) (ref_place side.Identities first) (first_user_place found)
+      (λ e. ref-not_clock env.folder side.Identities first which (sym e))
+      (apart_first_user env.folder (joined env.folder (clock_place which)) (clock-not_user env.folder which) found));
 }
   where
+    found : UserFound
+    found = user_at old env.folder
+
     ids : first ≡ second
     ids = here.is_told ∙ sym there.is_told
+
+    only : OnlyChanges env.folder (ref_place side.Identities first ∷ first_user_place found) old two
+    only = subst (λ (id : Id). OnlyChanges env.folder (ref_place side.Identities id ∷ first_user_place found) old two) (sym ids) there.only
 
 edit-same : (env : Env) (name email : List ℕ) (old one two : Files) (first second : Id) → UserEditSteps env name email old one first → UserEditSteps env name email old two second
     → Same env.folder one two first second
 edit-same env name email old one two first second here there = record {
   told = here.is_told ∙ sym ids ∙ sym there.is_told;
   heads = heads;
-  user = users-same env.folder one two (user-kept env.folder here.user.id old one here.only ∙ sym (user-kept env.folder here.user.id old two only)) (heads side.Identities);
+  user = users-same env.folder one two
+      (user_file-same env.folder (place ∷ []) old one two here.only only
+      (apart_one env.folder (joined env.folder user_place) place (λ e. ref-not_user env.folder side.Identities here.user.id (sym e)))) (heads side.Identities);
+  clocks = λ which. clock-same env.folder (place ∷ []) old one two here.only only which
+      (apart_one env.folder (joined env.folder (clock_place which)) place (λ e. ref-not_clock env.folder side.Identities here.user.id which (sym e)));
 }
   where
+    place : List ℕ
+    place = ref_place side.Identities here.user.id
+
     ids : there.user.id ≡ here.user.id
     ids = user-same env.folder old there.user here.user.id here.user.is_user
 
@@ -111,17 +160,18 @@ edit-same env name email old one two first second here there = record {
     set = ap (head_at two env.folder side.Identities) (sym ids) ∙ there.head
         ∙ ap (λ (head : Name). Head (new_made env name email (Some head)).head) (user-head env.folder old there.user here.user.id here.user.head here.user.is_user here.user.has_head)
 
-    only : OnlyChanges env.folder (ref_place side.Identities here.user.id ∷ []) old two
+    only : OnlyChanges env.folder (place ∷ []) old two
     only = subst (λ (id : Id). OnlyChanges env.folder (ref_place side.Identities id ∷ []) old two) ids there.only
 
     heads : (of : Side) (id : Id) → head_at one env.folder of id ≡ head_at two env.folder of id
-    heads = heads-same env.folder here.user.id [] old one two (λ place member. absurd (omega (arith, member.1))) here.only only (here.head ∙ sym set)
+    heads = heads-same env.folder side.Identities here.user.id [] old one two (λ of id. apart_none env.folder (joined env.folder (ref_place of id))) here.only only (here.head ∙ sym set)
 
 set-same : (env : Env) (word : List ℕ) (old one two : Files) (first second : Id) → UserSetSteps env word old one first → UserSetSteps env word old two second → Same env.folder one two first second
 set-same env word old one two first second here there = record {
   told = ids;
   heads = λ of id. ap (λ (files : Files). head_at files env.folder of id) files;
   user = ap (λ (files : Files). user_at files env.folder) files;
+  clocks = λ which. ap (λ (files : Files). clock_at files env.folder which) files;
 }
   where
     ids : first ≡ second
@@ -130,8 +180,95 @@ set-same env word old one two first second here there = record {
     files : one ≡ two
     files = here.only ∙ ap (λ (id : Id). written old (user_write env.folder id)) ids ∙ sym there.only
 
--- two steps from one folder lead to the same files
+begins-same : (env : Env) (op : BugOp) (old one two : Files) (first second : Id) → BugBegins env op old one first → BugBegins env op old two second → Same env.folder one two first second
+begins-same env op old one two first second here there = record {
+  told = ids;
+  heads = heads;
+  user = users-same env.folder one two
+      (user_file-same env.folder (ref_place side.Bugs first ∷ clocks) old one two here.only only
+      (apart_more env.folder (joined env.folder user_place) (ref_place side.Bugs first) clocks (λ e. ref-not_user env.folder side.Bugs first (sym e))
+      (apart_clocks env.folder (joined env.folder user_place) (λ which e. clock-not_user env.folder which (sym e))))) (heads side.Identities);
+  clocks = clocks-same;
+}
+  where
+    clocks : List (List ℕ)
+    clocks = clock_place file.BugsCreate ∷ clock_place file.BugsEdit ∷ []
+
+    ids : first ≡ second
+    ids = here.is_told ∙ sym there.is_told
+
+    only : OnlyChanges env.folder (ref_place side.Bugs first ∷ clocks) old two
+    only = subst (λ (id : Id). OnlyChanges env.folder (ref_place side.Bugs id ∷ clocks) old two) (sym ids) there.only
+
+    set : head_at one env.folder side.Bugs first ≡ head_at two env.folder side.Bugs first
+    set = here.head ∙ ap (λ (user : Id). Head (addition_head env.now (root_addition env.folder old op user))) (one_user env.folder old here.user there.user here.is_user there.is_user)
+        ∙ sym there.head ∙ ap (head_at two env.folder side.Bugs) (sym ids)
+
+    heads : (of : Side) (id : Id) → head_at one env.folder of id ≡ head_at two env.folder of id
+    heads = heads-same env.folder side.Bugs first clocks old one two
+        (λ of id. apart_clocks env.folder (joined env.folder (ref_place of id)) (ref-not_clock env.folder of id)) here.only only set
+
+    clocks-same : (which : ClockFile) → clock_at one env.folder which ≡ clock_at two env.folder which
+    clocks-same file.BugsCreate = here.create_clock ∙ sym there.create_clock
+    clocks-same file.BugsEdit = here.edit_clock ∙ sym there.edit_clock
+
+grows-same : (env : Env) (word : List ℕ) (op : BugOp) (old one two : Files) (first second : Id) → BugGrows env word op old one first → BugGrows env word op old two second
+    → Same env.folder one two first second
+grows-same env word op old one two first second here there = record {
+  told = here.is_told ∙ sym there.is_told;
+  heads = heads;
+  user = users-same env.folder one two
+      (user_file-same env.folder (place ∷ clock_place file.BugsEdit ∷ []) old one two here.only only
+      (apart_more env.folder (joined env.folder user_place) place (clock_place file.BugsEdit ∷ []) (λ e. ref-not_user env.folder side.Bugs bug.id (sym e))
+      (apart_one env.folder (joined env.folder user_place) (clock_place file.BugsEdit) (λ e. clock-not_user env.folder file.BugsEdit (sym e))))) (heads side.Identities);
+  clocks = clocks-same;
+}
+  where
+    bug : HeadEntry
+    bug = here.bug.bug
+
+    place : List ℕ
+    place = ref_place side.Bugs bug.id
+
+    bugs : (there.bug.bug ≡ bug) × (there.bug.entity ≡ here.bug.entity)
+    bugs = bug_one env.folder old word there.bug here.bug
+
+    edits : there.bug.entity.edit ≡ here.bug.entity.edit
+    edits = ap (λ (entity : Entity BugOp). entity.edit) bugs.1
+
+    only : OnlyChanges env.folder (place ∷ clock_place file.BugsEdit ∷ []) old two
+    only = subst (λ (b : HeadEntry). OnlyChanges env.folder (ref_place side.Bugs b.id ∷ clock_place file.BugsEdit ∷ []) old two) bugs.0 there.only
+
+    -- the head that is made for a user, a bug and its edit clock
+    made : Id → HeadEntry → ℕ → Name
+    made user b edit = addition_head env.now (later_addition env.folder old op user b edit)
+
+    heads-made : made there.user there.bug.bug there.bug.entity.edit ≡ made here.user bug here.bug.entity.edit
+    heads-made = ap (λ (user : Id). made user there.bug.bug there.bug.entity.edit) (one_user env.folder old there.user here.user there.is_user here.is_user)
+        ∙ ap (λ (b : HeadEntry). made here.user b there.bug.entity.edit) bugs.0 ∙ ap (made here.user bug) edits
+
+    set : head_at one env.folder side.Bugs bug.id ≡ head_at two env.folder side.Bugs bug.id
+    set = here.head ∙ ap Head (sym heads-made) ∙ sym there.head ∙ ap (λ (b : HeadEntry). head_at two env.folder side.Bugs b.id) bugs.0
+
+    heads : (of : Side) (id : Id) → head_at one env.folder of id ≡ head_at two env.folder of id
+    heads = heads-same env.folder side.Bugs bug.id (clock_place file.BugsEdit ∷ []) old one two
+        (λ of id. apart_one env.folder (joined env.folder (ref_place of id)) (clock_place file.BugsEdit) (ref-not_clock env.folder of id file.BugsEdit)) here.only only set
+
+    clocks-same : (which : ClockFile) → clock_at one env.folder which ≡ clock_at two env.folder which
+    clocks-same file.BugsCreate =
+        clock-same env.folder (place ∷ clock_place file.BugsEdit ∷ []) old one two here.only only file.BugsCreate
+        (apart_more env.folder (joined env.folder (clock_place file.BugsCreate)) place (clock_place file.BugsEdit ∷ []) (λ e. ref-not_clock env.folder side.Bugs bug.id file.BugsCreate (sym e))
+        (apart_one env.folder (joined env.folder (clock_place file.BugsCreate)) (clock_place file.BugsEdit) (clock-other env.folder file.BugsCreate file.BugsEdit (λ e. cc))))
+    clocks-same file.BugsEdit =
+        here.edit_clock
+        ∙ ap (λ (edit : ℕ). seen_by (clock_at old env.folder file.BugsEdit) (edit_time_of (clock_at old env.folder file.BugsEdit) edit)) (sym edits)
+        ∙ sym there.edit_clock
+
+-- two steps from the same files leave and tell the same
 pub steps-same : (env : Env) (command : Edit) (old one two : Files) (first second : Id) → Steps env command old one first → Steps env command old two second → Same env.folder one two first second
 steps-same env (edit.UserNew name email) old one two first second here there = new-same env name email old one two first second here there
 steps-same env (edit.UserEdit name email) old one two first second here there = edit-same env name email old one two first second here there
 steps-same env (edit.UserSet word) old one two first second here there = set-same env word old one two first second here there
+steps-same env (edit.New title message) old one two first second here there = begins-same env (create_op env title message) old one two first second here there
+steps-same env (edit.Comment bug message) old one two first second here there = grows-same env bug (comment_op env message) old one two first second here there
+steps-same env (edit.Noop bug) old one two first second here there = grows-same env bug (noop_op env) old one two first second here there

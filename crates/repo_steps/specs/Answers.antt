@@ -7,7 +7,7 @@ use Rattle.repo_state.specs.declared.refusal.Refusal.TheVariants as refusal
 use Rattle.repo_state.specs.declared.refusal.Stop.{Stop}
 use Rattle.repo_state.specs.declared.refusal.Stop.TheVariants as stop
 use Rattle.repo_steps.specs.Checks.{AllPass, FirstFails}
-use Rattle.repo_steps.specs.Doings.{Doing}
+use Rattle.repo_steps.specs.Doing.{Doing}
 use Rattle.repo_steps.specs.declared.edit.Plan.{Plan}
 
 -- the answer to what a command is to write

@@ -1,6 +1,9 @@
 pub mod Answers
+pub mod BugDoings
 pub mod Checks
+pub mod Doing
 pub mod Doings
 pub mod Kept
 pub mod Kinds
+pub mod PeopleDoings
 pub mod Steps

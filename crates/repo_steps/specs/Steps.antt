@@ -12,11 +12,23 @@ use Rattle.ref_store.specs.Refs.{Head}
 use Rattle.identity.specs.Extending.{IsLonger}
 use Rattle.identity.specs.Version.{written_version}
 use Rattle.identity.specs.declared.version.Version.{Version}
+use Rattle.lamport.specs.Clock.{edit_time_of, root_time_of, seen_by}
+use Rattle.bug_ops.specs.Kind.{bug_kind}
+use Rattle.bug_ops.specs.declared.op.BugOp.{BugOp}
+use Rattle.dag_entity.specs.Appending.{appended_node}
+use Rattle.dag_entity.specs.Extending.{begun, extended}
+use Rattle.dag_entity.specs.declared.entity.Entity.{Entity}
+use Rattle.repo_state.specs.Bugs.{IsBug}
+use Rattle.repo_state.specs.Clocks.{clock_at, clock_place}
 use Rattle.repo_state.specs.Sides.{has_ref, head_at, ref_place}
 use Rattle.repo_state.specs.Users.{UserFound, BadUser, NoUser, User, user_at, user_place, user_write}
+use Rattle.repo_state.specs.declared.clocks.ClockFile.TheVariants as file
 use Rattle.repo_state.specs.declared.env.Env.{Env}
 use Rattle.repo_state.specs.declared.side.Side.TheVariants as side
-use Rattle.repo_steps.specs.Doings.{HasUser, new_made, nonce_from}
+use Rattle.repo_steps.specs.BugDoings.{HasBug, addition_head, comment_op, create_op, later_addition, noop_op, op_id, root_addition}
+use Rattle.repo_steps.specs.Doing.{nonce_from}
+use Rattle.repo_steps.specs.PeopleDoings.{HasUser, new_made}
+use Rattle.repo_steps.specs.declared.edit.Addition.{Addition}
 use Rattle.repo_steps.specs.declared.edit.Edit.{Edit}
 use Rattle.repo_steps.specs.declared.edit.Edit.TheVariants as edit
 
@@ -73,8 +85,42 @@ pub record UserSetSteps (env : Env) (word : List ℕ) (old new : Files) (told : 
   pub user : user_at new env.folder ≡ User told
   pub only : new ≡ written old (user_write env.folder told)
 
+-- what the new bug is: its root alone, whose pack has the one operation
+abbrev pub begun_entity : Env → Addition → ℕ → Entity BugOp
+begun_entity env a create = begun a.bug (appended_node bug_kind a.parents a.pack env.now) create
+
+-- A new bug, which begins with this operation, by the user, with the clocks of a new root; both clocks of the folder have
+-- seen it. Its id, which is the operation's, is told.
+pub record BugBegins (env : Env) (op : BugOp) (old new : Files) (told : Id) : Type 0 where
+  pub user : Id
+  pub is_user : user_at old env.folder ≡ User user
+  pub is_told : told ≡ op_id op
+  pub fresh : has_ref old env.folder side.Bugs told ≡ false
+  pub head : head_at new env.folder side.Bugs told ≡ Head (addition_head env.now (root_addition env.folder old op user))
+  pub is : IsBug new env.folder (record { id = told; name = addition_head env.now (root_addition env.folder old op user) })
+      (begun_entity env (root_addition env.folder old op user) (root_time_of (clock_at old env.folder file.BugsCreate)))
+  pub edit_clock : clock_at new env.folder file.BugsEdit ≡ root_time_of (clock_at old env.folder file.BugsEdit)
+  pub create_clock : clock_at new env.folder file.BugsCreate ≡ root_time_of (clock_at old env.folder file.BugsCreate)
+  pub only : OnlyChanges env.folder (ref_place side.Bugs told ∷ clock_place file.BugsCreate ∷ clock_place file.BugsEdit ∷ []) old new
+
+-- The bug that the word names has one operation more, by the user, in a commit over its head, behind all others; the clock
+-- has seen it. The operation's id is told.
+pub record BugGrows (env : Env) (word : List ℕ) (op : BugOp) (old new : Files) (told : Id) : Type 0 where
+  pub user : Id
+  pub is_user : user_at old env.folder ≡ User user
+  pub bug : HasBug env.folder old word
+  pub is_told : told ≡ op_id op
+  pub head : head_at new env.folder side.Bugs bug.bug.id ≡ Head (addition_head env.now (later_addition env.folder old op user bug.bug bug.entity.edit))
+  pub is : IsBug new env.folder (record { id = bug.bug.id; name = addition_head env.now (later_addition env.folder old op user bug.bug bug.entity.edit) })
+      (extended bug.entity (appended_node bug_kind (bug.bug.name ∷ []) (later_addition env.folder old op user bug.bug bug.entity.edit).pack env.now))
+  pub edit_clock : clock_at new env.folder file.BugsEdit ≡ seen_by (clock_at old env.folder file.BugsEdit) (edit_time_of (clock_at old env.folder file.BugsEdit) bug.entity.edit)
+  pub only : OnlyChanges env.folder (ref_place side.Bugs bug.bug.id ∷ clock_place file.BugsEdit ∷ []) old new
+
 -- the step of a command, from the files before to those after, and the id that it tells
 abbrev pub Steps : Env → Edit → Files → Files → Id → Type 0
 Steps env (edit.UserNew name email) old new told = UserNewSteps env name email old new told
 Steps env (edit.UserEdit name email) old new told = UserEditSteps env name email old new told
 Steps env (edit.UserSet word) old new told = UserSetSteps env word old new told
+Steps env (edit.New title message) old new told = BugBegins env (create_op env title message) old new told
+Steps env (edit.Comment bug message) old new told = BugGrows env bug (comment_op env message) old new told
+Steps env (edit.Noop bug) old new told = BugGrows env bug (noop_op env) old new told

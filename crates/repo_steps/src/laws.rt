@@ -1,6 +1,6 @@
 //! Laws of the commands that edit, and of the kinds of write, each the contract of a function that
 //! does nothing.
-ghost use Rattle.std.specs.Prelude.{◌≡◌, ◌++◌, false, true, List, ℕ, Result, reverse};
+ghost use Rattle.std.specs.Prelude.{◌≡◌, ◌≤◌, [], ◌∷◌, ◌++◌, false, true, List, ℕ, Result, reverse};
 ghost use Rattle.gb_text.specs.Digits.{IsId};
 ghost use Rattle.gb_text.specs.Folder.{is_rooted, joined};
 ghost use Rattle.gb_text.specs.Overlap.{Overlap};
@@ -12,11 +12,14 @@ ghost use Rattle.gb_store.specs.declared.store.Change.{Change};
 ghost use Rattle.object_store.specs.Growth.{OnlyGrew};
 ghost use Rattle.object_store.specs.Held.{objects_in};
 ghost use Rattle.commit_chain.specs.Chain.{Meets};
+ghost use Rattle.commit_walk.specs.Below.{IsBelow};
 ghost use Rattle.ref_store.specs.Refs.{Head};
+ghost use Rattle.repo_state.specs.Clocks.{clock_at};
 ghost use Rattle.repo_state.specs.Sides.{head_at};
 ghost use Rattle.repo_state.specs.Sound.{IsSound, KeepsParts};
 ghost use Rattle.repo_state.specs.Stops.{number_of};
 ghost use Rattle.repo_state.specs.Users.{user_at};
+ghost use Rattle.repo_state.specs.declared.clocks.ClockFile.{ClockFile as ClockFileValue};
 ghost use Rattle.repo_state.specs.declared.env.Env.{Env as EnvValue};
 ghost use Rattle.repo_state.specs.declared.refusal.Refusal.{Refusal as RefusalValue};
 ghost use Rattle.repo_state.specs.declared.refusal.Refusal.TheVariants as refusal;
@@ -54,8 +57,8 @@ pub fn writes_keep_folders_sound()
         → IsSound folder (files_of old) → AllMoments (IsSound folder) old new }
 {}
 
-/// A write loses nothing: objects are only added, and below the head of an identity stands what stood
-/// there before it.
+/// A write loses nothing: objects are only added, below the head of an identity or of a bug stands
+/// what stood there before it, and no clock falls.
 pub fn writes_lose_nothing()
     ensures objects { (folder : List ℕ) (files : Files) (change : Change)
         → IsWrite folder files change
@@ -65,6 +68,15 @@ pub fn writes_lose_nothing()
         → (id : Id) → IsId id → (head : Name) → head_at files folder side.Identities id ≡ Head head
         → (later : Name) × (head_at (written files change) folder side.Identities id ≡ Head later)
         × Meets (objects_in (written files change) folder) later head }
+    ensures bugs { (folder : List ℕ) (files : Files) (change : Change)
+        → IsWrite folder files change
+        → (id : Id) → IsId id → (head : Name) → head_at files folder side.Bugs id ≡ Head head
+        → (later : Name) × (head_at (written files change) folder side.Bugs id ≡ Head later)
+        × IsBelow (objects_in (written files change) folder) (later ∷ []) head }
+    ensures clocks { (folder : List ℕ) (files : Files) (change : Change)
+        → IsWrite folder files change
+        → (which : ClockFileValue)
+        → clock_at files folder which ≤ clock_at (written files change) folder which }
 {}
 
 /// What is written by kinds loses nothing of its folder, wherever it stops; and calls that lose
@@ -86,8 +98,8 @@ pub fn folders_apart_stay_sound()
         → AllMoments (LosesNothing folder (files_of old)) old new }
 {}
 
-/// A write is of an object, a ref or the user below its folder. No such place begins with a slash or
-/// holds a dot, so none leaves the folder by a part `..`.
+/// A write is of an object, a ref, the user or a clock below its folder. No such place begins with a
+/// slash or holds a dot, so none leaves the folder by a part `..`.
 pub fn writes_stay_below_their_folder()
     ensures below { (folder : List ℕ) (files : Files) (change : Change)
         → IsWrite folder files change
@@ -114,8 +126,8 @@ pub fn sound_folders_are_not_damaged()
         → IsSound env.folder (files_of old) → Refused env command old (refusal.Damaged path) → ⊥ }
 {}
 
-/// From the same files, every step of a command tells the same id, and after it each head reads the
-/// same and the user is the same.
+/// From the same files, every step of a command tells the same id, and after it each head and each
+/// clock reads the same and the user is the same.
 pub fn steps_are_determined()
     ensures told { (env : EnvValue) (command : EditValue) (old one two : Files) (first second : Id)
         → Steps env command old one first → Steps env command old two second → first ≡ second }
@@ -125,4 +137,9 @@ pub fn steps_are_determined()
     ensures user { (env : EnvValue) (command : EditValue) (old one two : Files) (first second : Id)
         → Steps env command old one first → Steps env command old two second
         → user_at one env.folder ≡ user_at two env.folder }
+    ensures clocks { (env : EnvValue) (command : EditValue) (old one two : Files)
+        (first second : Id)
+        → Steps env command old one first → Steps env command old two second
+        → (which : ClockFileValue)
+        → clock_at one env.folder which ≡ clock_at two env.folder which }
 {}

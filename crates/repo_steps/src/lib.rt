@@ -4,7 +4,7 @@
 mod edit;
 mod laws;
 
-pub use edit::{Edit, Plan};
+pub use edit::{Addition, Edit, Plan};
 pub use laws::{
     calls_lose_nothing, done_edits_make_their_step, edits_write_by_kinds, folders_apart_stay_sound,
     refusals_are_determined, sound_folders_are_not_damaged, steps_are_determined,

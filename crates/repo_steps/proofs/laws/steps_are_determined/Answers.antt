@@ -9,3 +9,6 @@ returns-clause-heads c = λ env command old one two first second here there. (st
 
 pub returns-clause-user : goal.returns-clause-user
 returns-clause-user c = λ env command old one two first second here there. (steps-same env command old one two first second here there).user
+
+pub returns-clause-clocks : goal.returns-clause-clocks
+returns-clause-clocks c = λ env command old one two first second here there. (steps-same env command old one two first second here there).clocks

@@ -1,0 +1,244 @@
+-- What each command on bugs does: when it is refused, what it writes, and the id that it tells.
+use Rattle.std.specs.Prelude.{◌≡◌, ◌≤◌, ◌+◌, ℕ, List, [], ◌∷◌, ◌++◌, length, flat_map, Contains, Option, Some, None, option_and_then, if◌then◌else◌}
+use Rattle.std.specs.List.{repeat}
+use Rattle.std.specs.Option.{option_map}
+use Rattle.gb_text.specs.Folder.{joined}
+use Rattle.gb_text.specs.Rules.{is_message_text, is_title_text}
+use Rattle.gb_text.specs.declared.decimal.TheConstants.{LIMIT}
+use Rattle.gb_text.specs.declared.id.Id.{Id}
+use Rattle.gb_text.specs.declared.id.Name.{Name}
+use Rattle.gb_store.specs.Files.{Files, History, files_of}
+use Rattle.gb_store.specs.declared.store.Change.{Change}
+use Rattle.object_store.specs.Held.{objects_in}
+use Rattle.object_batch.specs.Batches.{missing_writes}
+use Rattle.ref_store.specs.Setting.{ref_write}
+use Rattle.lamport.specs.Clock.{edit_time_of, root_time_of}
+use Rattle.op_kind.specs.declared.place.Common.{Common}
+use Rattle.op_kind.specs.declared.place.Place.{Place}
+use Rattle.op_kind.specs.declared.place.TheConstants.{VERSION}
+use Rattle.bug_ops.specs.Kind.{bug_kind}
+use Rattle.bug_ops.specs.declared.op.BugOp.{BugOp}
+use Rattle.bug_ops.specs.declared.op.BugOp.TheVariants.{AddComment, Create, NoOp}
+use Rattle.op_pack.specs.Packs.{hash_of}
+use Rattle.op_pack.specs.declared.pack.Pack.{Pack}
+use Rattle.commit_walk.specs.declared.below.TheConstants.{MOST_COMMITS}
+use Rattle.dag_entity.specs.Appending.{appended_name, appended_objects}
+use Rattle.dag_entity.specs.Nodes.{edit_at, ids_of}
+use Rattle.dag_entity.specs.declared.entity.Entity.{Entity}
+use Rattle.dag_entity.specs.declared.entity.Placed.{Placed}
+use Rattle.repo_state.specs.Bugs.{FindsBug, IsBug, IsDamagedBug}
+use Rattle.repo_state.specs.Clocks.{clock_at, see_writes}
+use Rattle.repo_state.specs.Sides.{found_by, head_at, ref_place}
+use Rattle.repo_state.specs.Users.{UserFound, BadUser, NoUser, User, entry_by, user_at}
+use Rattle.repo_state.specs.declared.clocks.ClockFile.TheVariants as file
+use Rattle.repo_state.specs.declared.env.Env.{Env}
+use Rattle.repo_state.specs.declared.refusal.Refusal.{Refusal}
+use Rattle.repo_state.specs.declared.refusal.Refusal.TheVariants as refusal
+use Rattle.repo_state.specs.declared.side.HeadEntry.{HeadEntry}
+use Rattle.repo_state.specs.declared.side.Side.TheVariants as side
+use Rattle.repo_steps.specs.Checks.{Check}
+use Rattle.repo_steps.specs.declared.edit.Addition.{Addition}
+use Rattle.repo_steps.specs.Doing.{Doing, words, user_file, some_user, sizes, fresh, names, found, nonce_from}
+
+-- ---- operations
+
+abbrev pub zero_id : Id
+zero_id = record { bytes = repeat 32 (0 ∷ []) }
+
+-- the place of an operation that is not written yet: where it will stand follows from what is written
+abbrev pub nowhere : Place
+nowhere = record { id = zero_id; author = zero_id; edit = 0; create = None }
+
+-- what an operation of a type has that a command makes: the moment, the nonce, and no metadata
+abbrev pub new_common : Env → ℕ → Common
+new_common env kind = record { place = nowhere; kind = kind; time = env.now; nonce = nonce_from env.seed; metadata = [] }
+
+-- the operation that begins a bug
+abbrev pub create_op : Env → List ℕ → List ℕ → BugOp
+create_op env title message = Create (new_common env 1) title message []
+
+-- a comment
+abbrev pub comment_op : Env → List ℕ → BugOp
+comment_op env message = AddComment (new_common env 3) message []
+
+-- an operation that changes nothing
+abbrev pub noop_op : Env → BugOp
+noop_op env = NoOp (new_common env 7)
+
+-- the id of an operation: the SHA-256 of its text
+abbrev pub op_id : BugOp → Id
+op_id op = hash_of (bug_kind.written op)
+
+-- a pack of one operation by an author, with these clocks
+abbrev pub one_op_pack : Id → ℕ → Option ℕ → BugOp → Pack BugOp
+one_op_pack author edit create op = record { id = zero_id; version = VERSION; edit = edit; create = create; author = author; ops = op ∷ [] }
+
+-- ---- words
+
+-- the place, counted from 1, of the first of a title and a message that is none
+abbrev pub bad_bug : List ℕ → List ℕ → Option ℕ
+bad_bug title message = if is_title_text title then (if is_message_text message then None else Some 2) else Some 1
+
+-- of a bug and a message
+abbrev pub bad_message : List ℕ → Option ℕ
+bad_message message = if is_message_text message then None else Some 2
+
+-- ---- what is added to a bug
+
+-- the texts of the objects of a commit that is added, if there is one
+abbrev pub addition_objects : ℕ → Option Addition → List (List ℕ)
+addition_objects now None = []
+addition_objects now (Some a) = appended_objects bug_kind a.parents a.pack now
+
+-- the commit's name
+abbrev pub addition_head : ℕ → Addition → Name
+addition_head now a = appended_name bug_kind a.parents a.pack now
+
+-- the writes of clocks that see those of a pack: `bugs-create` where the pack has a create clock, then `bugs-edit`
+abbrev pub create_writes : List ℕ → Files → Option ℕ → List Change
+create_writes folder files None = []
+create_writes folder files (Some create) = see_writes folder file.BugsCreate (clock_at files folder file.BugsCreate) create
+
+abbrev pub clock_writes : List ℕ → Files → Pack BugOp → List Change
+clock_writes folder files pack = create_writes folder files pack.create ++ see_writes folder file.BugsEdit (clock_at files folder file.BugsEdit) pack.edit
+
+-- the objects that don't stand yet, the head, and the clocks
+abbrev pub addition_writes : Env → Files → Option Addition → List Change
+addition_writes env files None = []
+addition_writes env files (Some a) =
+    missing_writes env.folder (addition_objects env.now (Some a)) files
+    ++ ref_write env.folder (ref_place side.Bugs a.bug) (addition_head env.now a) ∷ clock_writes env.folder files a.pack
+
+-- the user, if there is one
+abbrev pub some_id : UserFound → Option Id
+some_id NoUser = None
+some_id (User id) = Some id
+some_id BadUser = None
+
+-- a bug's root, by an author, with the clocks of a new root
+abbrev pub root_addition : List ℕ → Files → BugOp → Id → Addition
+root_addition folder files op author = record {
+  bug = op_id op;
+  parents = [];
+  pack = one_op_pack author (root_time_of (clock_at files folder file.BugsEdit)) (Some (root_time_of (clock_at files folder file.BugsCreate))) op;
+}
+
+-- a commit on a bug's head with this edit clock, by an author, with the clock of an edit
+abbrev pub later_addition : List ℕ → Files → BugOp → Id → HeadEntry → ℕ → Addition
+later_addition folder files op author bug edit = record {
+  bug = bug.id;
+  parents = bug.name ∷ [];
+  pack = one_op_pack author (edit_time_of (clock_at files folder file.BugsEdit) edit) None op;
+}
+
+-- the bug that a word finds, with its head, where its ref reads
+abbrev pub bug_entry : List ℕ → Files → List ℕ → Option HeadEntry
+bug_entry folder files word = option_and_then (λ (id : Id). entry_by id (head_at files folder side.Bugs id)) (found_by files folder side.Bugs word)
+
+-- what the user adds to the bug at a head that has an edit clock
+abbrev pub added_by : List ℕ → Files → BugOp → Id → HeadEntry → Option Addition
+added_by folder files op author bug = option_map (later_addition folder files op author bug) (edit_at (objects_in files folder) bug.name)
+
+-- what the user adds to the bug that a word finds
+abbrev pub later_by : List ℕ → Files → List ℕ → BugOp → Id → Option Addition
+later_by folder files word op author = option_and_then (added_by folder files op author) (bug_entry folder files word)
+
+-- ---- checks of a bug
+
+-- the bug that a word finds, with its entity, in which nothing is wrong
+pub record HasBug (folder : List ℕ) (files : Files) (word : List ℕ) : Type 0 where
+  pub bug : HeadEntry
+  pub finds : FindsBug files folder word bug
+  pub entity : Entity BugOp
+  pub is : IsBug files folder bug entity
+
+-- nothing is wrong with the bug that a word finds
+abbrev pub bug_reads : List ℕ → Files → List ℕ → Check
+bug_reads folder files word = record {
+  Fails = λ r. (id : Id) × (found_by files folder side.Bugs word ≡ Some id) × IsDamagedBug files folder id × (r ≡ refusal.Damaged (joined folder (ref_place side.Bugs id)));
+  Passes = HasBug folder files word;
+}
+
+-- nothing of this kind bars the bug that a word finds
+abbrev pub bug_check : (folder : List ℕ) (files : Files) (word : List ℕ) → (HasBug folder files word → Type 0) → (HasBug folder files word → Refusal) → Check
+bug_check folder files word Bars refusal = record {
+  Fails = λ r. (bug : HasBug folder files word) × Bars bug × (r ≡ refusal bug);
+  Passes = (bug : HasBug folder files word) × (Bars bug → ⊥);
+}
+
+-- an edit clock is left above that of its head
+abbrev pub clock_room : List ℕ → Files → List ℕ → Check
+clock_room folder files word = bug_check folder files word (λ bug. bug.entity.edit ≡ LIMIT) (λ bug. refusal.ClockFull bug.bug.name)
+
+-- it has room for one commit more
+abbrev pub commit_room : List ℕ → Files → List ℕ → Check
+commit_room folder files word = bug_check folder files word (λ bug. MOST_COMMITS ≤ length bug.entity.packs) (λ bug. refusal.TooLarge (MOST_COMMITS + 1))
+
+-- the ids of the operations of packs
+abbrev pub op_ids : List (Placed BugOp) → List Id
+op_ids packs = flat_map (λ (p : Placed BugOp). ids_of bug_kind p.pack) packs
+
+-- it does not have the operation yet
+abbrev pub new_operation : List ℕ → Files → List ℕ → BugOp → Check
+new_operation folder files word op =
+    bug_check folder files word (λ bug. Contains (op_ids bug.entity.packs) (op_id op)) (λ bug. refusal.RepeatedOperation (op_id op))
+
+-- ---- the commands
+
+-- the operation keeps the rules of bugs' operations
+abbrev pub MayWriteOp : BugOp → Type 0
+MayWriteOp op = bug_kind.KeepsRules op
+
+-- a bug that begins with this operation, by the user
+abbrev pub begun_bug : Env → Option ℕ → BugOp → History → Doing
+begun_bug env bad op old =
+    let files = files_of old in
+    let addition = option_map (root_addition env.folder files op) (some_id (user_at files env.folder)) in
+    let objects = addition_objects env.now addition in
+    record {
+      bad_word = bad;
+      checks =
+          words bad (MayWriteOp op) ∷
+          user_file env.folder files ∷
+          some_user env.folder files ∷
+          sizes objects ∷
+          fresh env.folder files side.Bugs (op_id op) ∷
+          names env.folder objects old ∷ [];
+      writes = addition_writes env files addition;
+      told = Some (op_id op);
+    }
+
+-- one operation more of the bug that a word finds, by the user
+abbrev pub longer_bug : Env → Option ℕ → List ℕ → BugOp → History → Doing
+longer_bug env bad word op old =
+    let files = files_of old in
+    let addition = option_and_then (later_by env.folder files word op) (some_id (user_at files env.folder)) in
+    let objects = addition_objects env.now addition in
+    record {
+      bad_word = bad;
+      checks =
+          words bad (MayWriteOp op) ∷
+          user_file env.folder files ∷
+          some_user env.folder files ∷
+          found env.folder files side.Bugs word ∷
+          bug_reads env.folder files word ∷
+          clock_room env.folder files word ∷
+          commit_room env.folder files word ∷
+          sizes objects ∷
+          new_operation env.folder files word op ∷
+          names env.folder objects old ∷ [];
+      writes = addition_writes env files addition;
+      told = Some (op_id op);
+    }
+
+-- a new bug with a title and a message, which is its first comment
+abbrev pub new_bug : Env → List ℕ → List ℕ → History → Doing
+new_bug env title message old = begun_bug env (bad_bug title message) (create_op env title message) old
+
+-- a comment
+abbrev pub commented_bug : Env → List ℕ → List ℕ → History → Doing
+commented_bug env word message old = longer_bug env (bad_message message) word (comment_op env message) old
+
+-- an operation that changes nothing of what the bug says
+abbrev pub touched_bug : Env → List ℕ → History → Doing
+touched_bug env word old = longer_bug env None word (noop_op env) old

@@ -1,0 +1,69 @@
+-- What a command that edits does, and the checks and values that several of them share.
+use Rattle.std.specs.Prelude.{◌≡◌, ◌+◌, ℕ, List, [], ◌∷◌, ◌++◌, All, false, IsTrue, Option, Some, None}
+use Rattle.sha2.specs.Sha256.{sha256}
+use Rattle.gb_text.specs.Folder.{joined}
+use Rattle.gb_text.specs.declared.id.Id.{Id}
+use Rattle.gb_text.specs.declared.id.Name.{Name}
+use Rattle.gb_store.specs.Files.{Files, History}
+use Rattle.gb_store.specs.declared.store.Change.{Change}
+use Rattle.object_store.specs.declared.read.TheConstants.{MOST_BYTES}
+use Rattle.object_batch.specs.Batches.{CannotHave, HasLong, MayBePut}
+use Rattle.object_store.specs.Texts.{IsShort}
+use Rattle.repo_state.specs.Sides.{found_by, has_ref}
+use Rattle.repo_state.specs.Users.{BadUser, NoUser, user_at, user_place}
+use Rattle.repo_state.specs.declared.refusal.Refusal.TheVariants as refusal
+use Rattle.repo_state.specs.declared.side.Side.{Side}
+use Rattle.repo_steps.specs.Checks.{Check}
+
+-- What a command does: the place of the first of its words that breaks its rule, its checks in their order, its writes in
+-- their order, and the id that it tells.
+pub record Doing : Type 1 where
+  pub bad_word : Option ℕ
+  pub checks : List Check
+  pub writes : List Change
+  pub told : Option Id
+
+-- ---- checks
+
+-- words that break no rule; then so much is known of them
+abbrev pub words : Option ℕ → Type 0 → Check
+words bad Known = record { Fails = λ r. (place : ℕ) × (bad ≡ Some place) × (r ≡ refusal.BadText place); Passes = (bad ≡ None) × Known }
+
+-- a user file that stands names a local identity
+abbrev pub user_file : List ℕ → Files → Check
+user_file folder files = record {
+  Fails = λ r. (user_at files folder ≡ BadUser) × (r ≡ refusal.Damaged (joined folder user_place));
+  Passes = user_at files folder ≡ BadUser → ⊥;
+}
+
+-- there is a user
+abbrev pub some_user : List ℕ → Files → Check
+some_user folder files = record { Fails = λ r. (user_at files folder ≡ NoUser) × (r ≡ refusal.NoUser); Passes = user_at files folder ≡ NoUser → ⊥ }
+
+-- no object is too large
+abbrev pub sizes : List (List ℕ) → Check
+sizes texts = record { Fails = λ r. HasLong texts × (r ≡ refusal.TooLarge (MOST_BYTES + 1)); Passes = All IsShort texts }
+
+-- no ref of this id stands
+abbrev pub fresh : List ℕ → Files → Side → Id → Check
+fresh folder files of id = record {
+  Fails = λ r. IsTrue (has_ref files folder of id) × (r ≡ refusal.EntityExists id);
+  Passes = has_ref files folder of id ≡ false;
+}
+
+-- no name of an object is taken by another text
+abbrev pub names : List ℕ → List (List ℕ) → History → Check
+names folder texts old = record { Fails = λ r. (name : Name) × CannotHave folder texts old name × (r ≡ refusal.NameTaken name); Passes = MayBePut folder texts old }
+
+-- the word finds an entity
+abbrev pub found : List ℕ → Files → Side → List ℕ → Check
+found folder files of word = record {
+  Fails = λ r. (found_by files folder of word ≡ None) × (r ≡ refusal.NotFound);
+  Passes = (id : Id) × (found_by files folder of word ≡ Some id);
+}
+
+-- ---- what is made
+
+-- the nonce of what a command makes: the SHA-256 of its seed and one zero byte
+abbrev pub nonce_from : List ℕ → List ℕ
+nonce_from seed = sha256 (seed ++ 0 ∷ [])

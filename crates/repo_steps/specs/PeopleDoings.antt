@@ -1,0 +1,151 @@
+-- What each command on people does: when it is refused, what it writes, and the id that it tells.
+use Rattle.std.specs.Prelude.{◌≡◌, ◌<◌, ◌⊎◌, ◌+◌, ℕ, List, [], ◌∷◌, ◌++◌, length, Option, Some, None, if◌then◌else◌}
+use Rattle.std.specs.Option.{option_map}
+use Rattle.gb_text.specs.Folder.{joined}
+use Rattle.gb_text.specs.Rules.{is_line_text, is_title_text}
+use Rattle.gb_text.specs.declared.id.Id.{Id}
+use Rattle.gb_text.specs.declared.id.Name.{Name}
+use Rattle.gb_store.specs.Files.{Files, History, files_of}
+use Rattle.gb_store.specs.declared.store.Change.{Change}
+use Rattle.object_store.specs.Held.{objects_in}
+use Rattle.commit_chain.specs.declared.chain.TheConstants.{MOST_COMMITS}
+use Rattle.object_batch.specs.Batches.{missing_writes}
+use Rattle.ref_store.specs.Refs.{Head, Bad}
+use Rattle.ref_store.specs.Setting.{ref_write}
+use Rattle.identity.specs.Making.{made_of, version_objects}
+use Rattle.identity.specs.Persons.{IdentityFaultHolds, IsChain}
+use Rattle.identity.specs.Version.{MayBeWritten, version_text_of}
+use Rattle.identity.specs.declared.fault.IdentityFault.{IdentityFault}
+use Rattle.identity.specs.declared.making.Made.{Made}
+use Rattle.repo_state.specs.Sides.{found_by, head_at, ref_place}
+use Rattle.repo_state.specs.Users.{UserFound, BadUser, NoUser, User, user_at, user_entry, user_write}
+use Rattle.repo_state.specs.declared.env.Env.{Env}
+use Rattle.repo_state.specs.declared.refusal.Refusal.TheVariants as refusal
+use Rattle.repo_state.specs.declared.side.HeadEntry.{HeadEntry}
+use Rattle.repo_state.specs.declared.side.Side.TheVariants as side
+use Rattle.repo_steps.specs.Checks.{Check}
+use Rattle.repo_steps.specs.Doing.{Doing, words, user_file, some_user, sizes, fresh, names, found, nonce_from}
+
+-- ---- checks
+
+-- the place, counted from 1, of the first of a name, which is to be a title, and an email, which is to be a line, that is none
+abbrev pub bad_person : List ℕ → List ℕ → Option ℕ
+bad_person name email = if is_title_text name then (if is_line_text email then None else Some 2) else Some 1
+
+-- the user, whose head has a chain without a fault
+pub record HasUser (folder : List ℕ) (files : Files) : Type 0 where
+  pub id : Id
+  pub is_user : user_at files folder ≡ User id
+  pub head : Name
+  pub has_head : head_at files folder side.Identities id ≡ Head head
+  pub chain : IsChain (objects_in files folder) id head
+
+-- an identity's ref is no ref text, or the chain from its head has a fault
+abbrev pub HasBadChain : List ℕ → Files → Id → Type 0
+HasBadChain folder files id =
+    (head_at files folder side.Identities id ≡ Bad)
+    ⊎ ((head : Name) × (head_at files folder side.Identities id ≡ Head head) × (fault : IdentityFault) × IdentityFaultHolds (objects_in files folder) id head fault)
+
+-- the chain of the user has no fault
+abbrev pub user_chain : List ℕ → Files → Check
+user_chain folder files = record {
+  Fails = λ r. (id : Id) × (user_at files folder ≡ User id) × HasBadChain folder files id × (r ≡ refusal.Damaged (joined folder (ref_place side.Identities id)));
+  Passes = HasUser folder files;
+}
+
+-- it has room for one version more
+abbrev pub user_room : List ℕ → Files → Check
+user_room folder files = record {
+  Fails = λ r. (user : HasUser folder files) × (length user.chain.walk ≡ MOST_COMMITS) × (r ≡ refusal.TooLarge (MOST_COMMITS + 1));
+  Passes = (user : HasUser folder files) × (length user.chain.walk < MOST_COMMITS);
+}
+
+-- ---- versions
+
+-- the text of the version of a name and an email that a command makes
+abbrev pub new_text : Env → List ℕ → List ℕ → List ℕ
+new_text env name email = version_text_of name email (nonce_from env.seed) env.now
+
+-- what it makes of it
+abbrev pub new_made : Env → List ℕ → List ℕ → Option Name → Made
+new_made env name email parent = made_of (new_text env name email) parent env.now
+
+-- the texts of its objects
+abbrev pub new_objects : Env → List ℕ → List ℕ → Option Name → List (List ℕ)
+new_objects env name email parent = version_objects (new_text env name email) parent env.now
+
+-- the words of a version can be written
+abbrev pub MayWrite : Env → List ℕ → List ℕ → Type 0
+MayWrite env name email = MayBeWritten name email (nonce_from env.seed) env.now
+
+-- the objects of a version that don't stand yet, then its head
+abbrev pub version_writes : Env → List ℕ → List ℕ → Id → Option Name → Files → List Change
+version_writes env name email id parent files =
+    missing_writes env.folder (new_objects env name email parent) files
+    ++ ref_write env.folder (ref_place side.Identities id) (new_made env name email parent).head ∷ []
+
+-- behind the head of the user
+abbrev pub user_writes : Env → List ℕ → List ℕ → Files → Option HeadEntry → List Change
+user_writes env name email files None = []
+user_writes env name email files (Some user) = version_writes env name email user.id (Some user.name) files
+
+-- ---- the user file
+
+-- the user file, where there was no user
+abbrev pub first_user_write : List ℕ → UserFound → Id → List Change
+first_user_write folder NoUser id = user_write folder id ∷ []
+first_user_write folder (User other) id = []
+first_user_write folder BadUser id = []
+
+-- the write of the user, if there is one
+abbrev pub set_writes : List ℕ → Option Id → List Change
+set_writes folder None = []
+set_writes folder (Some id) = user_write folder id ∷ []
+
+-- ---- the commands
+
+-- a new identity of one version, which becomes the user where no user file stands
+abbrev pub new_user : Env → List ℕ → List ℕ → History → Doing
+new_user env name email old = record {
+  bad_word = bad_person name email;
+  checks =
+      words (bad_person name email) (MayWrite env name email) ∷
+      user_file env.folder (files_of old) ∷
+      sizes (new_objects env name email None) ∷
+      fresh env.folder (files_of old) side.Identities (new_made env name email None).id ∷
+      names env.folder (new_objects env name email None) old ∷ [];
+  writes =
+      version_writes env name email (new_made env name email None).id None (files_of old)
+      ++ first_user_write env.folder (user_at (files_of old) env.folder) (new_made env name email None).id;
+  told = Some (new_made env name email None).id;
+}
+
+-- a new version of the user, behind the others
+abbrev pub edited_user : Env → List ℕ → List ℕ → History → Doing
+edited_user env name email old =
+    let user = user_entry (files_of old) env.folder in
+    let parent = option_map (λ (e : HeadEntry). e.name) user in
+    record {
+      bad_word = bad_person name email;
+      checks =
+          words (bad_person name email) (MayWrite env name email) ∷
+          user_file env.folder (files_of old) ∷
+          some_user env.folder (files_of old) ∷
+          user_chain env.folder (files_of old) ∷
+          user_room env.folder (files_of old) ∷
+          sizes (new_objects env name email parent) ∷
+          names env.folder (new_objects env name email parent) old ∷ [];
+      writes = user_writes env name email (files_of old) user;
+      told = option_map (λ (e : HeadEntry). e.id) user;
+    }
+
+-- the identity that the word names becomes the user
+abbrev pub set_user : Env → List ℕ → History → Doing
+set_user env word old =
+    let id = found_by (files_of old) env.folder side.Identities word in
+    record {
+      bad_word = None;
+      checks = found env.folder (files_of old) side.Identities word ∷ [];
+      writes = set_writes env.folder id;
+      told = id;
+    }
