@@ -1,1 +1,5 @@
+pub mod GrowingLemmas
+pub mod OperationLemmas
+pub mod PlanBugLemmas
 pub mod PlanLemmas
+pub mod RepeatLemmas

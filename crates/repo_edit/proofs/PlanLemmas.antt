@@ -1,5 +1,5 @@
 -- What is read on the way to a plan decides the checks of a command.
-use Rattle.std.proofs.Common.{◌≡◌, ◌≤◌, ◌^◌, ◌-◌, ℕ, Bool, true, false, IsTrue, cond, IsUtf8, List, [], ◌∷◌, ◌++◌, All, Vec, Option, Some, None, Result, Ok, Err, inl, inr, refl, sym, ◌∙◌, ap, subst, arith}
+use Rattle.std.proofs.Common.{◌≡◌, ◌≤◌, ◌^◌, ◌-◌, ℕ, Bool, true, false, IsTrue, cond, IsUtf8, List, [], ◌∷◌, ◌++◌, All, reverse, Vec, Option, Some, None, Result, Ok, Err, inl, inr, refl, sym, ◌∙◌, ap, subst, arith}
 use Rattle.std.specs.Option.{option_map}
 use Rattle.std.specs.declared.alloc.Global.{Global}
 use Rattle.sha2.proofs.Facts256.{length-sha256}
@@ -7,6 +7,7 @@ use Rattle.gb_text.specs.Rules.{is_line_text, is_title_text}
 use Rattle.gb_text.specs.declared.id.Id.{Id}
 use Rattle.gb_text.specs.declared.id.Name.{Name}
 use Rattle.gb_store.specs.Files.{History, files_of}
+use Rattle.gb_store.specs.Moments.{WroteSome}
 use Rattle.gb_store.specs.declared.store.Change.{Change}
 use Rattle.object_store.specs.declared.fault.PutFault.{PutFault}
 use Rattle.object_store.specs.declared.fault.PutFault.TheVariants as fault
@@ -31,7 +32,10 @@ use Rattle.repo_state.specs.declared.side.HeadEntry.{HeadEntry}
 use Rattle.repo_state.specs.declared.side.Side.TheVariants as side
 use Rattle.identity.proofs.IdLemmas.{sha256-bytes}
 use Rattle.repo_steps.specs.Answers.{EditAnswers, Plans}
-use Rattle.repo_steps.specs.Doings.{Doing, HasUser, MayWrite, bad_person, edited_user, first_user_write, new_made, new_objects, new_text, new_user, nonce_from, user_writes, version_writes}
+use Rattle.repo_steps.specs.Doing.{Doing, nonce_from}
+use Rattle.repo_steps.specs.PeopleDoings.{HasUser, MayWrite, bad_person, edited_user, first_user_write, new_made, new_objects, new_text, new_user, user_writes, version_writes}
+use Rattle.repo_steps.specs.declared.edit.Plan.{Plan}
+use Rattle.repo_edit.specs.Carrying.{Carries}
 use Rattle.repo_edit.specs.Adding.{AddsVersion, first_write}
 use Rattle.repo_edit.specs.Room.{HasRoom}
 
@@ -41,22 +45,36 @@ not_planned doing old new stop.Memory same plan = inl same
 not_planned doing old new stop.Disk same plan = inl same
 not_planned doing old new (stop.Refused r) same plan = (plan, same)
 
+-- a plan whose writes are made answers as they were
+pub carried : (doing : Doing) (plan : Plan) (old mid new : History) (r : Result Id Stop) → mid ≡ old → Plans doing (Ok plan) → Carries plan mid new r → EditAnswers doing old new r
+carried doing plan old mid new (Ok id) same plans made = record {
+  may = plans.0;
+  writes = made.1 ∙ ap (λ (writes : List Change). reverse writes ++ mid) plans.1 ∙ ap (λ (h : History). reverse doing.writes ++ h) same;
+  told = plans.2 ∙ ap Some (sym made.0);
+}
+carried doing plan old mid new (Err stop.Memory) same plans made =
+    inr (plans.0, subst (λ (h : History). WroteSome doing.writes h new) same (subst (λ (writes : List Change). WroteSome writes mid new) plans.1 made))
+carried doing plan old mid new (Err stop.Disk) same plans made =
+    inr (plans.0, subst (λ (h : History). WroteSome doing.writes h new) same (subst (λ (writes : List Change). WroteSome writes mid new) plans.1 made))
+carried doing plan old mid new (Err (stop.Refused r)) same plans made = absurd made
+
 -- ---- words
 
 -- the nonce of a seed is one
-is_nonce : (seed : List ℕ) → IsNonce (nonce_from seed)
+pub is_nonce : (seed : List ℕ) → IsNonce (nonce_from seed)
 is_nonce seed =
     let sized = length-sha256 (seed ++ 0 ∷ []) in
     record { least = omega (arith, sized); most = omega (arith, sized); bytes = sha256-bytes (seed ++ 0 ∷ []) }
 
+-- where the first of two words that breaks its rule is none, both keep theirs
+pub both_good : (a b : Bool) → cond {A = Option ℕ} a (cond b None (Some 2)) (Some 1) ≡ None → (a ≡ true) × (b ≡ true)
+both_good true true e = (refl, refl)
+both_good true false e = absurd (cc)
+both_good false b e = absurd (cc)
+
 -- a name and an email that break no rule
 person_words : (name email : List ℕ) → bad_person name email ≡ None → IsTrue (is_title_text name) × IsTrue (is_line_text email)
-person_words name email e = each (is_title_text name) (is_line_text email) e
-  where
-    each : (a b : Bool) → cond {A = Option ℕ} a (cond b None (Some 2)) (Some 1) ≡ None → (a ≡ true) × (b ≡ true)
-    each true true e = (refl, refl)
-    each true false e = absurd (cc)
-    each false b e = absurd (cc)
+person_words name email e = both_good (is_title_text name) (is_line_text email) e
 
 module _ (env : Env) (name email : List ℕ) where
   -- the words of an edit

@@ -16,6 +16,7 @@ pub fn carry_out<S: Store>(alloc: Global, disk: &mut S, plan: &Plan) -> Result<I
     ensures answers { IsTrue S.tells
         → Carries plan.now (S.history disk.old) (S.history disk.new) result }
     ensures never_refused { NeverRefused result }
+    ensures reads { S.object_reads disk.new ≡ S.object_reads disk.old }
     ensures caused { KeepsFaults S.never_fails S.faults (IsErrOf result Stop.Disk)
         disk.old disk.new }
 {

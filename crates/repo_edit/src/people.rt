@@ -2,7 +2,7 @@
 ghost use Rattle.std.specs.Prelude.{◌≡◌, ◌≤◌, None, IsTrue, IsErrOf};
 ghost use Rattle.gb_store.specs.Faults.{KeepsFaults};
 ghost use Rattle.repo_steps.specs.Answers.{EditAnswers, KeepsToWords, Plans};
-ghost use Rattle.repo_steps.specs.Doings.{bad_person, doing_of, edited_user, new_user, set_user};
+ghost use Rattle.repo_steps.specs.PeopleDoings.{bad_person, edited_user, new_user, set_user};
 
 use crate::carry::carry_out;
 use crate::room::check_room;
@@ -11,32 +11,8 @@ use gb_store::Store;
 use gb_text::{Id, LIMIT, List};
 use identity::plan_version;
 use repo_state::{Env, Refusal, Side, Stop, find, stands, user, user_change, user_head};
-use repo_steps::{Edit, Plan};
+use repo_steps::Plan;
 use std::alloc::Global;
-
-/// Does what a command says, and answers the id that it tells.
-pub fn edit<S: Store>(alloc: Global, disk: &mut S, env: &Env, command: &Edit) -> Result<Id, Stop>
-    requires moment { env.now.now ≤ LIMIT }
-    ensures answers { IsTrue S.tells
-        → EditAnswers (doing_of env.entry.now command.now (S.history disk.old))
-        (S.history disk.old) (S.history disk.new) result }
-    ensures words { KeepsToWords
-        (doing_of env.entry.now command.now (S.history disk.old)).bad_word result }
-    ensures caused { KeepsFaults S.never_fails S.faults (IsErrOf result Stop.Disk)
-        disk.old disk.new }
-{
-    match command {
-        Edit::UserNew { name, email } => user_new(alloc, disk, env, name.as_str(), email.as_str()),
-        Edit::UserEdit { name, email } => user_edit(
-            alloc,
-            disk,
-            env,
-            name.as_str(),
-            email.as_str(),
-        ),
-        Edit::UserSet { id } => user_set(alloc, disk, env, id.as_str()),
-    }
-}
 
 /// Makes an identity with this name and email, and makes it the user where no user file stands.
 /// Answers its id. Refuses in this order: words (`BadText`, of a name that is no title or an email

@@ -3,7 +3,8 @@ ghost use Rattle.std.specs.Prelude.{◌≡◌, ◌++◌, None, IsTrue, IfOk, IsE
 ghost use Rattle.gb_store.specs.Faults.{KeepsFaults};
 ghost use Rattle.repo_state.specs.Users.{user_write};
 ghost use Rattle.repo_steps.specs.Answers.{KeepsToWords};
-ghost use Rattle.repo_steps.specs.Doings.{bad_person, nonce_from};
+ghost use Rattle.repo_steps.specs.Doing.{nonce_from};
+ghost use Rattle.repo_steps.specs.PeopleDoings.{bad_person};
 ghost use Rattle.repo_edit.specs.Adding.{AddsVersion, first_write};
 
 use gb_store::{Change, Store};

@@ -5,7 +5,7 @@ use Rattle.repo_state.specs.Stops.{stop_of_put}
 use Rattle.repo_state.specs.declared.refusal.Stop.{Stop}
 use Rattle.repo_state.specs.declared.side.HeadEntry.{HeadEntry}
 use Rattle.repo_steps.specs.Answers.{Plans}
-use Rattle.repo_steps.specs.Doings.{edited_user}
+use Rattle.repo_steps.specs.PeopleDoings.{edited_user}
 use Rattle.repo_steps.specs.declared.edit.Plan.{Plan}
 use Rattle.repo_edit.proofs.PlanLemmas.{edit_damaged, edit_full, edit_nobody, edit_planned, edit_refused, edit_taken, good_words, plan_at}
 use Rattle.repo_edit.proofs.people.plan_edited_user.Goals as goal

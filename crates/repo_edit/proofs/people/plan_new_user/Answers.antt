@@ -2,7 +2,7 @@ use Rattle.std.proofs.Common.{◌≡◌, ◌∙◌, None, Ok, Result, Err, sym, 
 use Rattle.repo_state.specs.Stops.{stop_of_put}
 use Rattle.repo_state.specs.declared.refusal.Stop.{Stop}
 use Rattle.repo_steps.specs.Answers.{Plans}
-use Rattle.repo_steps.specs.Doings.{new_user}
+use Rattle.repo_steps.specs.PeopleDoings.{new_user}
 use Rattle.repo_steps.specs.declared.edit.Plan.{Plan}
 use Rattle.repo_edit.proofs.PlanLemmas.{good_words, new_exists, new_planned, new_refused, new_taken, plan_at, user_damaged}
 use Rattle.repo_edit.proofs.people.plan_new_user.Goals as goal

@@ -2,7 +2,7 @@ use Rattle.std.proofs.Common.{◌≡◌, Result, Err, sym, subst, rules}
 use Rattle.gb_text.specs.declared.id.Id.{Id}
 use Rattle.repo_state.specs.declared.refusal.Stop.{Stop}
 use Rattle.repo_steps.specs.Answers.{EditAnswers}
-use Rattle.repo_steps.specs.Doings.{edited_user}
+use Rattle.repo_steps.specs.PeopleDoings.{edited_user}
 use Rattle.repo_edit.proofs.PlanLemmas.{not_planned}
 use Rattle.repo_edit.proofs.people.user_edit.Goals as goal
 

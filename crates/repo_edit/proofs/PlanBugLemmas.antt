@@ -1,0 +1,363 @@
+-- What is read on the way to the plan of an edit of a bug decides the checks of the command.
+use Rattle.std.proofs.Common.{◌≡◌, ◌≤◌, ◌<◌, ◌+◌, ℕ, Bool, true, false, List, [], ◌∷◌, ◌++◌, All, Contains, length, Vec, Option, Some, None, Result, Ok, Err, inl, inr, refl, sym, ◌∙◌, ap, subst, arith}
+use Rattle.std.specs.Prelude.{option_and_then}
+use Rattle.std.specs.List.{list_any}
+use Rattle.std.specs.Option.{option_map}
+use Rattle.std.specs.declared.alloc.Global.{Global}
+use Rattle.std.proofs.lemmas.List.{append_assoc}
+use Rattle.gb_text.specs.declared.decimal.TheConstants.{LIMIT}
+use Rattle.gb_text.specs.declared.id.Id.{Id}
+use Rattle.gb_text.specs.declared.id.Name.{Name}
+use Rattle.gb_store.specs.Files.{Files, History, files_of}
+use Rattle.gb_store.specs.declared.store.Change.{Change}
+use Rattle.object_store.specs.Held.{Objects, objects_in}
+use Rattle.object_store.specs.Texts.{IsShort}
+use Rattle.object_store.specs.declared.fault.PutFault.{PutFault}
+use Rattle.object_store.specs.declared.fault.PutFault.TheVariants as fault
+use Rattle.object_batch.specs.Batches.{CannotHave, HasLong, MayBePut, missing_writes}
+use Rattle.object_batch.proofs.ClashLemmas.{Contains-cons_cases}
+use Rattle.ref_store.specs.Setting.{ref_write}
+use Rattle.commit_walk.specs.declared.below.TheConstants.{MOST_COMMITS}
+use Rattle.lamport.specs.Clock.{edit_time_of, root_time_of}
+use Rattle.op_pack.specs.declared.pack.Pack.{Pack}
+use Rattle.bug_ops.specs.Kind.{bug_kind}
+use Rattle.bug_ops.specs.declared.op.BugOp.{BugOp}
+use Rattle.dag_entity.specs.Appending.{AppendPlanAnswers, append_plan, appended_name, appended_objects}
+use Rattle.dag_entity.specs.Entities.{IsGreatestEdit}
+use Rattle.dag_entity.specs.Nodes.{edit_at}
+use Rattle.dag_entity.specs.declared.appending.CommitPlan.{CommitPlan}
+use Rattle.dag_entity.specs.declared.entity.Placed.{Placed}
+use Rattle.repo_state.proofs.BugLemmas.{head_edit}
+use Rattle.repo_state.specs.Clocks.{clock_at, see_writes}
+use Rattle.repo_state.specs.Sides.{found_by, has_ref, head_at, ref_place}
+use Rattle.repo_state.specs.Stops.{stop_of_put}
+use Rattle.repo_state.specs.Users.{BadUser, NoUser, User, entry_by, user_at}
+use Rattle.repo_state.specs.declared.clocks.ClockFile.TheVariants as file
+use Rattle.repo_state.specs.declared.env.Env.{Env}
+use Rattle.repo_state.specs.declared.refusal.Refusal.{Refusal}
+use Rattle.repo_state.specs.declared.refusal.Refusal.TheVariants as refusal
+use Rattle.repo_state.specs.declared.refusal.Stop.{Stop}
+use Rattle.repo_state.specs.declared.refusal.Stop.TheVariants as stop
+use Rattle.repo_state.specs.declared.side.HeadEntry.{HeadEntry}
+use Rattle.repo_state.specs.declared.side.Side.TheVariants as side
+use Rattle.repo_steps.specs.Answers.{Plans}
+use Rattle.repo_steps.specs.BugDoings.{HasBug, MayWriteOp, added_by, addition_objects, addition_writes, begun_bug, bug_entry, later_addition, later_by, longer_bug, new_operation, one_op_pack, op_id, op_ids, root_addition, some_id}
+use Rattle.repo_steps.specs.Checks.{AllPass, Check, FirstFails}
+use Rattle.repo_steps.specs.Doing.{names, sizes}
+use Rattle.repo_steps.specs.declared.edit.Addition.{Addition}
+use Rattle.repo_steps.specs.declared.edit.Plan.{Plan}
+use Rattle.repo_edit.specs.Additions.{AddsCommit}
+use Rattle.repo_edit.specs.Growing.{AuthorAnswers, GrowingAnswers, GrownPlans, Grows, grown_checks, grown_objects, grown_writes, growing_checks, pack_has}
+use Rattle.repo_edit.specs.declared.growing.Growing.{Growing}
+use Rattle.repo_edit.proofs.RepeatLemmas.{repeats}
+
+-- the first of some checks that fails is the first of more
+pub more_fail : (checks more : List Check) (r : Refusal) → FirstFails checks r → FirstFails (checks ++ more) r
+more_fail [] more r h = absurd h
+more_fail (check ∷ checks) more r (inl fails) = inl fails
+more_fail (check ∷ checks) more r (inr (passes, later)) = inr (passes, more_fail checks more r later)
+
+-- ---- the commit that adds an operation to a bug
+
+module _ (env : Env) (g : Growing) (op : BugOp) (old : History) where
+  abbrev pack : Pack BugOp
+  pack = one_op_pack g.author g.edit None op
+
+  module _ (plan : CommitPlan) (plans : AppendPlanAnswers bug_kind (g.head.name ∷ []) pack env.now (Ok plan)) (id : Id) (is : id ≡ op_id op)
+      (b : Bool) (has : b ≡ list_any (pack_has id) g.packs) where
+    -- the bug has the operation
+    pub grown_repeated : b ≡ true → GrownPlans env g op old (Err (stop.Refused (refusal.RepeatedOperation id)))
+    grown_repeated stands = inr (plans.1, inl (subst (Contains (op_ids g.packs)) is ((repeats id g.packs b has).0 stands), ap refusal.RepeatedOperation is))
+
+    module _ (not : b ≡ false) (late : History) (later : late ≡ old) where
+      fresh : Contains (op_ids g.packs) (op_id op) → ⊥
+      fresh stands =
+          let found : b ≡ true = (repeats id g.packs b has).1 (subst (Contains (op_ids g.packs)) (sym is) stands) in
+          cc (sym not ∙ found)
+
+      -- of the plan's objects what is so is so of the commit's
+      planned : (P : List (List ℕ) → Type 0) → P plan.objects → P (grown_objects env g op)
+      planned P = subst (λ (p : CommitPlan). P p.objects) plans.0
+
+      -- an object is refused
+      pub grown_taken : (s : Stop) → AddsCommit env.folder g.head.id plan late (Err s) → GrownPlans env g op old (Err s)
+      grown_taken s adds = each s (subst (λ (h : History). AddsCommit env.folder g.head.id plan h (Err s)) later adds)
+        where
+          each : (s : Stop) → AddsCommit env.folder g.head.id plan old (Err s) → GrownPlans env g op old (Err s)
+          each stop.Memory h = tt
+          each stop.Disk h = tt
+          each (stop.Refused (refusal.TooLarge count)) h = inl (planned HasLong h.1, ap refusal.TooLarge h.0)
+          each (stop.Refused (refusal.NameTaken taken)) h = inr (plans.1, inr (fresh, inl (taken, planned (λ ts. CannotHave env.folder ts old taken) h, refl)))
+          each (stop.Refused _) h = absurd h
+
+      -- the plan
+      pub grown_planned : (added : Vec Change Global) (all : List Change) → AddsCommit env.folder g.head.id plan late (Ok added)
+          → all ≡ added.items ++ see_writes env.folder file.BugsEdit g.seen g.edit → GrownPlans env g op old (Ok (record { writes = all; id = id }))
+      grown_planned added all adds writes =
+          let here = subst (λ (h : History). AddsCommit env.folder g.head.id plan h (Ok added)) later adds in
+          let may = planned (λ ts. MayBePut env.folder ts old) here.0 in (
+            (plans.1, (fresh, (may, tt))),
+            writes
+                ∙ ap (λ (ws : List Change). ws ++ see_writes env.folder file.BugsEdit g.seen g.edit)
+                (here.1 ∙ ap (λ (p : CommitPlan). missing_writes env.folder p.objects (files_of old) ++ ref_write env.folder (ref_place side.Bugs g.head.id) p.head ∷ []) plans.0)
+                ∙ append_assoc (missing_writes env.folder (grown_objects env g op) (files_of old))
+                (ref_write env.folder (ref_place side.Bugs g.head.id) (appended_name bug_kind (g.head.name ∷ []) pack env.now) ∷ []) (see_writes env.folder file.BugsEdit g.seen g.edit),
+            sym is,
+          )
+
+-- ---- one operation more
+
+module _ (env : Env) (word : List ℕ) (op : BugOp) (old : History) (rules : MayWriteOp op) where
+  abbrev files : Files
+  files = files_of old
+
+  abbrev addition : Option Addition
+  addition = option_and_then (later_by env.folder files word op) (some_id (user_at files env.folder))
+
+  -- what is checked of what is added
+  abbrev making_checks : List Check
+  making_checks =
+      sizes (addition_objects env.now addition) ∷ new_operation env.folder files word op ∷ names env.folder (addition_objects env.now addition) old ∷ []
+
+  -- it can't be added to the bug
+  pub longer_barred : (s : Stop) → GrowingAnswers (files_of old) env.folder word (Err s) → Plans (longer_bug env None word op old) (Err s)
+  longer_barred stop.Memory h = tt
+  longer_barred stop.Disk h = tt
+  longer_barred (stop.Refused r) h = inr ((refl, rules), more_fail (growing_checks files env.folder word) making_checks r h)
+
+  module _ (g : Growing) (grows : Grows (files_of old) env.folder word g) where
+    -- what is added
+    abbrev grown : Addition
+    grown = record { bug = g.head.id; parents = g.head.name ∷ []; pack = one_op_pack g.author g.edit None op }
+
+    abbrev later_of : HeadEntry → ℕ → Option Addition
+    later_of head edit = Some (later_addition env.folder files op g.author head edit)
+
+    entry_is : bug_entry env.folder files word ≡ Some grows.bug.bug
+    entry_is =
+        ap (option_and_then (λ (id : Id). entry_by id (head_at files env.folder side.Bugs id))) grows.bug.finds.found
+        ∙ ap (entry_by grows.bug.bug.id) grows.bug.finds.head
+
+    edit_is : g.edit ≡ edit_time_of (clock_at files env.folder file.BugsEdit) grows.bug.entity.edit
+    edit_is = grows.is_edit ∙ ap (λ (seen : ℕ). edit_time_of seen grows.bug.entity.edit) grows.is_seen
+
+    addition_is : addition ≡ Some grown
+    addition_is =
+        ap (λ u. option_and_then (later_by env.folder files word op) (some_id u)) grows.is_user
+        ∙ ap (option_and_then (added_by env.folder files op g.author)) entry_is
+        ∙ ap (option_map (later_addition env.folder files op g.author grows.bug.bug)) (head_edit (objects_in files env.folder) grows.bug.bug.name grows.bug.entity.edit grows.bug.is.is.edit)
+        ∙ ap (λ (head : HeadEntry). later_of head grows.bug.entity.edit) grows.is_head
+        ∙ ap (λ (edit : ℕ). Some (record { bug = g.head.id; parents = g.head.name ∷ []; pack = one_op_pack g.author edit None op })) (sym edit_is)
+
+    objects_are : (P : List (List ℕ) → Type 0) → P (grown_objects env g op) → P (addition_objects env.now addition)
+    objects_are P = subst (λ (a : Option Addition). P (addition_objects env.now a)) (sym addition_is)
+
+    not_bad : user_at files env.folder ≡ BadUser → ⊥
+    not_bad e = cc (sym grows.is_user ∙ e)
+
+    some : user_at files env.folder ≡ NoUser → ⊥
+    some e = cc (sym grows.is_user ∙ e)
+
+    clock_left : grows.bug.entity.edit ≡ LIMIT → ⊥
+    clock_left full = omega (arith, grows.clock, full)
+
+    room_left : MOST_COMMITS ≤ length grows.bug.entity.packs → ⊥
+    room_left full = omega (arith, grows.room, full)
+
+    -- the operation is new to the bug as it is to its packs
+    repeats_bug : Contains (op_ids g.packs) (op_id op) → Contains (op_ids grows.bug.entity.packs) (op_id op)
+    repeats_bug = subst (λ (packs : List (Placed BugOp)). Contains (op_ids packs) (op_id op)) (sym grows.are_packs)
+
+    repeats_packs : Contains (op_ids grows.bug.entity.packs) (op_id op) → Contains (op_ids g.packs) (op_id op)
+    repeats_packs = subst (λ (packs : List (Placed BugOp)). Contains (op_ids packs) (op_id op)) grows.are_packs
+
+    -- the plan of the commit is that of the command
+    pub longer_planned : (r : Result Plan Stop) → GrownPlans env g op old r → Plans (longer_bug env None word op old) r
+    longer_planned (Err stop.Memory) h = tt
+    longer_planned (Err stop.Disk) h = tt
+    longer_planned (Err (stop.Refused r)) h =
+        inr (
+          (refl, rules),
+          inr (
+            not_bad,
+            inr (
+              some,
+              inr (
+                (grows.bug.bug.id, grows.bug.finds.found),
+                inr (
+                  grows.bug,
+                  inr (
+                    (grows.bug, clock_left),
+                    inr (
+                      (grows.bug, room_left),
+                      elim h [
+                        | inl long ↦ inl (objects_are HasLong long.0, long.1)
+                        | inr (short, rest) ↦ inr (
+                          objects_are (All IsShort) short,
+                          elim rest [
+                            | inl repeated ↦ inl (grows.bug, repeats_bug repeated.0, repeated.1)
+                            | inr (fresh, last) ↦ inr (
+                              (grows.bug, λ stands. fresh (repeats_packs stands)),
+                              elim last [
+                                | inl (name, cannot, is) ↦ inl (name, objects_are (λ ts. CannotHave env.folder ts old name) cannot, is)
+                                | inr none ↦ absurd none.1
+                              ],
+                            )
+                          ],
+                        )
+                      ],
+                    ),
+                  ),
+                ),
+              ),
+            ),
+          ),
+        )
+    longer_planned (Ok plan) h = (
+      (
+        (refl, rules),
+        (
+          not_bad,
+          (
+            some,
+            (
+              (grows.bug.bug.id, grows.bug.finds.found),
+              (
+                grows.bug,
+                (
+                  (grows.bug, clock_left),
+                  (
+                    (grows.bug, room_left),
+                    (objects_are (All IsShort) h.0.0, ((grows.bug, λ stands. h.0.1.0 (repeats_packs stands)), (objects_are (λ ts. MayBePut env.folder ts old) h.0.1.1.0, tt))),
+                  ),
+                ),
+              ),
+            ),
+          ),
+        ),
+      ),
+      h.1
+          ∙ ap (λ (seen : ℕ). missing_writes env.folder (grown_objects env g op) files
+          ++ ref_write env.folder (ref_place side.Bugs g.head.id) (appended_name bug_kind (g.head.name ∷ []) (one_op_pack g.author g.edit None op) env.now)
+          ∷ see_writes env.folder file.BugsEdit seen g.edit) grows.is_seen
+          ∙ ap (addition_writes env files) (sym addition_is),
+      ap Some h.2,
+    )
+
+-- ---- a new bug
+
+module _ (env : Env) (op : BugOp) (old : History) (rules : MayWriteOp op) where
+  -- there is no author
+  pub begun_nobody : (s : Stop) → AuthorAnswers (files_of old) env.folder (Err s) → Plans (begun_bug env None op old) (Err s)
+  begun_nobody stop.Memory h = tt
+  begun_nobody stop.Disk h = tt
+  begun_nobody (stop.Refused refusal.NoUser) none = inr ((refl, rules), inr ((λ e. cc (sym none ∙ e)), inl (none, refl)))
+  begun_nobody (stop.Refused (refusal.Damaged path)) h = inr ((refl, rules), inl (h.1, ap refusal.Damaged h.0))
+  begun_nobody (stop.Refused _) h = absurd h
+
+  module _ (author : Id) (is_user : user_at (files_of old) env.folder ≡ User author) (create edit : ℕ)
+      (is_create : create ≡ clock_at (files_of old) env.folder file.BugsCreate) (is_edit : edit ≡ clock_at (files_of old) env.folder file.BugsEdit) where
+    abbrev root_pack : Pack BugOp
+    root_pack = one_op_pack author (root_time_of edit) (Some (root_time_of create)) op
+
+    -- what is planned with the clocks of a root is what the command makes
+    pub packed_at : (r : Result CommitPlan PutFault) (later opened : ℕ) → later ≡ root_time_of edit → opened ≡ root_time_of create
+        → AppendPlanAnswers bug_kind [] (one_op_pack author later (Some opened) op) env.now r → AppendPlanAnswers bug_kind [] root_pack env.now r
+    packed_at r later opened is_later is_opened h =
+        subst (λ (n : ℕ). AppendPlanAnswers bug_kind [] (one_op_pack author (root_time_of edit) (Some n) op) env.now r) is_opened
+        (subst (λ (n : ℕ). AppendPlanAnswers bug_kind [] (one_op_pack author n (Some opened) op) env.now r) is_later h)
+
+    -- what is added
+    abbrev root : Addition
+    root = record { bug = op_id op; parents = []; pack = root_pack }
+
+    abbrev roots : Option Addition
+    roots = option_map (root_addition env.folder (files_of old) op) (some_id (user_at (files_of old) env.folder))
+
+    roots_are : roots ≡ Some root
+    roots_are =
+        ap (λ u. option_map (root_addition env.folder (files_of old) op) (some_id u)) is_user
+        ∙ ap (λ (clock : ℕ). Some (record { bug = op_id op; parents = []; pack = one_op_pack author (root_time_of clock) (Some (root_time_of (clock_at (files_of old) env.folder file.BugsCreate))) op })) (sym is_edit)
+        ∙ ap (λ (clock : ℕ). Some (record { bug = op_id op; parents = []; pack = one_op_pack author (root_time_of edit) (Some (root_time_of clock)) op })) (sym is_create)
+
+    root_objects : (P : List (List ℕ) → Type 0) → P (appended_objects bug_kind [] root_pack env.now) → P (addition_objects env.now roots)
+    root_objects P = subst (λ (a : Option Addition). P (addition_objects env.now a)) (sym roots_are)
+
+    sound : user_at (files_of old) env.folder ≡ BadUser → ⊥
+    sound e = cc (sym is_user ∙ e)
+
+    somebody : user_at (files_of old) env.folder ≡ NoUser → ⊥
+    somebody e = cc (sym is_user ∙ e)
+
+    -- an object is too large
+    pub begun_large : (f : PutFault) → AppendPlanAnswers bug_kind [] root_pack env.now (Err f) → Plans (begun_bug env None op old) (Err (stop_of_put f))
+    begun_large fault.Memory h = tt
+    begun_large fault.Disk h = absurd h
+    begun_large (fault.Large count) h = inr ((refl, rules), inr (sound, inr (somebody, inl (root_objects HasLong h.1, ap refusal.TooLarge h.0))))
+    begun_large (fault.Taken name) h = absurd h
+
+    module _ (plan : CommitPlan) (plans : AppendPlanAnswers bug_kind [] root_pack env.now (Ok plan)) (id : Id) (is : id ≡ op_id op) where
+      has_at : (b : Bool) → has_ref (files_of old) env.folder side.Bugs id ≡ b → has_ref (files_of old) env.folder side.Bugs (op_id op) ≡ b
+      has_at b = subst (λ (i : Id). has_ref (files_of old) env.folder side.Bugs i ≡ b) is
+
+      -- of the plan's objects what is so is so of the command's
+      from_plan : (P : List (List ℕ) → Type 0) → P plan.objects → P (addition_objects env.now roots)
+      from_plan P h = root_objects P (subst (λ (p : CommitPlan). P p.objects) plans.0 h)
+
+      -- the bug stands already
+      pub begun_exists : has_ref (files_of old) env.folder side.Bugs id ≡ true → Plans (begun_bug env None op old) (Err (stop.Refused (refusal.EntityExists id)))
+      begun_exists stands =
+          inr ((refl, rules), inr (sound, inr (somebody, inr (root_objects (All IsShort) plans.1, inl (has_at true stands, ap refusal.EntityExists is)))))
+
+      module _ (absent : has_ref (files_of old) env.folder side.Bugs id ≡ false) (late : History) (later : late ≡ old) where
+        -- an object is refused
+        pub begun_taken : (s : Stop) → AddsCommit env.folder id plan late (Err s) → Plans (begun_bug env None op old) (Err s)
+        begun_taken s adds = each s (subst (λ (h : History). AddsCommit env.folder id plan h (Err s)) later adds)
+          where
+            each : (s : Stop) → AddsCommit env.folder id plan old (Err s) → Plans (begun_bug env None op old) (Err s)
+            each stop.Memory h = tt
+            each stop.Disk h = tt
+            each (stop.Refused (refusal.TooLarge count)) h = inr ((refl, rules), inr (sound, inr (somebody, inl (from_plan HasLong h.1, ap refusal.TooLarge h.0))))
+            each (stop.Refused (refusal.NameTaken taken)) h =
+                inr ((refl, rules), inr (sound, inr (somebody, inr (root_objects (All IsShort) plans.1, inr (has_at false absent, inl (taken, from_plan (λ ts. CannotHave env.folder ts old taken) h, refl))))))
+            each (stop.Refused _) h = absurd h
+
+        -- what is written of it
+        here : (added : Vec Change Global) → AddsCommit env.folder id plan late (Ok added) → AddsCommit env.folder id plan old (Ok added)
+        here added = subst (λ (h : History). AddsCommit env.folder id plan h (Ok added)) later
+
+        abbrev missing : List Change
+        missing = missing_writes env.folder (appended_objects bug_kind [] root_pack env.now) (files_of old)
+
+        abbrev head : Change
+        head = ref_write env.folder (ref_place side.Bugs (op_id op)) (appended_name bug_kind [] root_pack env.now)
+
+        abbrev seen_create : List Change
+        seen_create = see_writes env.folder file.BugsCreate create (root_time_of create)
+
+        abbrev seen_edit : List Change
+        seen_edit = see_writes env.folder file.BugsEdit edit (root_time_of edit)
+
+        written : (added : Vec Change Global) → AddsCommit env.folder id plan late (Ok added) → added.items ≡ missing ++ head ∷ []
+        written added adds =
+            (here added adds).1
+            ∙ ap (λ (p : CommitPlan). missing_writes env.folder p.objects (files_of old) ++ ref_write env.folder (ref_place side.Bugs id) p.head ∷ []) plans.0
+            ∙ ap (λ (i : Id). missing ++ ref_write env.folder (ref_place side.Bugs i) (appended_name bug_kind [] root_pack env.now) ∷ []) is
+
+        joined : (missing ++ head ∷ []) ++ seen_create ++ seen_edit ≡ missing ++ head ∷ (seen_create ++ seen_edit)
+        joined = ap (λ (ws : List Change). ws ++ seen_edit) (append_assoc missing (head ∷ []) seen_create) ∙ append_assoc missing (head ∷ seen_create) seen_edit
+
+        clocks : (missing ++ head ∷ (seen_create ++ seen_edit)) ≡ addition_writes env (files_of old) (Some root)
+        clocks =
+            ap (λ (clock : ℕ). missing ++ head ∷ (see_writes env.folder file.BugsCreate clock (root_time_of create) ++ seen_edit)) is_create
+            ∙ ap (λ (clock : ℕ). missing ++ head ∷ (see_writes env.folder file.BugsCreate (clock_at (files_of old) env.folder file.BugsCreate) (root_time_of create) ++ see_writes env.folder file.BugsEdit clock (root_time_of edit))) is_edit
+
+        -- the plan
+        pub begun_planned : (added : Vec Change Global) (all : List Change) → AddsCommit env.folder id plan late (Ok added)
+            → all ≡ added.items ++ see_writes env.folder file.BugsCreate create (root_time_of create) ++ see_writes env.folder file.BugsEdit edit (root_time_of edit)
+            → Plans (begun_bug env None op old) (Ok (record { writes = all; id = id }))
+        begun_planned added all adds writes = (
+          ((refl, rules), (sound, (somebody, (root_objects (All IsShort) plans.1, (has_at false absent, (from_plan (λ ts. MayBePut env.folder ts old) (here added adds).0, tt)))))),
+          writes ∙ ap (λ (ws : List Change). ws ++ seen_create ++ seen_edit) (written added adds) ∙ joined ∙ clocks ∙ ap (addition_writes env (files_of old)) (sym roots_are),
+          ap Some (sym is),
+        )

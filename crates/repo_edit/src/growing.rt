@@ -1,0 +1,145 @@
+//! The bug that an edit adds to, and what bars it.
+ghost use Rattle.std.specs.Prelude.{◌≡◌, ◌↔◌, ◌≤◌, None, IfOk, IfSome, IsNone, IsTrue, IsErrOf};
+ghost use Rattle.std.specs.List.{list_any};
+ghost use Rattle.gb_store.specs.Faults.{KeepsFaults};
+ghost use Rattle.gb_store.specs.Files.{files_of};
+ghost use Rattle.lamport.specs.Clock.{edit_time_of};
+ghost use Rattle.op_pack.specs.Heads.{IsClock};
+ghost use Rattle.repo_steps.specs.Answers.{KeepsToWords};
+ghost use Rattle.repo_edit.specs.Growing.{AuthorAnswers, BeginningAnswers, GrowingAnswers, ReadsGrowing, RoomAnswers, pack_has};
+
+use bug_ops::BugOp;
+use commit_walk::MOST_COMMITS;
+use dag_entity::{Entity, Placed};
+use gb_store::Store;
+use gb_text::{Folder, Id, LIMIT, List};
+use lamport::Clock;
+use op_kind::OpKind;
+use repo_state::{ClockFile, HeadEntry, Refusal, Side, Stop, bug_at, clock, find_head, user};
+use std::alloc::Global;
+
+/// A bug that an edit can add to: the author of the edit, the bug's head and its packs, the clock of
+/// the folder, and the edit clock of what is added.
+#[derive(Drop)]
+pub struct Growing {
+    pub author: Id,
+    pub head: HeadEntry,
+    pub packs: List<Placed<BugOp>>,
+    pub seen: Clock,
+    pub edit: u64,
+}
+
+// The user, who is the author of what a command adds to a bug.
+fn edit_author<S: Store>(alloc: Global, disk: &mut S, folder: &Folder) -> Result<Id, Stop>
+    ensures answers { IsTrue S.tells
+        → AuthorAnswers (files_of (S.history disk.old)) folder.now result }
+    ensures words { KeepsToWords None result }
+    ensures unwritten { IsTrue S.tells → S.history disk.new ≡ S.history disk.old }
+    ensures reads { S.object_reads disk.new ≡ S.object_reads disk.old }
+    ensures caused { KeepsFaults S.never_fails S.faults (IsErrOf result Stop.Disk)
+        disk.old disk.new }
+{
+    user(alloc, disk, folder)?.ok_or(Stop::Refused(Refusal::NoUser))
+}
+
+/// What a new bug begins with: its author, and the clocks of the folder.
+#[derive(Clone, Copy, Debug, PartialEq, Eq)]
+pub struct Beginning {
+    pub author: Id,
+    pub create: Clock,
+    pub edit: Clock,
+}
+
+/// What a new bug of the user begins with.
+pub fn root_of<S: Store>(alloc: Global, disk: &mut S, folder: &Folder) -> Result<Beginning, Stop>
+    ensures answers { IsTrue S.tells
+        → BeginningAnswers (files_of (S.history disk.old)) folder.now result }
+    ensures words { KeepsToWords None result }
+    ensures unwritten { IsTrue S.tells → S.history disk.new ≡ S.history disk.old }
+    ensures reads { S.object_reads disk.new ≡ S.object_reads disk.old }
+    ensures caused { KeepsFaults S.never_fails S.faults (IsErrOf result Stop.Disk)
+        disk.old disk.new }
+{
+    let author = edit_author(alloc, disk, folder)?;
+    let create = clock(alloc, disk, folder, ClockFile::BugsCreate)?;
+    let edit = clock(alloc, disk, folder, ClockFile::BugsEdit)?;
+    Ok(Beginning {
+        author,
+        create,
+        edit,
+    })
+}
+
+/// The bug that a word finds, where an edit can add to it.
+pub fn growing_bug<S: Store>(
+    alloc: Global,
+    disk: &mut S,
+    folder: &Folder,
+    word: &str,
+) -> Result<Growing, Stop>
+    ensures answers { IsTrue S.tells
+        → GrowingAnswers (files_of (S.history disk.old)) folder.now word.now result }
+    ensures clock { IfOk result (λ bug. IsClock bug.edit) }
+    ensures words { KeepsToWords None result }
+    ensures unwritten { IsTrue S.tells → S.history disk.new ≡ S.history disk.old }
+    ensures reads { IsTrue S.tells
+        → ReadsGrowing (files_of (S.history disk.old)) folder.now word.now
+        (S.object_reads disk.old) (S.object_reads disk.new) result }
+    ensures caused { KeepsFaults S.never_fails S.faults (IsErrOf result Stop.Disk)
+        disk.old disk.new }
+{
+    let author = edit_author(alloc, disk, folder)?;
+    let head = find_head(alloc, disk, folder, &Side::Bugs, word)?;
+    let entity = bug_at(alloc, disk, folder, &head)?;
+    let seen = clock(alloc, disk, folder, ClockFile::BugsEdit)?;
+    let edit = room(seen, &head, entity.edit, entity.commits)?;
+    Ok(Growing {
+        author,
+        head,
+        packs: entity.packs,
+        seen,
+        edit,
+    })
+}
+
+// The edit clock of what is added to a bug whose head has this one and that has so many commits.
+fn room(seen: Clock, head: &HeadEntry, edit: u64, commits: u64) -> Result<u64, Stop>
+    ensures room { RoomAnswers seen head.now.name edit commits result }
+    ensures clock { IfOk result (λ edit. IsClock edit) }
+{
+    let Some(later) = later_clock(seen, edit) else {
+        return Err(Stop::Refused(Refusal::ClockFull(head.name)));
+    };
+    if commits >= MOST_COMMITS as u64 {
+        return Err(Stop::Refused(Refusal::TooLarge(MOST_COMMITS as u64 + 1)));
+    }
+    Ok(later)
+}
+
+// The clock of an edit on a head with this edit clock, where one is left above it.
+fn later_clock(clock: Clock, head: u64) -> Option<u64>
+    ensures value { IfSome result (λ edit. edit ≡ edit_time_of clock head) }
+    ensures is_clock { IfSome result (λ edit. IsClock edit) }
+    ensures full { IsNone result ↔ (LIMIT ≤ head) }
+{
+    if head < LIMIT {
+        clock.edit_time(head).ok()
+    } else {
+        None
+    }
+}
+
+/// Whether packs have an operation of this id.
+pub fn has_operation(packs: &[Placed<BugOp>], id: &Id) -> bool
+    ensures { result ≡ list_any (pack_has id.now) packs.now }
+{
+    packs.iter().any(|placed| pack_has(placed, id))
+}
+
+// Whether the pack of a commit has one.
+fn pack_has(placed: &Placed<BugOp>, id: &Id) -> bool
+    ensures { result ≡ pack_has id.now placed.now }
+{
+    let ops = placed.pack.ops.as_slice();
+    ops.iter().any(|op| op.common().place.id == *id)
+}

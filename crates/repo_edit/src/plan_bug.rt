@@ -1,0 +1,127 @@
+//! What an edit of a bug is to write.
+ghost use Rattle.std.specs.Prelude.{◌≡◌, ◌≤◌, ◌+◌, None, IsTrue, IsErrOf};
+ghost use Rattle.gb_store.specs.Faults.{KeepsFaults};
+ghost use Rattle.gb_store.specs.Files.{files_of};
+ghost use Rattle.op_pack.specs.Heads.{IsClock};
+ghost use Rattle.repo_steps.specs.Answers.{KeepsToWords, Plans};
+ghost use Rattle.repo_steps.specs.BugDoings.{MayWriteOp, begun_bug, longer_bug};
+ghost use Rattle.repo_edit.specs.Growing.{Begins, GrownPlans};
+ghost use Rattle.repo_edit.specs.Reads.{ReadsEdit};
+
+use crate::addition::{commit_writes, plan_commit, with_clock, with_root_clocks};
+use crate::growing::{Beginning, Growing, growing_bug, has_operation, root_of};
+use crate::operation::op_id;
+use bug_ops::BugOp;
+use gb_store::Store;
+use gb_text::{Id, LIMIT, List};
+use repo_state::{ClockFile, Env, Refusal, Side, Stop, stands};
+use repo_steps::Plan;
+use std::alloc::Global;
+
+/// What a command writes that begins a bug with an operation.
+pub fn plan_begun<S: Store>(alloc: Global, disk: &mut S, env: &Env, op: BugOp) -> Result<Plan, Stop>
+    requires moment { env.now.now ≤ LIMIT }
+    requires rules { MayWriteOp op }
+    ensures answers { IsTrue S.tells
+        → Plans (begun_bug env.entry.now None op (S.history disk.old)) result }
+    ensures words { KeepsToWords None result }
+    ensures unwritten { IsTrue S.tells → S.history disk.new ≡ S.history disk.old }
+    ensures reads { S.object_reads disk.new ≤ S.object_reads disk.old + 4 }
+    ensures caused { KeepsFaults S.never_fails S.faults (IsErrOf result Stop.Disk)
+        disk.old disk.new }
+{
+    let root = root_of(alloc, disk, &env.folder)?;
+    plan_root(alloc, disk, env, &root, op)
+}
+
+// What begins a bug with an operation of this author and these clocks.
+fn plan_root<S: Store>(
+    alloc: Global,
+    disk: &mut S,
+    env: &Env,
+    root: &Beginning,
+    op: BugOp,
+) -> Result<Plan, Stop>
+    requires moment { env.now.now ≤ LIMIT }
+    requires rules { MayWriteOp op }
+    ensures answers { IsTrue S.tells
+        → Begins (files_of (S.history disk.old)) env.entry.now.folder root.now
+        → Plans (begun_bug env.entry.now None op (S.history disk.old)) result }
+    ensures words { KeepsToWords None result }
+    ensures unwritten { IsTrue S.tells → S.history disk.new ≡ S.history disk.old }
+    ensures reads { S.object_reads disk.new ≤ S.object_reads disk.old + 4 }
+    ensures caused { KeepsFaults S.never_fails S.faults (IsErrOf result Stop.Disk)
+        disk.old disk.new }
+{
+    let id = op_id(alloc, &op)?;
+    let edit = root.edit.root_time();
+    let create = Some(root.create.root_time());
+    let commit = plan_commit(alloc, &[], &root.author, edit, create, op, env.now)?;
+    if stands(alloc, disk, &env.folder, &Side::Bugs, &id)? {
+        return Err(Stop::Refused(Refusal::EntityExists(id)));
+    }
+    let writes = commit_writes(alloc, disk, &env.folder, &id, &commit)?;
+    let writes = with_root_clocks(alloc, &env.folder, root.create, root.edit, writes)?;
+    Ok(Plan {
+        writes: List::from_vec(writes),
+        id,
+    })
+}
+
+/// What a command writes that adds an operation to the bug that a word finds.
+pub fn plan_longer<S: Store>(
+    alloc: Global,
+    disk: &mut S,
+    env: &Env,
+    word: &str,
+    op: BugOp,
+) -> Result<Plan, Stop>
+    requires moment { env.now.now ≤ LIMIT }
+    requires rules { MayWriteOp op }
+    ensures answers { IsTrue S.tells
+        → Plans (longer_bug env.entry.now None word.now op (S.history disk.old)) result }
+    ensures words { KeepsToWords None result }
+    ensures unwritten { IsTrue S.tells → S.history disk.new ≡ S.history disk.old }
+    ensures reads { IsTrue S.tells
+        → ReadsEdit (files_of (S.history disk.old)) env.entry.now.folder word.now
+        (S.object_reads disk.old) (S.object_reads disk.new) }
+    ensures caused { KeepsFaults S.never_fails S.faults (IsErrOf result Stop.Disk)
+        disk.old disk.new }
+{
+    let bug = growing_bug(alloc, disk, &env.folder, word)?;
+    plan_grown(alloc, disk, env, &bug, op)
+}
+
+// What adds an operation to a bug that can grow.
+fn plan_grown<S: Store>(
+    alloc: Global,
+    disk: &mut S,
+    env: &Env,
+    bug: &Growing,
+    op: BugOp,
+) -> Result<Plan, Stop>
+    requires moment { env.now.now ≤ LIMIT }
+    requires rules { MayWriteOp op }
+    requires clock { IsClock bug.now.edit }
+    ensures answers { IsTrue S.tells
+        → GrownPlans env.entry.now bug.now op (S.history disk.old) result }
+    ensures words { KeepsToWords None result }
+    ensures unwritten { IsTrue S.tells → S.history disk.new ≡ S.history disk.old }
+    ensures reads { S.object_reads disk.new ≤ S.object_reads disk.old + 4 }
+    ensures caused { KeepsFaults S.never_fails S.faults (IsErrOf result Stop.Disk)
+        disk.old disk.new }
+{
+    let id = op_id(alloc, &op)?;
+    let parents = [bug.head.name];
+    let commit = plan_commit(alloc, &parents, &bug.author, bug.edit, None, op, env.now)?;
+    if has_operation(bug.packs.as_slice(), &id) {
+        return Err(Stop::Refused(Refusal::RepeatedOperation(id)));
+    }
+    let writes = commit_writes(alloc, disk, &env.folder, &bug.head.id, &commit)?;
+    let which = ClockFile::BugsEdit;
+    let writes = with_clock(alloc, &env.folder, which, bug.seen, bug.edit, writes)?;
+    Ok(Plan {
+        writes: List::from_vec(writes),
+        id,
+    })
+}
