@@ -1,0 +1,5 @@
+pub mod AnswerLemmas
+pub mod BugListLemmas
+pub mod LawLemmas
+pub mod ShowLemmas
+pub mod ShownLemmas

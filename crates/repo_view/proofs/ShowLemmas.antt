@@ -1,0 +1,51 @@
+-- The answers of parts, as answers of `show`.
+use Rattle.std.proofs.Common.{◌≡◌, inr, ℕ, List, [], ◌∷◌, Ok, Err}
+use Rattle.gb_store.specs.Files.{Files}
+use Rattle.object_store.specs.Held.{objects_in}
+use Rattle.bug_ops.specs.Kind.{bug_kind}
+use Rattle.bug_ops.specs.declared.op.BugOp.{BugOp}
+use Rattle.snapshot.specs.LastMention.{IsBugList, snapshot_of}
+use Rattle.dag_entity.specs.Entities.{KeepsRules, ops_in}
+use Rattle.dag_entity.specs.declared.entity.Entity.{Entity}
+use Rattle.dag_entity.proofs.LawOrders.{operation_list}
+use Rattle.identity.specs.declared.chain.Person.{Person}
+use Rattle.render.specs.Show.{show_text_of}
+use Rattle.repo_state.specs.Answers.{HasBadPerson, Reads}
+use Rattle.repo_state.specs.Bugs.{FindsBug, IsBug}
+use Rattle.repo_state.specs.People.{ArePeople}
+use Rattle.repo_state.specs.declared.refusal.Refusal.TheVariants as refusal
+use Rattle.repo_state.specs.declared.refusal.Stop.{Stop}
+use Rattle.repo_state.specs.declared.refusal.Stop.TheVariants as stop
+use Rattle.repo_state.specs.declared.side.HeadEntry.{HeadEntry}
+use Rattle.repo_view.specs.Shown.{ShowAnswers}
+use Rattle.repo_view.proofs.BugListLemmas.{entity_is_bug_list}
+
+module _ (files : Files) (folder word : List ℕ) where
+  -- where the people are not told, the bug isn't
+  pub no_people : (s : Stop) → Reads (ArePeople files folder) (HasBadPerson files folder) (Err s) → ShowAnswers files folder word (Err s)
+  no_people stop.Memory told = tt
+  no_people stop.Disk told = tt
+  no_people (stop.Refused (refusal.Damaged path)) told = inr told
+  no_people (stop.Refused _) told = absurd told
+
+  -- the text of the operations of a bug's packs is the bug as text
+  pub bug_shown : (bug : HeadEntry) (entity : Entity BugOp) (people : List Person) (text : List ℕ) → FindsBug files folder word bug → IsBug files folder bug entity
+      → KeepsRules bug_kind entity.packs → ArePeople files folder people
+      → (IsBugList (ops_in bug_kind entity.packs) → text ≡ show_text_of (snapshot_of (ops_in bug_kind entity.packs)) people) → ShowAnswers files folder word (Ok text)
+  bug_shown bug entity people text finds is rules are_people told = (
+    bug,
+    finds,
+    record {
+      entity = entity;
+      is_bug = is;
+      ops = ops_in bug_kind entity.packs;
+      are = operation_list bug_kind (objects_in files folder) (bug.name ∷ []) entity.packs is.is.packs;
+      begins = begins;
+      people = people;
+      are_people = are_people;
+      is = told begins;
+    },
+  )
+    where
+      begins : IsBugList (ops_in bug_kind entity.packs)
+      begins = entity_is_bug_list (objects_in files folder) bug.id (bug.name ∷ []) is.authors entity is.is rules

@@ -1,0 +1,73 @@
+//! Laws of what is shown of a folder, each the contract of a function that does nothing.
+ghost use Rattle.std.specs.Prelude.{◌≡◌, [], ◌∷◌, List, ℕ, Ok, Err};
+ghost use Rattle.bug_ops.specs.Kind.{bug_kind};
+ghost use Rattle.dag_entity.specs.Faults.{EntityFaultHolds};
+ghost use Rattle.dag_entity.specs.declared.fault.EntityFault.{EntityFault};
+ghost use Rattle.gb_store.specs.Files.{Files};
+ghost use Rattle.gb_text.specs.declared.id.Id.{Id};
+ghost use Rattle.object_store.specs.Held.{objects_in};
+ghost use Rattle.repo_state.specs.Bugs.{AreLocal, FindsBug};
+ghost use Rattle.repo_state.specs.Sound.{IsSound};
+ghost use Rattle.repo_state.specs.declared.refusal.Refusal.{Refusal};
+ghost use Rattle.repo_state.specs.declared.refusal.Refusal.TheVariants as refusal;
+ghost use Rattle.repo_state.specs.declared.refusal.Stop.TheVariants as stop;
+ghost use Rattle.repo_state.specs.declared.side.HeadEntry.{HeadEntry};
+ghost use Rattle.repo_view.specs.Log.{LogAnswers};
+ghost use Rattle.repo_view.specs.Shown.{AgreeOnAuthors, HaveSameCommits, ShowAnswers, UsersAnswers};
+
+/// Where `log` may answer a text, nothing is wrong with the entity of the bug that the word finds, at
+/// its head and with the local identities as authors; and no refusal has a cause. So `log` answers a
+/// refusal exactly where its cause holds.
+pub fn a_log_has_no_fault()
+    ensures fault { (files : Files) (folder word text : List ℕ) (bug : HeadEntry)
+        (authors : List Id) (fault : EntityFault) → LogAnswers files folder word (Ok text)
+        → FindsBug files folder word bug → AreLocal files folder authors
+        → EntityFaultHolds bug_kind (objects_in files folder) bug.id (bug.name ∷ []) authors fault
+        → ⊥ }
+    ensures refusal { (files : Files) (folder word text : List ℕ) (refusal : Refusal)
+        → LogAnswers files folder word (Ok text)
+        → LogAnswers files folder word (Err (stop.Refused refusal)) → ⊥ }
+{}
+
+/// `log` may answer one text at most for the same files, folder and word.
+pub fn logs_are_determined()
+    ensures { (files : Files) (folder word one two : List ℕ)
+        → LogAnswers files folder word (Ok one) → LogAnswers files folder word (Ok two)
+        → one ≡ two }
+{}
+
+/// In a sound folder `log` is not refused for damage.
+pub fn sound_folders_have_logs()
+    ensures { (files : Files) (folder word path : List ℕ) → IsSound folder files
+        → LogAnswers files folder word (Err (stop.Refused (refusal.Damaged path))) → ⊥ }
+{}
+
+/// Where `show` may answer a text, nothing is wrong with the entity of the bug that the word finds, at
+/// its head and with the local identities as authors.
+pub fn a_shown_bug_has_no_fault()
+    ensures { (files : Files) (folder word text : List ℕ) (bug : HeadEntry)
+        (authors : List Id) (fault : EntityFault) → ShowAnswers files folder word (Ok text)
+        → FindsBug files folder word bug → AreLocal files folder authors
+        → EntityFaultHolds bug_kind (objects_in files folder) bug.id (bug.name ∷ []) authors fault
+        → ⊥ }
+{}
+
+/// Bugs with the same operation commits are shown as the same text, in whatever folders they stand,
+/// where the people of both have the same names for the authors of the operations. The edges between
+/// the commits, commits without operations and all else in the folders have no part in it.
+pub fn same_commits_are_shown_the_same()
+    ensures { (files others : Files) (folder place word words one two : List ℕ)
+        (bug top : HeadEntry) → FindsBug files folder word bug → FindsBug others place words top
+        → HaveSameCommits files folder bug others place top
+        → AgreeOnAuthors files folder bug others place
+        → ShowAnswers files folder word (Ok one) → ShowAnswers others place words (Ok two)
+        → one ≡ two }
+{}
+
+/// In a sound folder neither `show` nor `users` is refused for damage.
+pub fn sound_folders_are_shown()
+    ensures show { (files : Files) (folder word path : List ℕ) → IsSound folder files
+        → ShowAnswers files folder word (Err (stop.Refused (refusal.Damaged path))) → ⊥ }
+    ensures users { (files : Files) (folder path : List ℕ) → IsSound folder files
+        → UsersAnswers files folder (Err (stop.Refused (refusal.Damaged path))) → ⊥ }
+{}
