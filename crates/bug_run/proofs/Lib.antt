@@ -1,5 +1,3 @@
-pub mod AnswerLemmas
-pub mod LawLemmas
 pub mod RunLemmas
 pub mod RunsLemmas
 pub mod Examples

@@ -19,7 +19,7 @@ use Rattle.bug_run.specs.Told.{Said}
 use Rattle.bug_run.specs.declared.status.Status.{Status}
 use Rattle.bug_run.specs.declared.status.Status.TheVariants as status
 use Rattle.bug_run.specs.declared.words.Command.{Command}
-use Rattle.bug_run.specs.declared.words.Command.TheVariants.{Edit, Log}
+use Rattle.bug_run.specs.declared.words.Command.TheVariants.{Edit, Log, Show, Users}
 use Rattle.bug_run.specs.declared.words.Request.{Request}
 
 edit_wrote : (env : Env) (edit : Edits) (old new : History) (result : Result Said Stop) → EditSaid env edit old new result → Wrote (IsWrite env.folder) old new
@@ -27,6 +27,8 @@ edit_wrote env edit old new (Ok said) is = answers_wrote env edit old new (Ok is
 edit_wrote env edit old new (Err s) is = answers_wrote env edit old new (Err s) is
 
 command_wrote : (env : Env) (command : Command) (old new : History) (result : Result Said Stop) → CommandAnswers env command old new result → Wrote (IsWrite env.folder) old new
+command_wrote env Users old new result is = Wrote-none (IsWrite env.folder) old new is.1
+command_wrote env (Show bug) old new result is = Wrote-none (IsWrite env.folder) old new is.1
 command_wrote env (Log bug) old new result is = Wrote-none (IsWrite env.folder) old new is.1
 command_wrote env (Edit edit) old new result is = edit_wrote env edit old new result is
 

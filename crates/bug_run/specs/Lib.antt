@@ -1,4 +1,3 @@
-pub mod Log
 pub mod Printed
 pub mod Refusals
 pub mod Run

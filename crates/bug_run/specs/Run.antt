@@ -15,7 +15,8 @@ use Rattle.repo_steps.specs.Answers.{EditAnswers, KeepsToWords}
 use Rattle.repo_steps.specs.Doings.{doing_of}
 use Rattle.repo_steps.specs.Kinds.{IsWrite}
 use Rattle.repo_steps.specs.declared.edit.Edit.{Edit as Edits}
-use Rattle.bug_run.specs.Log.{LogAnswers}
+use Rattle.repo_view.specs.Log.{LogAnswers}
+use Rattle.repo_view.specs.Shown.{ShowAnswers, UsersAnswers}
 use Rattle.bug_run.specs.Printed.{Printed}
 use Rattle.bug_run.specs.Refusals.{refusal_line, usage_text}
 use Rattle.bug_run.specs.Told.{Said}
@@ -23,7 +24,7 @@ use Rattle.bug_run.specs.Words.{request_of}
 use Rattle.bug_run.specs.declared.status.Status.{Status}
 use Rattle.bug_run.specs.declared.status.Status.TheVariants as status
 use Rattle.bug_run.specs.declared.words.Command.{Command}
-use Rattle.bug_run.specs.declared.words.Command.TheVariants.{Edit, Log}
+use Rattle.bug_run.specs.declared.words.Command.TheVariants.{Edit, Log, Show, Users}
 use Rattle.bug_run.specs.declared.words.Request.{Request}
 
 -- the moment of a run in seconds since 1970, where a negative one counts as 0
@@ -46,10 +47,10 @@ call_of store_tells sink_tells words now seed =
 
 -- ---- the answer
 
--- the answer to `log`, none of whose lines is a refusal
-abbrev pub LogSaid : Files → List ℕ → List ℕ → Result Said Stop → Type 0
-LogSaid files folder bug (Ok said) = LogAnswers files folder bug (Ok said.text) × (said.refused ≡ 0)
-LogSaid files folder bug (Err s) = LogAnswers files folder bug (Err s)
+-- the answer to a command that reads, none of whose lines is a refusal, by the relation of its texts and refusals
+abbrev pub TextSaid : (Result (List ℕ) Stop → Type 0) → Result Said Stop → Type 0
+TextSaid Answers (Ok said) = Answers (Ok said.text) × (said.refused ≡ 0)
+TextSaid Answers (Err s) = Answers (Err s)
 
 -- the answer to an edit, which tells the line of an id
 abbrev pub EditSaid : Env → Edits → History → History → Result Said Stop → Type 0
@@ -59,11 +60,15 @@ EditSaid env edit old new (Err s) = EditAnswers (doing_of env edit old) old new 
 
 -- the answer to a command in a folder, with what was written: that of the one call that it makes
 abbrev pub CommandAnswers : Env → Command → History → History → Result Said Stop → Type 0
-CommandAnswers env (Log bug) old new result = LogSaid (files_of old) env.folder bug result × (new ≡ old)
+CommandAnswers env Users old new result = TextSaid (UsersAnswers (files_of old) env.folder) result × (new ≡ old)
+CommandAnswers env (Show bug) old new result = TextSaid (ShowAnswers (files_of old) env.folder bug) result × (new ≡ old)
+CommandAnswers env (Log bug) old new result = TextSaid (LogAnswers (files_of old) env.folder bug) result × (new ≡ old)
 CommandAnswers env (Edit edit) old new result = EditSaid env edit old new result
 
 -- the place of the first word of a command that breaks its rule
 abbrev pub bad_word_of : Env → Command → History → Option ℕ
+bad_word_of env Users old = None
+bad_word_of env (Show bug) old = None
 bad_word_of env (Log bug) old = None
 bad_word_of env (Edit edit) old = (doing_of env edit old).bad_word
 

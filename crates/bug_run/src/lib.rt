@@ -2,7 +2,6 @@
 #![tactic(auto)]
 
 mod laws;
-mod log;
 mod print;
 mod refusal;
 mod status;
@@ -10,6 +9,6 @@ mod told;
 mod top;
 mod words;
 
-pub use laws::{a_log_has_no_fault, logs_are_determined, runs_keep_folders};
+pub use laws::runs_keep_folders;
 pub use status::Status;
 pub use top::run;

@@ -8,7 +8,6 @@ ghost use Rattle.bug_run.specs.Run.{CommandAnswers, RequestAnswers, RunAnswers, 
 ghost use Rattle.bug_run.specs.Told.{as_said, told_text};
 ghost use Rattle.bug_run.specs.Words.{request_of};
 
-use crate::log::log;
 use crate::print::print;
 use crate::refusal::refusal_line;
 use crate::status::Status;
@@ -18,6 +17,7 @@ use gb_store::{Sink, Store};
 use gb_text::{Folder, FolderFault, LIMIT};
 use repo_edit::edit;
 use repo_state::{Env, Refusal, Stop};
+use repo_view::{log, show, users};
 use std::alloc::Global;
 
 /// Does what the words ask over the store, and tells the sink: the command's text, the line of
@@ -105,6 +105,14 @@ fn carry_out<S: Store>(
         disk.old disk.new }
 {
     match command {
+        Command::Users => {
+            let text = users(alloc, disk, &env.folder)?;
+            Ok(all_done(Told::Text(text)))
+        }
+        Command::Show { bug } => {
+            let text = show(alloc, disk, &env.folder, bug.as_str())?;
+            Ok(all_done(Told::Text(text)))
+        }
         Command::Log { bug } => {
             let text = log(alloc, disk, &env.folder, bug.as_str())?;
             Ok(all_done(Told::Text(text)))
