@@ -3,4 +3,8 @@
 #![tactic(auto)]
 
 #[cfg(test)]
-mod tests;
+mod bugs;
+#[cfg(test)]
+mod cases;
+#[cfg(test)]
+mod people;

@@ -43,9 +43,10 @@ const HEAD_ENTRIES: &[&str] = &["edit-clock-3", "ops", "version-4"];
 /// The person who stands in the folder.
 pub const AUTHOR: &str = "000000000000000000000000000000000000000000000000000000000000000a";
 
-// An empty blob, and packs without operations and with one, with their names.
-const EMPTY_TEXT: &[u8] = b"blob 0\0";
+/// An empty blob.
+pub const EMPTY_TEXT: &[u8] = b"blob 0\0";
 
+// Its name, and packs without operations and with one, with their names.
 const EMPTY_NAME: &[u8] =
     b"\xe6\x9d\xe2\x9b\xb2\xd1\xd6\x43\x4b\x8b\x29\xae\x77\x5a\xd8\xc2\xe4\x8c\x53\x91";
 
@@ -129,8 +130,8 @@ fn path_at(alloc: Global, digits: &str) -> Result<Text, Fail> {
     path(alloc, &name)
 }
 
-// Puts an object, and answers the digits of its name.
-fn put_text(alloc: Global, store: &mut MemStore, text: &[u8]) -> Result<[u8; 40], Fail> {
+/// Puts an object, and answers the digits of its name.
+pub fn put_text(alloc: Global, store: &mut MemStore, text: &[u8]) -> Result<[u8; 40], Fail> {
     let name = name_of_text(text);
     let path = path(alloc, &name)?;
     store.put(alloc, path.as_str(), text)?;
@@ -175,8 +176,8 @@ fn commit_content(alloc: Global, tree: &[u8], parents: &[u8]) -> Result<Vec<u8>,
     Ok(content)
 }
 
-// The lines of these parents.
-fn parent_lines(alloc: Global, parents: &[&[u8]]) -> Result<Vec<u8>, Fail> {
+/// The lines of these parents.
+pub fn parent_lines(alloc: Global, parents: &[&[u8]]) -> Result<Vec<u8>, Fail> {
     let mut lines = Vec::new(alloc);
     for parent in parents {
         append(&mut lines, &[b"parent ", parent, b"\n"])?;
@@ -184,9 +185,9 @@ fn parent_lines(alloc: Global, parents: &[&[u8]]) -> Result<Vec<u8>, Fail> {
     Ok(lines)
 }
 
-// Puts a commit with a tree of these names, a pack of this name and these lines of parents, and
-// answers the digits of its name.
-fn put_with_lines(
+/// Puts a commit with a tree of these names, a pack of this name and these lines of parents, and
+/// answers the digits of its name.
+pub fn put_with_lines(
     alloc: Global,
     store: &mut MemStore,
     names: &[&str],
@@ -283,8 +284,8 @@ fn put_pack_text(alloc: Global, store: &mut MemStore, content: &[u8]) -> Result<
     Ok(name_of_text(text.as_slice()).bytes)
 }
 
-// Puts the blob of a pack with this author and these operations, and answers its name.
-fn put_pack_of(
+/// Puts the blob of a pack with this author and these operations, and answers its name.
+pub fn put_pack_of(
     alloc: Global,
     store: &mut MemStore,
     author: &str,

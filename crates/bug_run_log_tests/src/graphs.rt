@@ -5,7 +5,7 @@ use crate::bug::{
     put_root,
 };
 use crate::runs::{DONE, REFUSED, run_words, tells};
-use gb_store::{MemSink, MemStore};
+use gb_store::{MemSink, MemStore, Store};
 use gb_text::List;
 use std::alloc::Global;
 use std::test::Fail;
@@ -58,17 +58,7 @@ const GRAPHS_1: &[(&[Commit], &str)] = &[
         "1 cb28c230b909bf87be5dea0dd6a414b406f3524a\n",
     ),
     (
-        &[Commit(
-            &[
-                "create-clock-9223372036854775807",
-                "edit-clock-9223372036854775807",
-                "ops",
-                "version-4",
-            ],
-            &[],
-            AUTHOR,
-            &[CREATE],
-        )],
+        &[Commit(FULL_ENTRIES, &[], AUTHOR, &[CREATE])],
         "9223372036854775807 d9aa2beb1b0a09eb7170aaa2c807638d00258378\n",
     ),
     // Two commits of one clock, both below a merge. The pack ids order them, as the names do or
@@ -654,13 +644,52 @@ fn has_lines(alloc: Global, store: &mut MemStore, head: &[u8], count: usize) -> 
     Ok(status == DONE && lines == count)
 }
 
+// Makes the person the user.
+fn put_user(alloc: Global, store: &mut MemStore) -> Result<(), Fail> {
+    Ok(store.put(alloc, "f/git-bug/user", AUTHOR.as_bytes())?)
+}
+
 #[test]
 fn no_more_than_65536_commits_are_logged(rt: HostRuntime) -> Result<(), Fail> {
     let alloc = rt.alloc();
     let mut store = MemStore::new(alloc, List::new(alloc));
     let (below, head) = put_long(alloc, &mut store, 65_537)?;
     assert!(rt; has_lines(alloc, &mut store, &below, 65_536)?);
+    put_user(alloc, &mut store)?;
+    let words = ["f", "noop", BUG];
+    assert!(rt;
+        tells(
+            alloc,
+            &mut store,
+            &words,
+            REFUSED,
+            "refused 13 too large 65537\n"
+        )?
+    );
     put_ref(alloc, &mut store, BUG, &head)?;
     assert!(rt; tells(alloc, &mut store, &["f", "log", BUG], REFUSED, DAMAGED)?);
+    Ok(())
+}
+
+// The entries of a root with the greatest clocks.
+const FULL_ENTRIES: &[&str] = &[
+    "create-clock-9223372036854775807",
+    "edit-clock-9223372036854775807",
+    "ops",
+    "version-4",
+];
+
+#[test]
+fn a_full_clock_takes_no_operation(rt: HostRuntime) -> Result<(), Fail> {
+    let alloc = rt.alloc();
+    let mut store = MemStore::new(alloc, List::new(alloc));
+    let root = Commit(FULL_ENTRIES, &[], AUTHOR, &[CREATE]);
+    put_graph(alloc, &mut store, BUG, &[root])?;
+    put_user(alloc, &mut store)?;
+    let words = ["f", "comment", BUG, "hi"];
+    let text = "refused 7 clock full d9aa2beb1b0a09eb7170aaa2c807638d00258378\n";
+    let writes = store.writes();
+    assert!(rt; tells(alloc, &mut store, &words, REFUSED, text)?);
+    assert_eq!(rt; store.writes(), writes);
     Ok(())
 }

@@ -5,6 +5,8 @@
 #[cfg(test)]
 mod bug;
 #[cfg(test)]
+mod comments;
+#[cfg(test)]
 mod graphs;
 #[cfg(test)]
 mod runs;

@@ -1,81 +1,14 @@
 //! What the commands of persons print, write and leave, one after the other.
-use bug_run::{Status, run};
+use crate::cases::{Case, DISK_FAULT, DONE, REFUSED, USAGE, first_wrong, run_words};
 use gb_store::{Fail as Listed, MemSink, MemStore, Store};
 use gb_text::{Folder, Id, List};
 use repo_state::{Side, heads, names, user};
 use std::alloc::Global;
 use std::test::Fail;
 
-// How a run ends, by the status with which the program does.
-const DONE: u8 = 0;
-
-const REFUSED: u8 = 1;
-
-const USAGE: u8 = 2;
-
-const DISK_FAULT: u8 = 3;
-
 const ANA: &str = "a206955f92c7be1bb318733460d3b85e208c8b1c8fb805c6d9991de1e0f35c00\n";
 
 const BO: &str = "1ad3ae4547bb1d614e5b427941cb338a23337548df8aa90ad06ab93e51e4ec20\n";
-
-fn code(status: &Status) -> u8 {
-    match status {
-        Status::Done => DONE,
-        Status::Refused(_) => REFUSED,
-        Status::Usage => USAGE,
-        Status::DiskFault => DISK_FAULT,
-        Status::Memory => 4,
-        Status::OutFault => 5,
-    }
-}
-
-// A command in the folder `f`: its words, the moment, each byte of the seed, how it ends, what it
-// prints, and how many writes there were up to its end.
-#[derive(Clone, Copy)]
-struct Case {
-    words: &'static [&'static str],
-    now: i64,
-    seed: u8,
-    status: u8,
-    text: &'static str,
-    writes: u64,
-}
-
-// Runs the words at a moment, and answers how that ended.
-fn run_words(
-    alloc: Global,
-    store: &mut MemStore,
-    sink: &mut MemSink,
-    words: &[&str],
-    now: i64,
-    seed: u8,
-) -> Result<u8, Fail> {
-    let mut all = Vec::new(alloc);
-    for word in words {
-        all.push(String::from_str(alloc, word)?)?;
-    }
-    Ok(code(&run(alloc, &all, store, sink, now, [seed; 32])))
-}
-
-// Whether a case ends as it says.
-fn holds(alloc: Global, store: &mut MemStore, case: Case) -> Result<bool, Fail> {
-    let mut sink = MemSink::new(alloc, List::new(alloc), 7);
-    let status = run_words(alloc, store, &mut sink, case.words, case.now, case.seed)?;
-    let printed = sink.bytes() == case.text.as_bytes();
-    Ok(status == case.status && printed && store.writes() == case.writes)
-}
-
-// The place of the first case, one after the other, that ends otherwise; how many there are where
-// each ends as it says.
-fn first_wrong(alloc: Global, store: &mut MemStore, cases: &[Case]) -> Result<usize, Fail> {
-    for (place, case) in cases.iter().enumerate() {
-        if !holds(alloc, store, *case)? {
-            return Ok(place);
-        }
-    }
-    Ok(cases.len())
-}
 
 const SESSION: &[Case] = &[
     Case {
