@@ -60,7 +60,7 @@ pub fn claims_of(alloc: Global, words: &[String]) -> Result<Vec<Claim>, AllocErr
 // What a command does in its folder. One that is not known to read writes.
 fn purpose_of(command: &str) -> Purpose {
     match command {
-        "log" => Purpose::Read,
+        "log" | "show" | "users" => Purpose::Read,
         _ => Purpose::Write,
     }
 }
