@@ -1,0 +1,106 @@
+//! Refs that are set, read and listed, damaged ones, and stores that fail.
+ghost use Rattle.repo_state.specs.Sound.{IsNamedSide};
+
+use crate::calls::{
+    BUG_PATH, head, heads, ids, is_damaged, is_disk, set_head, stands, the_id, the_name,
+};
+use fixtures::Disk;
+use gb_store::Store;
+use gb_text::Text;
+use repo_state::{HeadEntry, Side};
+use std::test::Fail;
+
+#[test]
+fn a_head_that_is_set_is_read(rt: HostRuntime) -> Result<(), Fail> {
+    let mut disk = Disk::new(rt.alloc())?;
+    let (id, name) = (the_id()?, the_name()?);
+    assert_eq!(rt; head(&mut disk, &Side::Bugs, &id)?, None);
+    set_head(&mut disk, &Side::Bugs, &id, &name)?;
+    assert_eq!(rt; disk.store.writes(), 1);
+    assert_eq!(rt; head(&mut disk, &Side::Bugs, &id)?, Some(name));
+    Ok(())
+}
+
+#[test]
+fn a_head_that_is_set_is_listed(rt: HostRuntime) -> Result<(), Fail> {
+    let mut disk = Disk::new(rt.alloc())?;
+    let (id, name) = (the_id()?, the_name()?);
+    set_head(&mut disk, &Side::Bugs, &id, &name)?;
+    let heads = heads(&mut disk, &Side::Bugs)?;
+    assert_eq!(rt; heads.as_slice(), &[HeadEntry { id, name }][..]);
+    let ids = ids(&mut disk, &Side::Bugs)?;
+    assert_eq!(rt; ids.as_slice(), &[id][..]);
+    assert_eq!(rt; disk.store.reads(), 0);
+    Ok(())
+}
+
+// Whether no ref of a side stands before it is set, and then it does.
+fn begins_to_stand(disk: &mut Disk, side: &Side) -> Result<bool, Fail>
+    requires { IsNamedSide side.now }
+{
+    let id = the_id()?;
+    let before = stands(disk, side, &id)?;
+    set_head(disk, side, &id, &the_name()?)?;
+    Ok(!before && stands(disk, side, &id)?)
+}
+
+#[test]
+fn the_refs_of_each_side_stand_apart(rt: HostRuntime) -> Result<(), Fail> {
+    let alloc = rt.alloc();
+    let mut disk = Disk::new(alloc)?;
+    let sides = [
+        Side::Bugs,
+        Side::Identities,
+        Side::RemoteBugs(Text::from_str(alloc, "origin")?),
+        Side::RemoteIdentities(Text::from_str(alloc, "origin")?),
+        Side::RemoteBugs(Text::from_str(alloc, "other")?),
+    ];
+    for side in &sides {
+        assert!(rt; begins_to_stand(&mut disk, side)?, "{side:?}");
+    }
+    Ok(())
+}
+
+const REMOTE_PATH: &str =
+    "f/refs/remotes/origin/identities/000000000000000000000000000000000000000000000000000000000000000a";
+
+#[test]
+fn the_place_of_a_remote_names_it(rt: HostRuntime) -> Result<(), Fail> {
+    let mut disk = Disk::new(rt.alloc())?;
+    disk.put(REMOTE_PATH, b"x")?;
+    let side = Side::RemoteIdentities(Text::from_str(rt.alloc(), "origin")?);
+    assert!(rt; is_damaged(head(&mut disk, &side, &the_id()?), REMOTE_PATH));
+    Ok(())
+}
+
+#[test]
+fn a_bad_ref_is_damaged(rt: HostRuntime) -> Result<(), Fail> {
+    let mut disk = Disk::new(rt.alloc())?;
+    disk.put(BUG_PATH, b"x")?;
+    assert!(rt; is_damaged(head(&mut disk, &Side::Bugs, &the_id()?), BUG_PATH));
+    assert!(rt; is_damaged(heads(&mut disk, &Side::Bugs), BUG_PATH));
+    Ok(())
+}
+
+#[test]
+fn a_bad_ref_counts(rt: HostRuntime) -> Result<(), Fail> {
+    let mut disk = Disk::new(rt.alloc())?;
+    disk.put(BUG_PATH, b"x")?;
+    let id = the_id()?;
+    let ids = ids(&mut disk, &Side::Bugs)?;
+    assert_eq!(rt; ids.as_slice(), &[id][..]);
+    assert!(rt; stands(&mut disk, &Side::Bugs, &id)?);
+    Ok(())
+}
+
+#[test]
+fn reads_of_refs_that_fail_are_told(rt: HostRuntime) -> Result<(), Fail> {
+    let calls = [(0, true), (1, true), (2, true), (3, true)];
+    let mut disk = Disk::failing(rt.alloc(), &calls)?;
+    let id = the_id()?;
+    assert!(rt; is_disk(ids(&mut disk, &Side::Bugs)));
+    assert!(rt; is_disk(stands(&mut disk, &Side::Bugs, &id)));
+    assert!(rt; is_disk(head(&mut disk, &Side::Bugs, &id)));
+    assert!(rt; is_disk(heads(&mut disk, &Side::Bugs)));
+    Ok(())
+}
