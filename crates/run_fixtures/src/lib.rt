@@ -1,0 +1,12 @@
+//! What tests of `run` stand on: runs by words, and rows of runs, of which the first that is wrong is
+//! told with its words and both texts.
+#![tactic(auto)]
+
+mod rows;
+mod runs;
+
+pub use rows::{Row, hold};
+pub use runs::{
+    DISK_FAULT, DONE, MEMORY, OUT_FAULT, REFUSED, USAGE, USAGE_LINE, expect, expect_at, run_into,
+    run_words, sink,
+};
