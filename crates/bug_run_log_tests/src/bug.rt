@@ -1,17 +1,17 @@
 //! Folder `f` with a bug of two commits, and what is other than good in it; and with bugs of more
 //! commits. One person stands in it.
-use gb_store::{Content, MemStore, Store};
-use gb_text::{Folder, Name, Text};
-use git_object::{Kind, frame_text, name_of_text};
+use fixtures::{
+    CREATE, Disk, commit_content, joined, name, no_ops, pack_text, put_commit, put_files,
+    put_object, put_pack, put_text, put_under, remove_object, tree_content,
+};
+use gb_store::{Content, Store};
+use gb_text::Name;
+use git_object::Kind;
 use object_store::path_of;
 use std::alloc::Global;
 use std::test::Fail;
 
-/// The operation with which the good bug begins.
-pub const CREATE: &str =
-    "{\"files\":[],\"message\":\"\",\"nonce\":\"AAAAAAAAAAAAAAAAAAAAAAAAAAA=\",\"timestamp\":0,\"title\":\"a\",\"type\":1}";
-
-/// Its SHA-256.
+/// The SHA-256 of the operation with which the good bug begins.
 pub const BUG: &str = "3912f32747d1e7d315d89cd550e61a80638342c85e80fec8f844c37035613dc8";
 
 /// What is told of it where it is damaged.
@@ -43,28 +43,6 @@ const HEAD_ENTRIES: &[&str] = &["edit-clock-3", "ops", "version-4"];
 /// The person who stands in the folder.
 pub const AUTHOR: &str = "000000000000000000000000000000000000000000000000000000000000000a";
 
-/// An empty blob.
-pub const EMPTY_TEXT: &[u8] = b"blob 0\0";
-
-// Its name, and packs without operations and with one, with their names.
-const EMPTY_NAME: &[u8] =
-    b"\xe6\x9d\xe2\x9b\xb2\xd1\xd6\x43\x4b\x8b\x29\xae\x77\x5a\xd8\xc2\xe4\x8c\x53\x91";
-
-const EMPTY_PACK: &[u8] =
-    b"{\"author\":{\"id\":\"000000000000000000000000000000000000000000000000000000000000000a\"},\"ops\":[]}";
-
-const ROOT_PACK_NAME: &[u8] =
-    b"\x83\x76\xce\xac\x7f\x34\x3f\xad\xa5\x76\x04\x82\x0b\xad\x30\x47\x0f\xab\xf9\x3f";
-
-// The front of an operation, up to its time.
-const NONCE: &[u8] = b"{\"nonce\":\"AAAAAAAAAAAAAAAAAAAAAAAAAAA=\",\"timestamp\":";
-
-const PACK_NAME: &[u8] =
-    b"\xf4\x14\xcf\x14\x2e\x63\xf2\xb4\x8a\x03\xa6\x85\x35\x67\xfe\xd5\xae\xc2\x39\x88";
-
-const PERSONS: &[u8] =
-    b"author git-bug <git-bug@localhost> 100 +0000\ncommitter git-bug <git-bug@localhost> 100 +0000\n\ngit-bug\n";
-
 /// What is other than in the good bug: one thing. Objects stand under the SHA-1 of their texts, but
 /// for those of `Gone` and `Ends`.
 #[derive(Clone, Copy)]
@@ -94,206 +72,53 @@ pub enum Case {
     /// So many bytes are the text of the head's pack, by spaces at its end.
     LongPack(usize),
     /// The head's pack has so many operations, each another one.
-    Operations(usize),
+    Operations(u64),
     /// The mode and the object of `ops` in the head's tree.
-    Ops(&'static [u8], &'static [u8]),
+    Ops(&'static str, &'static str),
     /// There is no file of this object.
     Gone(&'static str),
     /// These bytes stand for the last byte in the file of this object.
     Ends(&'static str, &'static [u8]),
 }
 
-// Adds these parts to a text.
-fn append(text: &mut Vec<u8>, parts: &[&[u8]]) -> Result<(), Fail> {
-    for part in parts {
-        text.extend_from_slice(part)?;
-    }
-    Ok(())
-}
-
-// Adds one byte again and again, up to so many bytes.
-fn fill(text: &mut Vec<u8>, byte: u8, size: usize) -> Result<(), Fail> {
-    for _ in text.len()..size {
-        text.push(byte)?;
-    }
-    Ok(())
-}
-
-// The path of an object's file.
-fn path(alloc: Global, name: &Name) -> Result<Text, Fail> {
-    Ok(path_of(alloc, &Folder::read(alloc, "f")?, name)?)
-}
-
-// The path of the object with these digits.
-fn path_at(alloc: Global, digits: &str) -> Result<Text, Fail> {
-    let name = Name::read(digits.as_bytes()).ok_or("a name")?;
-    path(alloc, &name)
-}
-
-/// Puts an object, and answers the digits of its name.
-pub fn put_text(alloc: Global, store: &mut MemStore, text: &[u8]) -> Result<[u8; 40], Fail> {
-    let name = name_of_text(text);
-    let path = path(alloc, &name)?;
-    store.put(alloc, path.as_str(), text)?;
-    Ok(name.text())
-}
-
-fn put(alloc: Global, store: &mut MemStore, kind: Kind, content: &[u8]) -> Result<[u8; 40], Fail> {
-    let text = frame_text(alloc, kind, content)?;
-    put_text(alloc, store, text.as_slice())
-}
-
-// The content of a tree of files with these names, all plain and empty but for `ops`.
-fn tree_content(alloc: Global, names: &[&str], mode: &[u8], ops: &[u8]) -> Result<Vec<u8>, Fail> {
-    let mut content = Vec::new(alloc);
-    for name in names {
-        if *name == "ops" {
-            append(&mut content, &[mode, b" ops\0", ops])?;
-        } else {
-            append(
-                &mut content,
-                &[b"100644 ", name.as_bytes(), b"\0", EMPTY_NAME],
-            )?;
-        }
-    }
-    Ok(content)
-}
-
-fn put_tree(
-    alloc: Global,
-    store: &mut MemStore,
-    names: &[&str],
-    pack: &[u8],
-) -> Result<[u8; 40], Fail> {
-    let content = tree_content(alloc, names, b"100644", pack)?;
-    put(alloc, store, Kind::Tree, &content)
-}
-
-// The content of a commit, whose lines of parents are these.
-fn commit_content(alloc: Global, tree: &[u8], parents: &[u8]) -> Result<Vec<u8>, Fail> {
-    let mut content = Vec::new(alloc);
-    append(&mut content, &[b"tree ", tree, b"\n", parents, PERSONS])?;
-    Ok(content)
-}
-
-/// The lines of these parents.
-pub fn parent_lines(alloc: Global, parents: &[&[u8]]) -> Result<Vec<u8>, Fail> {
-    let mut lines = Vec::new(alloc);
-    for parent in parents {
-        append(&mut lines, &[b"parent ", parent, b"\n"])?;
-    }
-    Ok(lines)
-}
-
-/// Puts a commit with a tree of these names, a pack of this name and these lines of parents, and
-/// answers the digits of its name.
-pub fn put_with_lines(
-    alloc: Global,
-    store: &mut MemStore,
-    names: &[&str],
-    pack: &[u8],
-    lines: &[u8],
-) -> Result<[u8; 40], Fail> {
-    let tree = put_tree(alloc, store, names, pack)?;
-    let content = commit_content(alloc, &tree, lines)?;
-    put(alloc, store, Kind::Commit, &content)
-}
-
-/// Puts the root of the good bug, with a tree of these names, and answers the digits of its name.
-pub fn put_root(alloc: Global, store: &mut MemStore, names: &[&str]) -> Result<[u8; 40], Fail> {
-    put_with_lines(alloc, store, names, ROOT_PACK_NAME, &[])
-}
-
-/// Puts a commit without operations, with a tree of these names, and answers the digits of its
-/// name.
-pub fn put_commit(
-    alloc: Global,
-    store: &mut MemStore,
-    names: &[&str],
-    parents: &[&[u8]],
-) -> Result<[u8; 40], Fail> {
-    let lines = parent_lines(alloc, parents)?;
-    put_with_lines(alloc, store, names, PACK_NAME, &lines)
-}
-
 /// Puts the ref of the bug with this id.
-pub fn put_ref(alloc: Global, store: &mut MemStore, bug: &str, text: &[u8]) -> Result<(), Fail> {
-    let path = format!(in alloc; "f/refs/bugs/{bug}")?;
-    store.put(alloc, path.as_str(), text)?;
-    Ok(())
+pub fn put_ref(disk: &mut Disk, bug: &str, text: &[u8]) -> Result<(), Fail> {
+    let path = format!(in disk.alloc; "f/refs/bugs/{bug}")?;
+    disk.put(path.as_str(), text)
 }
 
 // Puts the ref of the person who stands in the folder. What it holds is not looked at.
-fn put_author(alloc: Global, store: &mut MemStore) -> Result<(), Fail> {
-    let path = format!(in alloc; "f/refs/identities/{AUTHOR}")?;
-    store.put(alloc, path.as_str(), b"")?;
-    Ok(())
+fn put_author(disk: &mut Disk) -> Result<(), Fail> {
+    let path = format!(in disk.alloc; "f/refs/identities/{AUTHOR}")?;
+    disk.put(path.as_str(), b"")
+}
+
+/// Puts the empty blob, which trees name.
+pub fn put_empty(disk: &mut Disk) -> Result<Name, Fail> {
+    put_text(disk, b"blob 0\0")
 }
 
 /// Puts the person, and the blobs that trees name.
-pub fn put_blobs(alloc: Global, store: &mut MemStore) -> Result<(), Fail> {
-    put_author(alloc, store)?;
-    put_text(alloc, store, EMPTY_TEXT)?;
-    put_pack_of(alloc, store, AUTHOR, &[CREATE])?;
-    put_pack_of(alloc, store, AUTHOR, &[])?;
+pub fn put_blobs(disk: &mut Disk) -> Result<(), Fail> {
+    put_author(disk)?;
+    put_empty(disk)?;
+    put_pack(disk, AUTHOR.as_bytes(), &[CREATE])?;
+    put_pack(disk, AUTHOR.as_bytes(), &[])?;
     Ok(())
 }
 
-// Adds an operation that does nothing, other than those of other numbers.
-fn append_operation(alloc: Global, text: &mut Vec<u8>, number: usize) -> Result<(), Fail> {
-    let time = format!(in alloc; "{number}")?;
-    append(text, &[NONCE, time.as_bytes(), b",\"type\":7}"])
+/// Puts a commit with a tree of these files, and answers its name.
+pub fn put_above(
+    disk: &mut Disk,
+    files: &[&str],
+    pack: &Name,
+    parents: &[Name],
+) -> Result<Name, Fail> {
+    let tree = put_files(disk, files, pack)?;
+    put_commit(disk, &tree, parents)
 }
 
-// Adds the operations of a pack.
-fn append_ops(text: &mut Vec<u8>, ops: &[&str]) -> Result<(), Fail> {
-    for (place, op) in ops.iter().enumerate() {
-        if place > 0 {
-            append(text, &[b","])?;
-        }
-        append(text, &[op.as_bytes()])?;
-    }
-    Ok(())
-}
-
-// Adds the front of a pack's text, up to its operations.
-fn append_front(text: &mut Vec<u8>, author: &str) -> Result<(), Fail> {
-    append(
-        text,
-        &[
-            b"{\"author\":{\"id\":\"",
-            author.as_bytes(),
-            b"\"},\"ops\":[",
-        ],
-    )
-}
-
-// The text of a pack with this author and these operations.
-fn pack_of(alloc: Global, author: &str, ops: &[&str]) -> Result<Vec<u8>, Fail> {
-    let mut text = Vec::new(alloc);
-    append_front(&mut text, author)?;
-    append_ops(&mut text, ops)?;
-    append(&mut text, &[b"]}"])?;
-    Ok(text)
-}
-
-// Puts the blob of a pack with this text, and answers its name.
-fn put_pack_text(alloc: Global, store: &mut MemStore, content: &[u8]) -> Result<[u8; 20], Fail> {
-    let text = frame_text(alloc, Kind::Blob, content)?;
-    put_text(alloc, store, text.as_slice())?;
-    Ok(name_of_text(text.as_slice()).bytes)
-}
-
-/// Puts the blob of a pack with this author and these operations, and answers its name.
-pub fn put_pack_of(
-    alloc: Global,
-    store: &mut MemStore,
-    author: &str,
-    ops: &[&str],
-) -> Result<[u8; 20], Fail> {
-    let content = pack_of(alloc, author, ops)?;
-    put_pack_text(alloc, store, &content)
-}
+// What a case has in the place of what the good bug has.
 
 fn root_entries(case: Case) -> &'static [&'static str] {
     match case {
@@ -309,189 +134,179 @@ fn entries(case: Case) -> &'static [&'static str] {
     }
 }
 
-// Adds a pack of so many operations.
-fn append_operations(alloc: Global, text: &mut Vec<u8>, count: usize) -> Result<(), Fail> {
-    append_front(text, AUTHOR)?;
-    append_operation(alloc, text, 0)?;
-    for number in 1..count {
-        append(text, &[b","])?;
-        append_operation(alloc, text, number)?;
+// The text of the head's pack.
+fn text_of_pack(alloc: Global, case: Case) -> Result<Vec<u8>, Fail> {
+    let author = AUTHOR.as_bytes();
+    match case {
+        Case::Pack(text) => joined(alloc, &[text]),
+        Case::Operations(count) => pack_text(alloc, author, &[&no_ops(alloc, count)?]),
+        Case::LongPack(size) => grown(pack_text(alloc, author, &[])?, b' ', size),
+        _ => pack_text(alloc, author, &[]),
     }
-    append(text, &[b"]}"])
 }
 
-// The text of the head's pack.
-fn pack_text(alloc: Global, case: Case) -> Result<Vec<u8>, Fail> {
-    let mut text = Vec::new(alloc);
-    match case {
-        Case::Pack(pack) => append(&mut text, &[pack])?,
-        Case::Operations(count) => append_operations(alloc, &mut text, count)?,
-        Case::LongPack(size) => {
-            append(&mut text, &[EMPTY_PACK])?;
-            fill(&mut text, b' ', size)?;
-        }
-        _ => append(&mut text, &[EMPTY_PACK])?,
-    }
+// The text with one byte again and again behind it, up to so many bytes.
+fn grown(text: Vec<u8>, byte: u8, size: usize) -> Result<Vec<u8>, Fail> {
+    let mut text = text;
+    text.resize(size, byte)?;
     Ok(text)
 }
 
-// Puts the blob of the head's pack, and answers its name.
-fn put_pack(alloc: Global, store: &mut MemStore, case: Case) -> Result<[u8; 20], Fail> {
-    let content = pack_text(alloc, case)?;
-    put_pack_text(alloc, store, &content)
-}
-
-// The entries of the head's tree, whose pack has this name.
-fn head_entries(alloc: Global, case: Case, pack: &[u8]) -> Result<Vec<u8>, Fail> {
+// The content of the head's tree, whose pack has this name.
+fn content_of_tree(alloc: Global, case: Case, pack: &Name) -> Result<Vec<u8>, Fail> {
     match case {
-        Case::Ops(mode, object) => tree_content(alloc, entries(case), mode, object),
-        _ => tree_content(alloc, entries(case), b"100644", pack),
+        Case::Ops(mode, object) => tree_content(alloc, entries(case), mode, &name(object)?),
+        Case::LongTree(size) => long_tree(alloc, size, pack),
+        _ => tree_content(alloc, entries(case), "100644", pack),
     }
 }
 
-// Puts the head's tree.
-fn put_head_tree(alloc: Global, store: &mut MemStore, case: Case) -> Result<[u8; 40], Fail> {
-    let pack = put_pack(alloc, store, case)?;
-    let mut content = head_entries(alloc, case, &pack)?;
-    if let Case::LongTree(size) = case {
-        append(&mut content, &[b"100644 "])?;
-        fill(&mut content, b'x', size.saturating_sub(21))?;
-        append(&mut content, &[b"\0", EMPTY_NAME])?;
-    }
-    put(alloc, store, Kind::Tree, &content)
+// The good content with one entry more, which makes it so long.
+fn long_tree(alloc: Global, size: usize, pack: &Name) -> Result<Vec<u8>, Fail> {
+    let content = tree_content(alloc, HEAD_ENTRIES, "100644", pack)?;
+    let front = joined(alloc, &[&content, b"100644 "])?;
+    let long = grown(front, b'x', size.saturating_sub(21))?;
+    joined(alloc, &[&long, b"\0", &name(EMPTY)?.bytes])
 }
 
 // The content of the head, over this tree and this root.
-fn head_content(alloc: Global, case: Case, tree: &[u8], root: &[u8]) -> Result<Vec<u8>, Fail> {
-    let tree = match case {
-        Case::Tree(name) => name.as_bytes(),
-        _ => tree,
-    };
-    let parent = match case {
-        Case::Parent(name) => name.as_bytes(),
-        _ => root,
-    };
-    let lines = parent_lines(alloc, &[parent])?;
-    let mut content = commit_content(alloc, tree, &lines)?;
-    if let Case::LongHead(size) = case {
-        fill(&mut content, b'x', size)?;
+fn content_of_head(alloc: Global, case: Case, tree: &Name, root: &Name) -> Result<Vec<u8>, Fail> {
+    match case {
+        Case::Tree(other) => commit_content(alloc, &name(other)?, &[*root]),
+        Case::Parent(other) => commit_content(alloc, tree, &[name(other)?]),
+        Case::LongHead(size) => grown(commit_content(alloc, tree, &[*root])?, b'x', size),
+        _ => commit_content(alloc, tree, &[*root]),
     }
-    Ok(content)
 }
 
 // Puts the head with this content.
-fn put_head(
-    alloc: Global,
-    store: &mut MemStore,
-    case: Case,
-    content: &[u8],
-) -> Result<[u8; 40], Fail> {
+fn put_head(disk: &mut Disk, case: Case, content: &[u8]) -> Result<Name, Fail> {
     let Case::Header(header) = case else {
-        return put(alloc, store, Kind::Commit, content);
+        return put_object(disk, Kind::Commit, content);
     };
-    let mut text = Vec::new(alloc);
+    let mut text = Vec::new(disk.alloc);
     text.extend_from_slice(header)?;
     text.extend_from_slice(content)?;
-    put_text(alloc, store, &text)
+    put_text(disk, &text)
 }
 
 // Puts the ref that names this head.
-fn put_head_ref(alloc: Global, store: &mut MemStore, case: Case, head: &[u8]) -> Result<(), Fail> {
+fn put_head_ref(disk: &mut Disk, case: Case, head: &Name) -> Result<(), Fail> {
     match case {
-        Case::Ref(text) => put_ref(alloc, store, BUG, text),
-        Case::Head(name) => put_ref(alloc, store, BUG, name.as_bytes()),
-        _ => put_ref(alloc, store, BUG, head),
+        Case::Ref(text) => put_ref(disk, BUG, text),
+        Case::Head(other) => put_ref(disk, BUG, other.as_bytes()),
+        _ => put_ref(disk, BUG, &head.text()),
     }
 }
 
-// Puts other bytes in the place of the last byte of a file.
-fn change_end(alloc: Global, store: &mut MemStore, path: &str, end: &[u8]) -> Result<(), Fail> {
-    let Content::Whole(bytes) = store.read(alloc, path, 4096)? else {
-        return Ok(());
+// Puts other bytes in the place of the last byte of an object's file.
+fn change_end(disk: &mut Disk, object: &Name, end: &[u8]) -> Result<(), Fail> {
+    let path = path_of(disk.alloc, &disk.folder, object)?;
+    let Content::Whole(bytes) = disk.store.read(disk.alloc, path.as_str(), 4096)? else {
+        return Err("a small file")?;
     };
     let Some((_, front)) = bytes.as_slice().split_last() else {
-        return Ok(());
+        return Err("a file with a byte")?;
     };
-    let mut text = Vec::new(alloc);
-    append(&mut text, &[front, end])?;
-    store.put(alloc, path, &text)?;
-    Ok(())
+    let text = joined(disk.alloc, &[front, end])?;
+    put_under(disk, object, &text)
 }
 
 // Removes or changes the file of an object.
-fn spoil(alloc: Global, store: &mut MemStore, case: Case) -> Result<(), Fail> {
+fn spoil(disk: &mut Disk, case: Case) -> Result<(), Fail> {
     match case {
-        Case::Gone(name) => {
-            let path = path_at(alloc, name)?;
-            store.remove(alloc, path.as_str())?;
-            Ok(())
-        }
-        Case::Ends(name, end) => {
-            let path = path_at(alloc, name)?;
-            change_end(alloc, store, path.as_str(), end)
-        }
+        Case::Gone(object) => remove_object(disk, &name(object)?),
+        Case::Ends(object, end) => change_end(disk, &name(object)?, end),
         _ => Ok(()),
     }
 }
 
+// Puts the commits of a case, and answers its head.
+fn put_both(disk: &mut Disk, case: Case) -> Result<Name, Fail> {
+    let root = put_above(disk, root_entries(case), &name(ROOT_PACK)?, &[])?;
+    let pack = put_object(disk, Kind::Blob, &text_of_pack(disk.alloc, case)?)?;
+    let tree = put_object(disk, Kind::Tree, &content_of_tree(disk.alloc, case, &pack)?)?;
+    let content = content_of_head(disk.alloc, case, &tree, &root)?;
+    put_head(disk, case, &content)
+}
+
 /// Puts the bug of a case.
-pub fn put_bug(alloc: Global, store: &mut MemStore, case: Case) -> Result<(), Fail> {
-    put_blobs(alloc, store)?;
-    let root = put_root(alloc, store, root_entries(case))?;
-    let tree = put_head_tree(alloc, store, case)?;
-    let content = head_content(alloc, case, &tree, &root)?;
-    let head = put_head(alloc, store, case, &content)?;
-    put_head_ref(alloc, store, case, &head)?;
-    spoil(alloc, store, case)
+pub fn put_bug(disk: &mut Disk, case: Case) -> Result<(), Fail> {
+    put_blobs(disk)?;
+    let head = put_both(disk, case)?;
+    put_head_ref(disk, case, &head)?;
+    spoil(disk, case)
 }
 
-/// A commit of a graph: the names in its tree, its parents by their places among the commits, who
-/// wrote its pack, and its operations.
+/// A commit of a graph. Its parents are told by their places among the commits; its pack is by the
+/// person who stands in the folder, where nothing else is said.
 #[derive(Clone, Copy)]
-pub struct Commit(
-    pub &'static [&'static str],
-    pub &'static [usize],
-    pub &'static str,
-    pub &'static [&'static str],
-);
-
-// The lines of parents, by their places among these commits.
-fn lines_at(alloc: Global, places: &[usize], commits: &[[u8; 40]]) -> Result<Vec<u8>, Fail> {
-    let mut lines = Vec::new(alloc);
-    for place in places {
-        let parent = commits.get(*place).ok_or("a parent")?;
-        append(&mut lines, &[b"parent ", parent, b"\n"])?;
-    }
-    Ok(lines)
+pub enum Commit {
+    /// One without parents, of which both clocks are this, and its operations.
+    Root(&'static str, &'static [&'static [u8]]),
+    /// One above these, its edit clock and its operations.
+    Above(&'static [usize], &'static str, &'static [&'static [u8]]),
+    /// The names in its tree, its parents, the author of its pack, and its operations.
+    Other(&'static [&'static str], &'static [usize], &'static str, &'static [&'static [u8]]),
 }
 
-// Puts a commit of a graph over those before it, and answers the digits of its name.
+// The parents at these places.
+fn parents_at(alloc: Global, places: &[usize], commits: &[Name]) -> Result<Vec<Name>, Fail> {
+    let mut parents = Vec::new(alloc);
+    for place in places {
+        parents.push(*commits.get(*place).ok_or("a parent")?)?;
+    }
+    Ok(parents)
+}
+
+// Puts a commit over those before it, with the files of these names in its tree.
 fn put_next(
-    alloc: Global,
-    store: &mut MemStore,
-    commit: &Commit,
-    before: &[[u8; 40]],
-) -> Result<[u8; 40], Fail> {
-    let Commit(names, parents, author, ops) = *commit;
-    let pack = put_pack_of(alloc, store, author, ops)?;
-    let lines = lines_at(alloc, parents, before)?;
-    put_with_lines(alloc, store, names, &pack, &lines)
+    disk: &mut Disk,
+    files: &[&str],
+    author: &str,
+    ops: &[&[u8]],
+    parents: &[Name],
+) -> Result<Name, Fail> {
+    let pack = put_pack(disk, author.as_bytes(), ops)?;
+    put_above(disk, files, &pack, parents)
+}
+
+// Puts a commit of a graph over those before it, and answers its name.
+fn put_one(disk: &mut Disk, commit: Commit, before: &[Name]) -> Result<Name, Fail> {
+    match commit {
+        Commit::Root(clock, ops) => {
+            let create = format!(in disk.alloc; "create-clock-{clock}")?;
+            let edit = format!(in disk.alloc; "edit-clock-{clock}")?;
+            let files = [create.as_str(), edit.as_str(), "ops", "version-4"];
+            put_next(disk, &files, AUTHOR, ops, &[])
+        }
+        Commit::Above(places, clock, ops) => {
+            let edit = format!(in disk.alloc; "edit-clock-{clock}")?;
+            let parents = parents_at(disk.alloc, places, before)?;
+            put_next(
+                disk,
+                &[edit.as_str(), "ops", "version-4"],
+                AUTHOR,
+                ops,
+                &parents,
+            )
+        }
+        Commit::Other(files, places, author, ops) => {
+            let parents = parents_at(disk.alloc, places, before)?;
+            put_next(disk, files, author, ops, &parents)
+        }
+    }
 }
 
 /// Puts the bug of this id with these commits, of which the last is its head.
-pub fn put_graph(
-    alloc: Global,
-    store: &mut MemStore,
-    bug: &str,
-    graph: &[Commit],
-) -> Result<(), Fail> {
-    put_author(alloc, store)?;
-    put_text(alloc, store, EMPTY_TEXT)?;
-    let mut commits = Vec::new(alloc);
+pub fn put_graph(disk: &mut Disk, bug: &str, graph: &[Commit]) -> Result<(), Fail> {
+    put_author(disk)?;
+    put_empty(disk)?;
+    let mut commits = Vec::new(disk.alloc);
     for commit in graph {
-        let name = put_next(alloc, store, commit, &commits)?;
+        let name = put_one(disk, *commit, &commits)?;
         commits.push(name)?;
     }
     let head = commits.last().ok_or("a head")?;
-    put_ref(alloc, store, bug, head)
+    put_ref(disk, bug, &head.text())
 }

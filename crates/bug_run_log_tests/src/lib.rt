@@ -9,6 +9,4 @@ mod comments;
 #[cfg(test)]
 mod graphs;
 #[cfg(test)]
-mod runs;
-#[cfg(test)]
 mod tests;

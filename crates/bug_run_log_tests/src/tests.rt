@@ -2,20 +2,22 @@
 use crate::bug::{
     BUG, Case, DAMAGED, EMPTY, HEAD, PACK, ROOT, ROOT_PACK, ROOT_TREE, TREE, ZEROS, put_bug,
 };
-use crate::runs::{DISK_FAULT, DONE, OUT_FAULT, REFUSED, USAGE, run_words, tells};
-use gb_store::{Fail as Listed, MemSink, MemStore};
+use fixtures::Disk;
+use gb_store::MemSink;
 use gb_text::List;
+use run_fixtures::Row::{Done, Refused, Usage};
+use run_fixtures::{DISK_FAULT, DONE, OUT_FAULT, REFUSED, Row, expect, hold, run_into};
 use std::alloc::Global;
 use std::test::Fail;
 
 const GOOD_LOG: &str =
     "2 f3f9abbaf8d4952b1fa36776fc04587c25db8557\n3 da112c73eb36436fbf3fbfcfe0347d16340d355a\n";
 
-// Whether the log of the bug of a case ends so and prints this.
-fn case_tells(alloc: Global, case: Case, status: u8, text: &str) -> Result<bool, Fail> {
-    let mut store = MemStore::new(alloc, List::new(alloc));
-    put_bug(alloc, &mut store, case)?;
-    tells(alloc, &mut store, &["f", "log", BUG], status, text)
+// Sees that the log of the bug of a row ends so and prints this.
+fn expect_log(alloc: Global, row: usize, case: Case, status: u8, text: &str) -> Result<(), Fail> {
+    let mut disk = Disk::new(alloc)?;
+    put_bug(&mut disk, case)?;
+    expect(&mut disk, row, &["f", "log", BUG], status, text)
 }
 
 // Bugs with a log.
@@ -112,10 +114,10 @@ const SPOILED: &[Case] = &[
     Case::Entries(&["edit-clock-3", "ops", "version-04"]),
     Case::Entries(&["edit-clock-3", "ops", "version-4", "version-5"]),
     Case::Entries(&["edit-clock-3", "version-4"]),
-    Case::Ops(b"40000", ROOT_TREE_BYTES),
-    Case::Ops(b"120000", PACK_BYTES),
-    Case::Ops(b"100644", ROOT_TREE_BYTES),
-    Case::Ops(b"100644", &[7; 20]),
+    Case::Ops("40000", ROOT_TREE),
+    Case::Ops("120000", PACK),
+    Case::Ops("100644", ROOT_TREE),
+    Case::Ops("100644", ABSENT),
     Case::Gone(PACK),
     Case::Gone(ROOT_PACK),
     Case::Ends(ROOT_PACK, b"x"),
@@ -136,11 +138,8 @@ const SPOILED: &[Case] = &[
     Case::Operations(4_097),
 ];
 
-const ROOT_TREE_BYTES: &[u8] =
-    b"\xfd\x46\xb1\x59\x73\x09\x11\x85\xa7\xdc\xb9\x75\x06\x04\x8c\x2f\xad\x9b\xb3\x2e";
-
-const PACK_BYTES: &[u8] =
-    b"\xf4\x14\xcf\x14\x2e\x63\xf2\xb4\x8a\x03\xa6\x85\x35\x67\xfe\xd5\xae\xc2\x39\x88";
+// The name of no object.
+const ABSENT: &str = "0707070707070707070707070707070707070707";
 
 const TWO_AUTHORS: &[u8] =
     b"{\"author\":{\"id\":\"000000000000000000000000000000000000000000000000000000000000000a\"},\"author\":{\"id\":\"000000000000000000000000000000000000000000000000000000000000000a\"}}";
@@ -160,88 +159,71 @@ const NO_LIST: &[u8] =
 const BAD_OPERATION: &[u8] =
     b"{\"author\":{\"id\":\"000000000000000000000000000000000000000000000000000000000000000a\"},\"ops\":[{\"type\":1}]}";
 
+fn expect_logs(alloc: Global, rows: &[(Case, &str)]) -> Result<(), Fail> {
+    for (row, (case, log)) in rows.iter().enumerate() {
+        expect_log(alloc, row, *case, DONE, log)?;
+    }
+    Ok(())
+}
+
 #[test]
 fn good_bugs_are_logged(rt: HostRuntime) -> Result<(), Fail> {
-    let alloc = rt.alloc();
-    for (row, (case, log)) in LOGGED.iter().enumerate() {
-        let holds = case_tells(alloc, *case, DONE, log)?;
-        assert!(rt; holds, "row {row}");
+    expect_logs(rt.alloc(), LOGGED)
+}
+
+fn expect_damage(alloc: Global, cases: &[Case]) -> Result<(), Fail> {
+    for (row, case) in cases.iter().enumerate() {
+        expect_log(alloc, row, *case, REFUSED, DAMAGED)?;
     }
     Ok(())
 }
 
 #[test]
 fn each_cause_of_damage_is_told(rt: HostRuntime) -> Result<(), Fail> {
-    let alloc = rt.alloc();
-    for (row, case) in SPOILED.iter().enumerate() {
-        let holds = case_tells(alloc, *case, REFUSED, DAMAGED)?;
-        assert!(rt; holds, "row {row}");
-    }
-    Ok(())
+    expect_damage(rt.alloc(), SPOILED)
 }
 
-const USAGE_LINE: &str = "usage: gitbug FOLDER COMMAND ARGUMENTS\n";
+const BAD_FOLDER: &str = "17 bad folder";
 
-const BAD_FOLDER: &str = "refused 17 bad folder\n";
+const NOT_FOUND: &str = "2 not found";
 
-const NOT_FOUND: &str = "refused 2 not found\n";
+// The id of the bug with a digit less, and in capitals.
+const SHORT: &str = "3912f32747d1e7d315d89cd550e61a80638342c85e80fec8f844c37035613dc";
 
-// Words, and what they are told over the good bug.
-const WORDS: &[(&[&str], u8, &str)] = &[
-    (&[], USAGE, USAGE_LINE),
-    (&["f"], USAGE, USAGE_LINE),
-    (&["f", "log"], USAGE, USAGE_LINE),
-    (&["f", "log", BUG, BUG], USAGE, USAGE_LINE),
-    (&["f", "lag", BUG], USAGE, USAGE_LINE),
-    (&["a/..", "lag", BUG], USAGE, USAGE_LINE),
-    (&["", "log", BUG], REFUSED, BAD_FOLDER),
-    (&["a/..", "log", BUG], REFUSED, BAD_FOLDER),
-    (&["f\u{1}", "log", BUG], REFUSED, BAD_FOLDER),
-    (&["", "log", "x"], REFUSED, BAD_FOLDER),
-    (&["f", "log", ZEROS], REFUSED, NOT_FOUND),
-    (&["f", "log", "--"], REFUSED, NOT_FOUND),
-    (&["f", "log", "x/../3912"], REFUSED, NOT_FOUND),
-    (&["g", "log", BUG], REFUSED, NOT_FOUND),
-    (
-        &[
-            "f",
-            "log",
-            "3912f32747d1e7d315d89cd550e61a80638342c85e80fec8f844c37035613dc",
-        ],
-        REFUSED,
-        NOT_FOUND,
-    ),
-    (
-        &[
-            "f",
-            "log",
-            "3912F32747D1E7D315D89CD550E61A80638342C85E80FEC8F844C37035613DC8",
-        ],
-        REFUSED,
-        NOT_FOUND,
-    ),
-    (&["./f/", "log", BUG], DONE, GOOD_LOG),
+const CAPITALS: &str = "3912F32747D1E7D315D89CD550E61A80638342C85E80FEC8F844C37035613DC8";
+
+// Over the good bug, which is ten files.
+const WORDS: &[Row] = &[
+    Usage(&[], 10),
+    Usage(&["f"], 10),
+    Usage(&["f", "log"], 10),
+    Usage(&["f", "log", BUG, BUG], 10),
+    Usage(&["f", "lag", BUG], 10),
+    Usage(&["a/..", "lag", BUG], 10),
+    Refused(&["", "log", BUG], 0, BAD_FOLDER, 10),
+    Refused(&["a/..", "log", BUG], 0, BAD_FOLDER, 10),
+    Refused(&["f\u{1}", "log", BUG], 0, BAD_FOLDER, 10),
+    Refused(&["", "log", "x"], 0, BAD_FOLDER, 10),
+    Refused(&["f", "log", ZEROS], 0, NOT_FOUND, 10),
+    Refused(&["f", "log", "--"], 0, NOT_FOUND, 10),
+    Refused(&["f", "log", "x/../3912"], 0, NOT_FOUND, 10),
+    Refused(&["g", "log", BUG], 0, NOT_FOUND, 10),
+    Refused(&["f", "log", SHORT], 0, NOT_FOUND, 10),
+    Refused(&["f", "log", CAPITALS], 0, NOT_FOUND, 10),
+    Done(&["./f/", "log", BUG], 0, GOOD_LOG, 10),
 ];
 
 #[test]
 fn words_are_told_what_they_ask(rt: HostRuntime) -> Result<(), Fail> {
-    let alloc = rt.alloc();
-    let mut store = MemStore::new(alloc, List::new(alloc));
-    put_bug(alloc, &mut store, Case::Good)?;
-    for (row, (words, status, text)) in WORDS.iter().enumerate() {
-        let holds = tells(alloc, &mut store, words, *status, text)?;
-        assert!(rt; holds, "row {row}");
-    }
-    Ok(())
+    let mut disk = Disk::new(rt.alloc())?;
+    put_bug(&mut disk, Case::Good)?;
+    hold(&mut disk, WORDS)
 }
 
 #[test]
 fn an_empty_folder_has_no_bug(rt: HostRuntime) -> Result<(), Fail> {
-    let alloc = rt.alloc();
-    let mut store = MemStore::new(alloc, List::new(alloc));
-    let holds = tells(alloc, &mut store, &["f", "log", ZEROS], REFUSED, NOT_FOUND)?;
-    assert!(rt; holds);
-    Ok(())
+    let mut disk = Disk::new(rt.alloc())?;
+    hold(&mut disk, &[Refused(&["f", "log", ZEROS], 0, NOT_FOUND, 0)])
 }
 
 // The number of the write that a sink of five bytes a write refuses, how the log of the good bug
@@ -258,62 +240,47 @@ const FRONTS: &[(u64, u8, &str)] = &[
 ];
 
 // Whether with such a sink the log ends so, and the sink holds this.
-fn sink_holds(
-    alloc: Global,
-    store: &mut MemStore,
-    call: u64,
-    status: u8,
-    text: &str,
-) -> Result<bool, Fail> {
-    let mut fails = List::new(alloc);
-    let _ = fails.push(call);
-    let mut sink = MemSink::new(alloc, fails, 5);
-    let ended = run_words(alloc, store, &["f", "log", BUG], &mut sink)?;
+fn sink_holds(disk: &mut Disk, call: u64, status: u8, text: &str) -> Result<bool, Fail> {
+    let mut fails = List::new(disk.alloc);
+    fails.push(call)?;
+    let mut sink = MemSink::new(disk.alloc, fails, 5);
+    let ended = run_into(disk, &mut sink, &["f", "log", BUG], 0)?;
     Ok(ended == status && sink.bytes() == text.as_bytes())
 }
 
 #[test]
 fn a_sink_that_fails_holds_a_front_of_the_text(rt: HostRuntime) -> Result<(), Fail> {
-    let alloc = rt.alloc();
-    let mut store = MemStore::new(alloc, List::new(alloc));
-    put_bug(alloc, &mut store, Case::Good)?;
+    let mut disk = Disk::new(rt.alloc())?;
+    put_bug(&mut disk, Case::Good)?;
     for (call, status, text) in FRONTS {
-        assert!(rt; sink_holds(alloc, &mut store, *call, *status, text)?);
+        assert!(rt;
+            sink_holds(&mut disk, *call, *status, text)?,
+            "write {call}"
+        );
     }
     Ok(())
 }
 
-// Whether a run over a store whose call of this number fails ends so and prints this. The good bug
+// Sees that a run over a store whose call of this number fails ends so and prints this. The good bug
 // is put first.
-fn failing_tells(alloc: Global, call: u64, status: u8, text: &str) -> Result<bool, Fail> {
-    let mut fails = List::new(alloc);
-    let _ = fails.push(Listed { call, after: false });
-    let mut store = MemStore::new(alloc, fails);
-    put_bug(alloc, &mut store, Case::Good)?;
-    tells(alloc, &mut store, &["f", "log", BUG], status, text)
+fn expect_failing(alloc: Global, call: u64, status: u8, text: &str) -> Result<(), Fail> {
+    let mut disk = Disk::failing(alloc, &[(call, false)])?;
+    put_bug(&mut disk, Case::Good)?;
+    expect(&mut disk, 0, &["f", "log", BUG], status, text)
 }
 
 #[test]
 fn a_store_that_fails_prints_nothing(rt: HostRuntime) -> Result<(), Fail> {
-    let alloc = rt.alloc();
     // Ten files are put. Then the refs of persons are listed, and the ref of the bug, that of the
     // person and six objects are read.
     for call in 10..19 {
-        assert!(rt; failing_tells(alloc, call, DISK_FAULT, "")?);
+        expect_failing(rt.alloc(), call, DISK_FAULT, "")?;
     }
-    assert!(rt; failing_tells(alloc, 19, DONE, GOOD_LOG)?);
-    Ok(())
+    expect_failing(rt.alloc(), 19, DONE, GOOD_LOG)
 }
 
 #[test]
 fn the_first_call_of_a_store_may_fail(rt: HostRuntime) -> Result<(), Fail> {
-    let alloc = rt.alloc();
-    let mut fails = List::new(alloc);
-    let _ = fails.push(Listed {
-        call: 0,
-        after: false,
-    });
-    let mut store = MemStore::new(alloc, fails);
-    assert!(rt; tells(alloc, &mut store, &["f", "log", BUG], DISK_FAULT, "")?);
-    Ok(())
+    let mut disk = Disk::failing(rt.alloc(), &[(0, false)])?;
+    expect(&mut disk, 0, &["f", "log", BUG], DISK_FAULT, "")
 }
