@@ -18,6 +18,3 @@ pub use laws::{
 };
 pub use object::Object;
 pub use tree::Tree;
-
-#[cfg(test)]
-mod tests;

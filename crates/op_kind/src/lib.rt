@@ -31,6 +31,3 @@ pub use written::{
     Written, common_members, print_decimal, put_member, quote, quote_nonce, quote_pairs,
     quote_texts, write_members,
 };
-
-#[cfg(test)]
-mod tests;

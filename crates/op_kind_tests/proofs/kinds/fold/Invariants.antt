@@ -1,6 +1,6 @@
 use Rattle.std.proofs.Common.{◌≡◌, drop}
 use Rattle.op_kind.specs.Fold.{state_from}
-use Rattle.op_kind.proofs.tests.fold.Given as goal
+use Rattle.op_kind_tests.proofs.kinds.fold.Given as goal
 
 abbrev pub invariant-loop-op : goal.invariant-loop-op
 invariant-loop-op g l = record {
