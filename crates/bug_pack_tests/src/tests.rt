@@ -1,6 +1,7 @@
 //! Packs of bugs whose texts are written by other programs.
 use crate::{bug_of_packs, fold_both};
 use bug_ops::BugOp;
+use fixtures::{id, pack_text};
 use gb_text::{Id, Memory, Name};
 use op_kind::{OpFault, OpKind, Place};
 use op_pack::{Pack, PackFault, TreeHead};
@@ -16,12 +17,7 @@ const HEAD: TreeHead = TreeHead {
 
 const AUTHOR: Id = Id { bytes: [1; 32] };
 
-/// The text of a pack before its operations, and behind them.
-const FRONT: &[u8] =
-    b"{\"author\":{\"id\":\"0101010101010101010101010101010101010101010101010101010101010101\"},\
-      \"ops\":[";
-
-const BACK: &[u8] = b"]}";
+const AUTHOR_DIGITS: &[u8] = b"0101010101010101010101010101010101010101010101010101010101010101";
 
 /// A creation whose title is `a<b`, and whose text another program wrote.
 const CREATION: &[u8] = b"{ \"title\":\"a\\u003cb\", \"message\":\"m\", \
@@ -30,17 +26,9 @@ const CREATION: &[u8] = b"{ \"title\":\"a\\u003cb\", \"message\":\"m\", \
 const COMMENT: &[u8] =
     b"{\"message\":\"c\",\"nonce\":\"AAAAAAAAAAAAAAAAAAAAAAAAAAA=\",\"timestamp\":2,\"type\":3}";
 
-fn pack_text(alloc: Global, ops: &[&[u8]]) -> Result<Vec<u8>, Fail> {
-    let mut text = Vec::new(alloc);
-    text.extend_from_slice(FRONT)?;
-    for (i, op) in ops.iter().enumerate() {
-        if i > 0 {
-            text.push(b',')?;
-        }
-        text.extend_from_slice(op)?;
-    }
-    text.extend_from_slice(BACK)?;
-    Ok(text)
+/// The pack of these operations.
+fn pack_of(alloc: Global, ops: &[&[u8]]) -> Result<Pack<BugOp>, Fail> {
+    Ok(read(alloc, &pack_text(alloc, AUTHOR_DIGITS, ops)?)?)
 }
 
 fn read(alloc: Global, text: &[u8]) -> Result<Pack<BugOp>, PackFault> {
@@ -50,16 +38,14 @@ fn read(alloc: Global, text: &[u8]) -> Result<Pack<BugOp>, PackFault> {
 #[test]
 fn a_title_reads_and_the_id_is_of_the_text_as_it_stands(rt: HostRuntime) -> Result<(), Fail> {
     let alloc = rt.alloc();
-    let pack = read(alloc, &pack_text(alloc, &[CREATION])?)?;
+    let pack = pack_of(alloc, &[CREATION])?;
     let op = pack.ops.as_slice().first().ok_or("an operation")?;
     let BugOp::Create { title, common, .. } = op else {
         return Err("a creation".into());
     };
     assert_eq!(rt; title.as_str(), "a<b");
-    assert_eq!(rt;
-        common.place.id.text().as_slice(),
-        b"66b36241fadce89bf1f6d8f32136295d7deb3b601e26ef97556f9e1bafb23e38".as_slice()
-    );
+    let wanted = id("66b36241fadce89bf1f6d8f32136295d7deb3b601e26ef97556f9e1bafb23e38")?;
+    assert_eq!(rt; common.place.id, wanted);
     let written = pack.write(alloc)?;
     let again = read(alloc, written.as_slice())?;
     let op = again.ops.as_slice().first().ok_or("an operation")?;
@@ -74,10 +60,8 @@ fn operations_that_are_null_are_none(rt: HostRuntime) -> Result<(), Fail> {
           {\"id\":\"0101010101010101010101010101010101010101010101010101010101010101\"} }";
     let pack = read(alloc, text)?;
     assert_eq!(rt; (pack.author, pack.ops.len()), (AUTHOR, 0));
-    assert_eq!(rt;
-        pack.id.text().as_slice(),
-        b"40167ccc947a422e28c5a89e46414336a4f82f695bcc194f538e98128c92a3d6".as_slice()
-    );
+    let wanted = id("40167ccc947a422e28c5a89e46414336a4f82f695bcc194f538e98128c92a3d6")?;
+    assert_eq!(rt; pack.id, wanted);
     Ok(())
 }
 
@@ -85,7 +69,7 @@ fn operations_that_are_null_are_none(rt: HostRuntime) -> Result<(), Fail> {
 fn a_bad_operation_of_a_bug_is_told_by_its_index(rt: HostRuntime) -> Result<(), Fail> {
     let alloc = rt.alloc();
     let unknown = b"{\"nonce\":\"AAAAAAAAAAAAAAAAAAAAAAAAAAA=\",\"timestamp\":0,\"type\":9}";
-    let text = pack_text(alloc, &[CREATION, unknown])?;
+    let text = pack_text(alloc, AUTHOR_DIGITS, &[CREATION, unknown])?;
     assert!(rt;
         matches!(
             read(alloc, &text),
@@ -96,8 +80,8 @@ fn a_bad_operation_of_a_bug_is_told_by_its_index(rt: HostRuntime) -> Result<(), 
 }
 
 fn two_packs(alloc: Global) -> Result<Vec<Pack<BugOp>>, Fail> {
-    let first = read(alloc, &pack_text(alloc, &[CREATION, COMMENT])?)?;
-    let second = read(alloc, &pack_text(alloc, &[COMMENT])?)?;
+    let first = pack_of(alloc, &[CREATION, COMMENT])?;
+    let second = pack_of(alloc, &[COMMENT])?;
     let mut packs = Vec::new(alloc);
     packs.push(first).ok().ok_or("memory")?;
     packs.push(second).ok().ok_or("memory")?;
@@ -123,7 +107,7 @@ fn comments_of_both(alloc: Global, ops: &[BugOp]) -> Result<(u64, u64), Memory> 
 
 #[test]
 fn a_bug_and_its_row_go_along(rt: HostRuntime) -> Result<(), Fail> {
-    let pack = read(rt.alloc(), &pack_text(rt.alloc(), &[CREATION, COMMENT])?)?;
+    let pack = pack_of(rt.alloc(), &[CREATION, COMMENT])?;
     assert_eq!(rt; comments_of_both(rt.alloc(), pack.ops.as_slice())?, (2, 2));
     Ok(())
 }
@@ -131,7 +115,7 @@ fn a_bug_and_its_row_go_along(rt: HostRuntime) -> Result<(), Fail> {
 #[test]
 fn an_operation_is_carried_to_another_place(rt: HostRuntime) -> Result<(), Fail> {
     let alloc = rt.alloc();
-    let pack = read(alloc, &pack_text(alloc, &[CREATION])?)?;
+    let pack = pack_of(alloc, &[CREATION])?;
     let op = pack.ops.as_slice().first().ok_or("an operation")?;
     let there = Place {
         id: AUTHOR,
