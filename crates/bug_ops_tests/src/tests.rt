@@ -1,15 +1,14 @@
 //! What no clause says: worked texts, that calls succeed, and that long folds are no strain.
 mod folds;
 
+use Members::{Edit, Metadata, Of};
 use bug_ops::{BugOp, BugStatus, Excerpt, Fold, Snapshot};
-use gb_text::{Id, Memory};
+use fixtures::{CREATE, joined};
+use gb_text::Id;
+use op_kind::OpFault::{BadMember, BadText, UnknownType};
 use op_kind::{OpFault, OpKind, Place, read_common};
 use std::alloc::Global;
 use std::test::Fail;
-
-/// The least creation: 99 bytes, with a nonce of 20 zero bytes.
-const LEAST: &[u8] = b"{\"files\":[],\"message\":\"\",\
-    \"nonce\":\"AAAAAAAAAAAAAAAAAAAAAAAAAAA=\",\"timestamp\":0,\"title\":\"a\",\"type\":1}";
 
 /// One operation of each type, as it is written, with a byte of its id. The first and the third make
 /// comments.
@@ -57,215 +56,139 @@ const WRITTEN: [(u8, &[u8]); 8] = [
     ),
 ];
 
-/// The members of an edit and of further metadata that name the operation of 32 ones.
+/// Members behind those that every operation has.
+#[derive(Clone, Copy)]
+enum Members {
+    Of(&'static str),
+    /// Behind those of an edit of the operation of 32 ones.
+    Edit(&'static str),
+    /// Behind those of further metadata of this operation.
+    Metadata(&'static str),
+}
+
 const EDIT: &[u8] = b"\"type\":6,\
     \"target\":\"0101010101010101010101010101010101010101010101010101010101010101\"";
 
 const METADATA: &[u8] = b"\"type\":8,\
     \"target\":\"0101010101010101010101010101010101010101010101010101010101010101\"";
 
-/// Members behind those that every operation has, in two parts, and the fault of the whole.
-type Row = (&'static [u8], &'static [u8], OpFault);
+/// Members, and the fault of the operation that has them.
+type Row = (Members, OpFault);
 
 /// Faults of types, titles and titles before.
-const TITLES: [Row; 12] = [
-    (b"\"type\":77", b"", OpFault::UnknownType(77)),
-    (b"\"type\":0", b"", OpFault::UnknownType(0)),
-    (b"\"type\":9", b"", OpFault::UnknownType(9)),
-    (b"\"type\":1,\"message\":\"\"", b"", OpFault::BadMember(5)),
-    (b"\"type\":2", b"", OpFault::BadMember(5)),
-    (b"\"type\":2,\"title\":7", b"", OpFault::BadMember(5)),
-    (b"\"type\":2,\"title\":null", b"", OpFault::BadMember(5)),
-    (b"\"type\":2,\"title\":\" \"", b"", OpFault::BadText(5)),
+const TITLES: &[Row] = &[
+    (Of(r#""type":77"#), UnknownType(77)),
+    (Of(r#""type":0"#), UnknownType(0)),
+    (Of(r#""type":9"#), UnknownType(9)),
+    (Of(r#""type":1,"message":"""#), BadMember(5)),
+    (Of(r#""type":2"#), BadMember(5)),
+    (Of(r#""type":2,"title":7"#), BadMember(5)),
+    (Of(r#""type":2,"title":null"#), BadMember(5)),
+    (Of(r#""type":2,"title":" ""#), BadText(5)),
+    (Of(r#""type":2,"title":"a","t\u0069tle":"a""#), BadMember(5)),
+    (Of(r#""type":2,"title":"a","was":null"#), BadMember(6)),
+    (Of(r#""type":2,"title":"a","was":1"#), BadMember(6)),
     (
-        b"\"type\":2,\"title\":\"a\",\"t\\u0069tle\":\"a\"",
-        b"",
-        OpFault::BadMember(5),
-    ),
-    (
-        b"\"type\":2,\"title\":\"a\",\"was\":null",
-        b"",
-        OpFault::BadMember(6),
-    ),
-    (
-        b"\"type\":2,\"title\":\"a\",\"was\":1",
-        b"",
-        OpFault::BadMember(6),
-    ),
-    (
-        b"\"type\":2,\"title\":\"a\",\"was\":\"\",\"was\":\"\"",
-        b"",
-        OpFault::BadMember(6),
+        Of(r#""type":2,"title":"a","was":"","was":"""#),
+        BadMember(6),
     ),
 ];
 
 /// Faults of messages and files.
-const MESSAGES: [Row; 11] = [
-    (b"\"type\":3", b"", OpFault::BadMember(7)),
-    (b"\"type\":3,\"message\":null", b"", OpFault::BadMember(7)),
-    (b"\"type\":3,\"message\":[]", b"", OpFault::BadMember(7)),
+const MESSAGES: &[Row] = &[
+    (Of(r#""type":3"#), BadMember(7)),
+    (Of(r#""type":3,"message":null"#), BadMember(7)),
+    (Of(r#""type":3,"message":[]"#), BadMember(7)),
+    (Of(r#""type":3,"message":"\u0000""#), BadText(7)),
+    (Of(r#""type":3,"message":"","message":"""#), BadMember(7)),
+    (Of(r#""type":3,"message":"","files":"a""#), BadMember(8)),
+    (Of(r#""type":3,"message":"","files":[1]"#), BadMember(8)),
     (
-        b"\"type\":3,\"message\":\"\\u0000\"",
-        b"",
-        OpFault::BadText(7),
+        Of(r#""type":3,"message":"","files":["01010101010101010101010101010101010101011"]"#),
+        BadMember(8),
     ),
     (
-        b"\"type\":3,\"message\":\"\",\"message\":\"\"",
-        b"",
-        OpFault::BadMember(7),
+        Of(r#""type":3,"message":"","files":["0A01010101010101010101010101010101010101"]"#),
+        BadMember(8),
     ),
     (
-        b"\"type\":3,\"message\":\"\",\"files\":\"a\"",
-        b"",
-        OpFault::BadMember(8),
+        Of(r#""type":3,"message":"","files":null,"files":null"#),
+        BadMember(8),
     ),
-    (
-        b"\"type\":3,\"message\":\"\",\"files\":[1]",
-        b"",
-        OpFault::BadMember(8),
-    ),
-    (
-        b"\"type\":3,\"message\":\"\",\
-          \"files\":[\"01010101010101010101010101010101010101011\"]",
-        b"",
-        OpFault::BadMember(8),
-    ),
-    (
-        b"\"type\":3,\"message\":\"\",\
-          \"files\":[\"0A01010101010101010101010101010101010101\"]",
-        b"",
-        OpFault::BadMember(8),
-    ),
-    (
-        b"\"type\":3,\"message\":\"\",\"files\":null,\"files\":null",
-        b"",
-        OpFault::BadMember(8),
-    ),
-    (EDIT, b"", OpFault::BadMember(7)),
+    (Edit(""), BadMember(7)),
 ];
 
 /// Faults of statuses and labels.
-const LABELS: [Row; 14] = [
-    (b"\"type\":4", b"", OpFault::BadMember(9)),
-    (b"\"type\":4,\"status\":0", b"", OpFault::BadMember(9)),
-    (b"\"type\":4,\"status\":3", b"", OpFault::BadMember(9)),
-    (b"\"type\":4,\"status\":\"1\"", b"", OpFault::BadMember(9)),
-    (b"\"type\":4,\"status\":1.0", b"", OpFault::BadMember(9)),
-    (
-        b"\"type\":4,\"status\":1,\"status\":1",
-        b"",
-        OpFault::BadMember(9),
-    ),
-    (b"\"type\":5,\"added\":[\" \"]", b"", OpFault::BadText(10)),
-    (b"\"type\":5,\"added\":[1]", b"", OpFault::BadMember(10)),
-    (b"\"type\":5,\"added\":{}", b"", OpFault::BadMember(10)),
-    (
-        b"\"type\":5,\"added\":[],\"added\":[]",
-        b"",
-        OpFault::BadMember(10),
-    ),
-    (
-        b"\"type\":5,\"removed\":[\"a\",\"\"]",
-        b"",
-        OpFault::BadText(11),
-    ),
-    (b"\"type\":5,\"removed\":\"a\"", b"", OpFault::BadMember(11)),
-    (
-        b"\"type\":5,\"removed\":[null]",
-        b"",
-        OpFault::BadMember(11),
-    ),
-    (
-        b"\"type\":5,\"removed\":[],\"removed\":[]",
-        b"",
-        OpFault::BadMember(11),
-    ),
+const LABELS: &[Row] = &[
+    (Of(r#""type":4"#), BadMember(9)),
+    (Of(r#""type":4,"status":0"#), BadMember(9)),
+    (Of(r#""type":4,"status":3"#), BadMember(9)),
+    (Of(r#""type":4,"status":"1""#), BadMember(9)),
+    (Of(r#""type":4,"status":1.0"#), BadMember(9)),
+    (Of(r#""type":4,"status":1,"status":1"#), BadMember(9)),
+    (Of(r#""type":5,"added":[" "]"#), BadText(10)),
+    (Of(r#""type":5,"added":[1]"#), BadMember(10)),
+    (Of(r#""type":5,"added":{}"#), BadMember(10)),
+    (Of(r#""type":5,"added":[],"added":[]"#), BadMember(10)),
+    (Of(r#""type":5,"removed":["a",""]"#), BadText(11)),
+    (Of(r#""type":5,"removed":"a""#), BadMember(11)),
+    (Of(r#""type":5,"removed":[null]"#), BadMember(11)),
+    (Of(r#""type":5,"removed":[],"removed":[]"#), BadMember(11)),
 ];
 
 /// Faults of targets and metadata.
-const TARGETS: [Row; 13] = [
-    (b"\"type\":6,\"message\":\"\"", b"", OpFault::BadMember(12)),
+const TARGETS: &[Row] = &[
+    (Of(r#""type":6,"message":"""#), BadMember(12)),
+    (Of(r#""type":8,"new_metadata":{}"#), BadMember(12)),
     (
-        b"\"type\":8,\"new_metadata\":{}",
-        b"",
-        OpFault::BadMember(12),
+        Of(r#""type":8,"target":null,"new_metadata":{}"#),
+        BadMember(12),
     ),
     (
-        b"\"type\":8,\"target\":null,\"new_metadata\":{}",
-        b"",
-        OpFault::BadMember(12),
+        Of(
+            r#""type":8,"target":"010101010101010101010101010101010101010101010101010101010101010","new_metadata":{}"#,
+        ),
+        BadMember(12),
     ),
     (
-        b"\"type\":8,\
-          \"target\":\"010101010101010101010101010101010101010101010101010101010101010\"",
-        b",\"new_metadata\":{}",
-        OpFault::BadMember(12),
+        Of(
+            r#""type":8,"target":"0A0A0A0A0A0A0A0A0A0A0A0A0A0A0A0A0A0A0A0A0A0A0A0A0A0A0A0A0A0A0A0A","new_metadata":{}"#,
+        ),
+        BadMember(12),
+    ),
+    (Metadata(""), BadMember(13)),
+    (Metadata(r#","new_metadata":null"#), BadMember(13)),
+    (Metadata(r#","new_metadata":[]"#), BadMember(13)),
+    (Metadata(r#","new_metadata":{"a":1}"#), BadMember(13)),
+    (Metadata(r#","new_metadata":{"\ud800":""}"#), BadMember(13)),
+    (
+        Metadata(r#","new_metadata":{"a":"","a":""}"#),
+        BadMember(13),
     ),
     (
-        b"\"type\":8,\
-          \"target\":\"0A0A0A0A0A0A0A0A0A0A0A0A0A0A0A0A0A0A0A0A0A0A0A0A0A0A0A0A0A0A0A0A\"",
-        b",\"new_metadata\":{}",
-        OpFault::BadMember(12),
-    ),
-    (METADATA, b"", OpFault::BadMember(13)),
-    (METADATA, b",\"new_metadata\":null", OpFault::BadMember(13)),
-    (METADATA, b",\"new_metadata\":[]", OpFault::BadMember(13)),
-    (
-        METADATA,
-        b",\"new_metadata\":{\"a\":1}",
-        OpFault::BadMember(13),
+        Metadata(r#","new_metadata":{"a":"","\u0061":""}"#),
+        BadMember(13),
     ),
     (
-        METADATA,
-        b",\"new_metadata\":{\"\\ud800\":\"\"}",
-        OpFault::BadMember(13),
-    ),
-    (
-        METADATA,
-        b",\"new_metadata\":{\"a\":\"\",\"a\":\"\"}",
-        OpFault::BadMember(13),
-    ),
-    (
-        METADATA,
-        b",\"new_metadata\":{\"a\":\"\",\"\\u0061\":\"\"}",
-        OpFault::BadMember(13),
-    ),
-    (
-        METADATA,
-        b",\"new_metadata\":{},\"new_metadata\":{}",
-        OpFault::BadMember(13),
+        Metadata(r#","new_metadata":{},"new_metadata":{}"#),
+        BadMember(13),
     ),
 ];
 
-/// Members behind those that every operation has, in two parts, of operations.
-const READ: [(&[u8], &[u8]); 12] = [
-    (b"\"type\":1,\"title\":\"a\",\"message\":\"\"", b""),
-    (
-        b"\"type\":1,\"title\":\"a\",\"message\":\"\\n\\t\",\"files\":null",
-        b"",
-    ),
-    (
-        b"\"type\":2,\"title\":\"a\\u003cb\",\"was\":\"\\u0001\"",
-        b"",
-    ),
-    (
-        b"\"type\":2,\"title\":\"a\",\"message\":1,\"message\":2",
-        b"",
-    ),
-    (
-        b"\"type\":3,\"message\":\"\",\"title\":\" \",\"x\":[1.5],\"\\ud800\":1",
-        b"",
-    ),
-    (b"\"type\":5", b""),
-    (b"\"type\":5,\"added\":null,\"removed\":null", b""),
-    (
-        b"\"type\":5,\"added\":[\"a\",\"a\"],\"removed\":[\"a\"]",
-        b"",
-    ),
-    (b"\"type\":7,\"metadata\":null", b""),
-    (EDIT, b",\"message\":\"\""),
-    (METADATA, b",\"new_metadata\":{}"),
-    (METADATA, b",\"new_metadata\":{\"b\":\"\",\"a\":\"\"}"),
+/// Members of operations.
+const READ: &[Members] = &[
+    Of(r#""type":1,"title":"a","message":"""#),
+    Of(r#""type":1,"title":"a","message":"\n\t","files":null"#),
+    Of(r#""type":2,"title":"a\u003cb","was":"\u0001""#),
+    Of(r#""type":2,"title":"a","message":1,"message":2"#),
+    Of(r#""type":3,"message":"","title":" ","x":[1.5],"\ud800":1"#),
+    Of(r#""type":5"#),
+    Of(r#""type":5,"added":null,"removed":null"#),
+    Of(r#""type":5,"added":["a","a"],"removed":["a"]"#),
+    Of(r#""type":7,"metadata":null"#),
+    Edit(r#","message":"""#),
+    Metadata(r#","new_metadata":{}"#),
+    Metadata(r#","new_metadata":{"b":"","a":""}"#),
 ];
 
 fn place(byte: u8) -> Place {
@@ -303,14 +226,16 @@ fn fault_of(alloc: Global, text: &[u8]) -> Option<OpFault> {
     BugOp::read_op(alloc, place(1), text).err()
 }
 
+const FRONT: &[u8] = b"{\"nonce\":\"AAAAAAAAAAAAAAAAAAAAAAAAAAA=\",\"timestamp\":0,";
+
 /// The text of an operation with these members.
-fn with_members(alloc: Global, members: &[u8], more: &[u8]) -> Result<Vec<u8>, Memory> {
-    let mut text = Vec::new(alloc);
-    text.extend_from_slice(b"{\"nonce\":\"AAAAAAAAAAAAAAAAAAAAAAAAAAA=\",\"timestamp\":0,")?;
-    text.extend_from_slice(members)?;
-    text.extend_from_slice(more)?;
-    text.push(b'}')?;
-    Ok(text)
+fn with_members(alloc: Global, members: Members) -> Result<Vec<u8>, Fail> {
+    let (first, more) = match members {
+        Members::Of(more) => (b"".as_slice(), more),
+        Members::Edit(more) => (EDIT, more),
+        Members::Metadata(more) => (METADATA, more),
+    };
+    joined(alloc, &[FRONT, first, more.as_bytes(), b"}"])
 }
 
 /// The row of a bug without an operation.
@@ -350,38 +275,36 @@ fn first_message(bug: &Snapshot) -> &str {
 #[test]
 fn each_type_is_written_as_it_was_read(rt: HostRuntime) -> Result<(), Fail> {
     let alloc = rt.alloc();
-    assert_eq!(rt; LEAST.len(), 99);
-    assert!(rt; is_written_again(alloc, LEAST)?);
+    assert_eq!(rt; CREATE.len(), 99);
+    assert!(rt; is_written_again(alloc, CREATE)?);
     for (_, text) in WRITTEN {
         assert!(rt; is_written_again(alloc, text)?);
     }
     Ok(())
 }
 
-/// Whether just the fault of each row is named.
-fn are_named(alloc: Global, rows: &[Row]) -> Result<bool, Memory> {
-    for (members, more, fault) in rows {
-        let text = with_members(alloc, members, more)?;
+/// The place of the first row whose fault is not named.
+fn first_other(alloc: Global, rows: &[Row]) -> Result<Option<usize>, Fail> {
+    for (place, (members, fault)) in rows.iter().enumerate() {
+        let text = with_members(alloc, *members)?;
         if fault_of(alloc, &text) != Some(*fault) {
-            return Ok(false);
+            return Ok(Some(place));
         }
     }
-    Ok(true)
+    Ok(None)
 }
 
 #[test]
 fn each_fault_of_a_title_or_a_message_is_named(rt: HostRuntime) -> Result<(), Fail> {
-    let alloc = rt.alloc();
-    assert!(rt; are_named(alloc, &TITLES)?);
-    assert!(rt; are_named(alloc, &MESSAGES)?);
+    assert_eq!(rt; first_other(rt.alloc(), TITLES)?, None);
+    assert_eq!(rt; first_other(rt.alloc(), MESSAGES)?, None);
     Ok(())
 }
 
 #[test]
 fn each_fault_of_a_label_or_a_target_is_named(rt: HostRuntime) -> Result<(), Fail> {
-    let alloc = rt.alloc();
-    assert!(rt; are_named(alloc, &LABELS)?);
-    assert!(rt; are_named(alloc, &TARGETS)?);
+    assert_eq!(rt; first_other(rt.alloc(), LABELS)?, None);
+    assert_eq!(rt; first_other(rt.alloc(), TARGETS)?, None);
     Ok(())
 }
 
@@ -404,10 +327,9 @@ fn a_text_without_a_common_part_is_refused(rt: HostRuntime) -> Result<(), Fail> 
 
 #[test]
 fn what_is_read_is_written_and_read_again(rt: HostRuntime) -> Result<(), Fail> {
-    let alloc = rt.alloc();
-    for (members, more) in READ {
-        let text = with_members(alloc, members, more)?;
-        assert!(rt; is_stable(alloc, &text)?);
+    for (row, members) in READ.iter().enumerate() {
+        let text = with_members(rt.alloc(), *members)?;
+        assert!(rt; is_stable(rt.alloc(), &text)?, "row {row}");
     }
     Ok(())
 }
@@ -432,14 +354,14 @@ fn operations_add_up(rt: HostRuntime) -> Result<(), Fail> {
 
 #[test]
 fn the_least_creation_is_a_bug(rt: HostRuntime) -> Result<(), Fail> {
-    let bug = bug(rt.alloc(), &[(1, LEAST)])?;
+    let bug = bug(rt.alloc(), &[(1, CREATE)])?;
     assert_eq!(rt; bug.row.title.as_str(), "a");
     Ok(())
 }
 
 #[test]
 fn the_least_creation_has_a_place(rt: HostRuntime) -> Result<(), Fail> {
-    let common = read_common(rt.alloc(), place(1), LEAST)?;
+    let common = read_common(rt.alloc(), place(1), CREATE)?;
     assert_eq!(rt; common.place, place(1));
     Ok(())
 }
@@ -447,7 +369,7 @@ fn the_least_creation_has_a_place(rt: HostRuntime) -> Result<(), Fail> {
 /// Whether the row is one of the least creation, once that is applied, and empty before.
 fn row_is_created(alloc: Global, row: &mut Excerpt) -> Result<bool, OpFault> {
     let empty = row.title.as_str().is_empty() && row.comments == 0;
-    row_apply(alloc, row, 1, LEAST)?;
+    row_apply(alloc, row, 1, CREATE)?;
     Ok(empty && row.title.as_str() == "a" && row.status == BugStatus::Opened)
 }
 
@@ -462,7 +384,7 @@ fn the_least_creation_is_a_row(rt: HostRuntime) -> Result<(), Fail> {
 /// The comments of a row that had so many, once the least creation is applied.
 fn comments_after(alloc: Global, row: &mut Excerpt, before: u64) -> Result<u64, OpFault> {
     row.comments = before;
-    row_apply(alloc, row, 1, LEAST)?;
+    row_apply(alloc, row, 1, CREATE)?;
     Ok(row.comments)
 }
 
