@@ -1,0 +1,17 @@
+pub mod CauseLemmas
+pub mod CopyingLemmas
+pub mod EndLemmas
+pub mod FinishLemmas
+pub mod IndexLemmas
+pub mod KeptLemmas
+pub mod LoopLemmas
+pub mod MarkLemmas
+pub mod NeedLemmas
+pub mod OpenLemmas
+pub mod PushLemmas
+pub mod ReadLemmas
+pub mod StackLemmas
+pub mod StartLemmas
+pub mod StepLemmas
+pub mod TextLemmas
+pub mod WeightLemmas

@@ -1,0 +1,5 @@
+use Rattle.object_store.specs.Held.{objects_after}
+use Rattle.remote_copy.proofs.find.find.Goals as goal
+
+pub returns-clause-answers : goal.returns-clause-answers
+returns-clause-answers g c = λ tells. c.judge.ensures.answers (objects_after (g.S.Store.history c.args.disk.now) c.args.folder.now) (c.in_ok-read.ensures.found tells)

@@ -1,0 +1,11 @@
+pub mod Answers
+pub mod Causes
+pub mod Closure
+pub mod Copies
+pub mod Copying
+pub mod Faults
+pub mod Index
+pub mod Needs
+pub mod Opens
+pub mod Work
+pub mod Writes

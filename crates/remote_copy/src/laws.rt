@@ -1,0 +1,65 @@
+//! Laws of copies, each the contract of a function that does nothing.
+ghost use Rattle.std.specs.Prelude.{◌≡◌, ◌↔◌, Bool, true, false, ℕ, List};
+ghost use Rattle.gb_text.specs.declared.id.Name.{Name};
+ghost use Rattle.gb_store.specs.Files.{History};
+ghost use Rattle.gb_store.specs.Moments.{AllMoments, Wrote};
+ghost use Rattle.git_object.specs.declared.frame.Kind.TheVariants.{Commit};
+ghost use Rattle.object_store.specs.Growth.{OnlyGrew};
+ghost use Rattle.object_store.specs.Held.{Objects, objects_after, objects_in};
+ghost use Rattle.object_store.specs.Puts.{PutsObject};
+ghost use Rattle.object_batch.specs.Needs.{IsHeldAs, IsWhole, Reference};
+ghost use Rattle.remote_copy.specs.Closure.{IsClosed, IsInClosure, StandsAlike};
+ghost use Rattle.remote_copy.specs.Copies.{IsCopied};
+ghost use Rattle.remote_copy.specs.Writes.{PutsCopy};
+
+/// What a copy writes are objects, each where nothing stands.
+pub fn copies_put_objects()
+    ensures { (closed : Bool) (source target : List ℕ) (entry : Objects) (head : Name)
+        (old new : History) → Wrote (PutsCopy closed source target entry head) old new
+        → Wrote (PutsObject target) old new }
+{}
+
+/// Where all that held objects name was held, it is held at each moment of a copy, whatever the
+/// copy's answer.
+pub fn whole_folders_stay_whole()
+    ensures { (closed : Bool) (source target : List ℕ) (entry : Objects) (head : Name)
+        (old new : History) → IsWhole (objects_after old target)
+        → Wrote (PutsCopy closed source target entry head) old new
+        → AllMoments (λ files. IsWhole (objects_in files target)) old new }
+{}
+
+/// Where the closure of each held commit was held, it is held at each moment of a copy, whatever the
+/// copy's answer, and whether commits that the target holds were followed or not.
+pub fn closed_folders_stay_closed()
+    ensures { (closed : Bool) (source target : List ℕ) (entry : Objects) (head : Name)
+        (old new : History) → IsClosed (objects_after old target)
+        → Wrote (PutsCopy closed source target entry head) old new
+        → AllMoments (λ files. IsClosed (objects_in files target)) old new }
+{}
+
+/// A head that was copied is held, or was left; so its closure is held where the target is closed,
+/// as it is if it was before.
+pub fn copied_heads_have_their_closure()
+    ensures { (closed : Bool) (source entry target : Objects) (head : Name) (one : Reference)
+        → OnlyGrew entry target → IsClosed target → IsCopied closed source entry target head
+        → IsInClosure target head one → IsHeldAs target one.name one.kind }
+{}
+
+/// Where all commits were followed, the closure of the head is the same in both folders, object by
+/// object and byte by byte, whatever else the target holds.
+pub fn whole_copies_are_alike()
+    ensures same { (source entry target : Objects) (head : Name) (one : Reference)
+        → IsCopied false source entry target head
+        → IsInClosure source head one ↔ IsInClosure target head one }
+    ensures alike { (source entry target : Objects) (head : Name) (one : Reference)
+        → IsCopied false source entry target head
+        → IsInClosure source head one → StandsAlike source target one }
+{}
+
+/// Where the target is said to be closed and holds the head, a copy puts nothing: neither again, nor
+/// whatever is left in the source.
+pub fn heads_that_stand_are_not_copied()
+    ensures { (source target : List ℕ) (entry : Objects) (head : Name) (old new : History)
+        → IsHeldAs entry head Commit → Wrote (PutsCopy true source target entry head) old new
+        → new ≡ old }
+{}

@@ -1,0 +1,21 @@
+//! The closure of a head copied into another folder, children first.
+#![tactic(auto)]
+
+mod closure;
+mod fault;
+mod find;
+mod index;
+mod laws;
+mod look;
+mod need;
+mod open;
+mod work;
+
+pub use closure::copy;
+pub use fault::CopyFault;
+pub use laws::{
+    closed_folders_stay_closed, copied_heads_have_their_closure, copies_put_objects,
+    heads_that_stand_are_not_copied, whole_copies_are_alike, whole_folders_stay_whole,
+};
+pub use open::MOST_TREES;
+pub use work::{MOST_COMMITS, MOST_OTHERS};
