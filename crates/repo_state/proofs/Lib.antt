@@ -1,4 +1,5 @@
 pub mod BugLemmas
+pub mod BugListLemmas
 pub mod BugSoundLemmas
 pub mod ClockFileLemmas
 pub mod FoundLemmas

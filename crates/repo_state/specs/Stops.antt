@@ -31,6 +31,8 @@ abbrev pub number_of : Refusal → ℕ
 number_of refusal.NoUser = 1
 number_of refusal.NotFound = 2
 number_of (refusal.BadText place) = 4
+number_of refusal.NoLabelChange = 5
+number_of refusal.SameStatus = 6
 number_of (refusal.ClockFull name) = 7
 number_of (refusal.RepeatedOperation id) = 8
 number_of (refusal.EntityExists id) = 9

@@ -5,6 +5,7 @@ mod bugs;
 mod clocks;
 mod env;
 mod laws;
+mod operations;
 mod people;
 mod refs;
 mod refusal;
@@ -15,6 +16,7 @@ pub use bugs::{bug_at, read_bug};
 pub use clocks::{ClockFile, clock, clock_changes, see};
 pub use env::Env;
 pub use laws::{an_empty_folder_is_sound, heads_and_user_are_a_map, ids_are_those_of_the_heads};
+pub use operations::ops_of;
 pub use people::names;
 pub use refs::{
     EntityRef, damaged, entity, find, find_head, head, head_change, heads, ids, set_head, stands,

@@ -14,6 +14,10 @@ pub enum Refusal {
     NotFound,
     /// 4: the argument at this place, counted from 1, breaks its rule.
     BadText(u64),
+    /// 5: each label that was named is on already, or none of those to be taken off is on.
+    NoLabelChange,
+    /// 6: the bug has the status already.
+    SameStatus,
     /// 7: the edit clock of the bug's head, of this name, is 2^63 - 1, so that no later one is left.
     ClockFull(Name),
     /// 8: the bug has the operation of this id already.
@@ -46,6 +50,8 @@ impl Refusal {
             Refusal::NoUser => 1,
             Refusal::NotFound => 2,
             Refusal::BadText(_) => 4,
+            Refusal::NoLabelChange => 5,
+            Refusal::SameStatus => 6,
             Refusal::ClockFull(_) => 7,
             Refusal::RepeatedOperation(_) => 8,
             Refusal::EntityExists(_) => 9,

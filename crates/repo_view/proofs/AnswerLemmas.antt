@@ -19,6 +19,8 @@ LogAnswers-of files folder word bug (Err (stop.Refused (refusal.Damaged path))) 
 LogAnswers-of files folder word bug (Err (stop.Refused refusal.NoUser)) finds told = absurd told
 LogAnswers-of files folder word bug (Err (stop.Refused refusal.NotFound)) finds told = absurd told
 LogAnswers-of files folder word bug (Err (stop.Refused (refusal.BadText place))) finds told = absurd told
+LogAnswers-of files folder word bug (Err (stop.Refused refusal.NoLabelChange)) finds told = absurd told
+LogAnswers-of files folder word bug (Err (stop.Refused refusal.SameStatus)) finds told = absurd told
 LogAnswers-of files folder word bug (Err (stop.Refused (refusal.ClockFull name))) finds told = absurd told
 LogAnswers-of files folder word bug (Err (stop.Refused (refusal.RepeatedOperation other))) finds told = absurd told
 LogAnswers-of files folder word bug (Err (stop.Refused (refusal.EntityExists other))) finds told = absurd told

@@ -18,7 +18,7 @@ use Rattle.repo_state.specs.declared.refusal.Stop.{Stop}
 use Rattle.repo_state.specs.declared.refusal.Stop.TheVariants as stop
 use Rattle.repo_state.specs.declared.side.HeadEntry.{HeadEntry}
 use Rattle.repo_view.specs.Shown.{ShowAnswers}
-use Rattle.repo_view.proofs.BugListLemmas.{entity_is_bug_list}
+use Rattle.repo_state.proofs.BugListLemmas.{entity_is_bug_list}
 
 module _ (files : Files) (folder word : List ℕ) where
   -- where the people are not told, the bug isn't

@@ -1,5 +1,5 @@
 //! A bug as text.
-ghost use Rattle.std.specs.Prelude.{◌≡◌, ◌++◌, IsTrue, IfOk, OnOk, IsErrOf};
+ghost use Rattle.std.specs.Prelude.{◌≡◌, IsTrue, IfOk, IsErrOf};
 ghost use Rattle.bug_ops.specs.Kind.{bug_kind};
 ghost use Rattle.dag_entity.specs.Entities.{ops_in};
 ghost use Rattle.gb_store.specs.Faults.{KeepsFaults};
@@ -15,7 +15,7 @@ use gb_store::Store;
 use gb_text::{Folder, List, Memory, Text};
 use identity::Person;
 use render::show_text;
-use repo_state::{Side, Stop, bug_at, find_head, names};
+use repo_state::{Side, Stop, bug_at, find_head, names, ops_of};
 use snapshot::compile;
 use std::alloc::Global;
 
@@ -51,27 +51,6 @@ fn text_of(alloc: Global, packs: List<Placed<BugOp>>, people: &[Person]) -> Resu
         ≡ show_text_of (snapshot_of (ops_in bug_kind packs)) people.now) }
 {
     let ops = ops_of(alloc, packs)?;
-    let bug = compile(alloc, &ops)?;
+    let bug = compile(alloc, ops.as_slice())?;
     show_text(alloc, &bug, people)
-}
-
-// The operations of these packs, one pack after the other.
-fn ops_of(alloc: Global, packs: List<Placed<BugOp>>) -> Result<Vec<BugOp>, Memory>
-    ensures { IfOk result (λ ops. ops.items ≡ ops_in bug_kind packs) }
-{
-    let mut ops = Vec::new(alloc);
-    for placed in packs.into_vec() {
-        append(&mut ops, placed.pack.ops)?;
-    }
-    Ok(ops)
-}
-
-// Puts operations behind others.
-fn append(ops: &mut Vec<BugOp>, more: List<BugOp>) -> Result<(), Memory>
-    ensures { OnOk result (ops.new.items ≡ ops.old.items ++ more) }
-{
-    for op in more.into_vec() {
-        ops.push(op)?;
-    }
-    Ok(())
 }

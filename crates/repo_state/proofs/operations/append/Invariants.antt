@@ -1,6 +1,6 @@
 -- The operations so far and those that are left are all operations.
 use Rattle.std.proofs.Common.{◌≡◌, ◌++◌}
-use Rattle.repo_view.proofs.bug_text.append.Given as goal
+use Rattle.repo_state.proofs.operations.append.Given as goal
 
 -- what was put behind the others, and what is left, are the others and all that is to be put
 abbrev pub invariant-loop-op : goal.invariant-loop-op
