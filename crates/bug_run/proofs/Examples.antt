@@ -3,8 +3,10 @@ use Rattle.std.specs.Prelude.{◌≡◌, codes, [], ◌∷◌, Some, None, pos, 
 use Rattle.std.specs.Fmt.{digits}
 use Rattle.std.proofs.Common.{refl}
 use Rattle.hex.proofs.OnLiterals.{hex_on_literals}
-use Rattle.repo_state.specs.declared.refusal.Refusal.TheVariants.{BadText, Damaged, EntityExists, TooLarge}
-use Rattle.repo_steps.specs.declared.edit.Edit.TheVariants.{UserEdit, UserNew, UserSet}
+use Rattle.repo_state.specs.declared.refusal.Refusal.TheVariants.{BadText, Damaged, EntityExists, NoLabelChange, SameStatus, TooLarge}
+use Rattle.bug_ops.specs.declared.op.BugStatus.TheVariants.{Closed, Opened}
+use Rattle.repo_steps.specs.declared.edit.BugEdit.TheVariants.{AddLabels, Metadata, RemoveLabels, Status, Title}
+use Rattle.repo_steps.specs.declared.edit.Edit.TheVariants.{OfBug, UserEdit, UserNew, UserSet}
 use Rattle.bug_run.specs.Refusals.{refusal_line}
 use Rattle.bug_run.specs.Run.{moment}
 use Rattle.bug_run.specs.Words.{request_of}
@@ -41,6 +43,27 @@ words_edit = refl
 words_set : request_of (codes "f" ∷ codes "user-set" ∷ codes "i" ∷ []) ≡ Some (record { folder = codes "f"; command = Edit (UserSet (codes "i")) })
 words_set = refl
 
+words_title : request_of (codes "f" ∷ codes "title" ∷ codes "b" ∷ codes "t" ∷ []) ≡ Some (record { folder = codes "f"; command = Edit (OfBug (codes "b") (Title (codes "t"))) })
+words_title = refl
+
+words_close : request_of (codes "f" ∷ codes "close" ∷ codes "b" ∷ []) ≡ Some (record { folder = codes "f"; command = Edit (OfBug (codes "b") (Status Closed)) })
+words_close = refl
+
+words_open : request_of (codes "f" ∷ codes "open" ∷ codes "b" ∷ []) ≡ Some (record { folder = codes "f"; command = Edit (OfBug (codes "b") (Status Opened)) })
+words_open = refl
+
+words_labels : request_of (codes "f" ∷ codes "label-add" ∷ codes "b" ∷ codes "x" ∷ codes "y" ∷ codes "z" ∷ []) ≡ Some (record { folder = codes "f"; command = Edit (OfBug (codes "b") (AddLabels (codes "x" ∷ codes "y" ∷ codes "z" ∷ []))) })
+words_labels = refl
+
+words_label_off : request_of (codes "f" ∷ codes "label-rm" ∷ codes "b" ∷ codes "x" ∷ []) ≡ Some (record { folder = codes "f"; command = Edit (OfBug (codes "b") (RemoveLabels (codes "x" ∷ []))) })
+words_label_off = refl
+
+words_no_label : request_of (codes "f" ∷ codes "label-add" ∷ codes "b" ∷ []) ≡ None
+words_no_label = refl
+
+words_meta : request_of (codes "f" ∷ codes "meta" ∷ codes "b" ∷ codes "k" ∷ codes "v" ∷ []) ≡ Some (record { folder = codes "f"; command = Edit (OfBug (codes "b") (Metadata (codes "k") (codes "v"))) })
+words_meta = refl
+
 -- moments
 moment_now : moment (pos 7) ≡ 7
 moment_now = refl
@@ -64,3 +87,11 @@ line_of_a_size = refl
 line_of_damage : refusal_line (Damaged (codes "f/refs/bugs/x")) ≡ codes "refused 14 damaged f/refs/bugs/x\n"
 unfolding digits hex_on_literals
 line_of_damage = refl
+
+line_of_same_labels : refusal_line NoLabelChange ≡ codes "refused 5 no label change\n"
+unfolding digits hex_on_literals
+line_of_same_labels = refl
+
+line_of_the_same_status : refusal_line SameStatus ≡ codes "refused 6 same status\n"
+unfolding digits hex_on_literals
+line_of_the_same_status = refl

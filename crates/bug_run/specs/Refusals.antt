@@ -3,13 +3,15 @@ use Rattle.std.specs.Prelude.{ℕ, List, ◌++◌, codes, decimal}
 use Rattle.hex.specs.Hex.{encode_lower}
 use Rattle.repo_state.specs.Stops.{number_of}
 use Rattle.repo_state.specs.declared.refusal.Refusal.{Refusal}
-use Rattle.repo_state.specs.declared.refusal.Refusal.TheVariants.{NoUser, NotFound, BadText, ClockFull, RepeatedOperation, EntityExists, NameTaken, TooLarge, Damaged, SomeRefused, BadFolder}
+use Rattle.repo_state.specs.declared.refusal.Refusal.TheVariants.{NoUser, NotFound, BadText, NoLabelChange, SameStatus, ClockFull, RepeatedOperation, EntityExists, NameTaken, TooLarge, Damaged, SomeRefused, BadFolder}
 
 -- what a refusal says behind its number; the lines of `SomeRefused` stand in the answer, so that its words are never told
 abbrev pub refusal_words : Refusal → List ℕ
 refusal_words NoUser = codes "no user"
 refusal_words NotFound = codes "not found"
 refusal_words (BadText place) = codes "bad text " ++ decimal place
+refusal_words NoLabelChange = codes "no label change"
+refusal_words SameStatus = codes "same status"
 refusal_words (ClockFull name) = codes "clock full " ++ encode_lower name.bytes
 refusal_words (RepeatedOperation id) = codes "repeated operation " ++ encode_lower id.bytes
 refusal_words (EntityExists id) = codes "entity exists " ++ encode_lower id.bytes

@@ -11,8 +11,8 @@ use Rattle.repo_state.specs.declared.env.Env.{Env}
 use Rattle.repo_state.specs.declared.refusal.Refusal.TheVariants as refusal
 use Rattle.repo_state.specs.declared.refusal.Stop.{Stop}
 use Rattle.repo_state.specs.declared.refusal.Stop.TheVariants as stop
-use Rattle.repo_steps.specs.Answers.{EditAnswers, KeepsToWords}
-use Rattle.repo_steps.specs.Doings.{doing_of}
+use Rattle.repo_steps.specs.Answers.{KeepsToWords}
+use Rattle.repo_steps.specs.Doings.{EditAnswers, bad_word_of}
 use Rattle.repo_steps.specs.Kinds.{IsWrite}
 use Rattle.repo_steps.specs.declared.edit.Edit.{Edit as Edits}
 use Rattle.repo_view.specs.Log.{LogAnswers}
@@ -55,8 +55,8 @@ TextSaid Answers (Err s) = Answers (Err s)
 -- the answer to an edit, which tells the line of an id
 abbrev pub EditSaid : Env → Edits → History → History → Result Said Stop → Type 0
 EditSaid env edit old new (Ok said) =
-    (id : Id) × EditAnswers (doing_of env edit old) old new (Ok id) × (said ≡ record { text = id_line id; refused = 0 })
-EditSaid env edit old new (Err s) = EditAnswers (doing_of env edit old) old new (Err s)
+    (id : Id) × EditAnswers env edit old new (Ok id) × (said ≡ record { text = id_line id; refused = 0 })
+EditSaid env edit old new (Err s) = EditAnswers env edit old new (Err s)
 
 -- the answer to a command in a folder, with what was written: that of the one call that it makes
 abbrev pub CommandAnswers : Env → Command → History → History → Result Said Stop → Type 0
@@ -66,17 +66,17 @@ CommandAnswers env (Log bug) old new result = TextSaid (LogAnswers (files_of old
 CommandAnswers env (Edit edit) old new result = EditSaid env edit old new result
 
 -- the place of the first word of a command that breaks its rule
-abbrev pub bad_word_of : Env → Command → History → Option ℕ
-bad_word_of env Users old = None
-bad_word_of env (Show bug) old = None
-bad_word_of env (Log bug) old = None
-bad_word_of env (Edit edit) old = (doing_of env edit old).bad_word
+abbrev pub bad_word_in : Command → Option ℕ
+bad_word_in Users = None
+bad_word_in (Show bug) = None
+bad_word_in (Log bug) = None
+bad_word_in (Edit edit) = bad_word_of edit
 
 -- a command was performed in the folder that its word reads as: its words are refused exactly where one breaks its rule,
 -- and the answer is the command's where the store tells its files
 pub record Performed (tells : Bool) (env : Env) (request : Request) (old new : History) (result : Result Said Stop) : Type 0 where
   pub is_folder : folder_of request.folder ≡ Some env.folder
-  pub words : KeepsToWords (bad_word_of env request.command old) result
+  pub words : KeepsToWords (bad_word_in request.command) result
   pub answers : IsTrue tells → CommandAnswers env request.command old new result
 
 -- a command was not begun: memory ran out before, or its word is no folder

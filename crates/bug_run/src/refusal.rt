@@ -29,6 +29,8 @@ fn push_words(line: &mut String, refusal: &Refusal) -> Result<(), AllocError>
         Refusal::NoUser => line.push_str("no user"),
         Refusal::NotFound => line.push_str("not found"),
         Refusal::BadText(place) => push_counted(line, "bad text ", *place),
+        Refusal::NoLabelChange => line.push_str("no label change"),
+        Refusal::SameStatus => line.push_str("same status"),
         Refusal::ClockFull(name) => push_with_name(line, "clock full ", name),
         Refusal::RepeatedOperation(id) => push_with_id(line, "repeated operation ", id),
         Refusal::EntityExists(id) => push_with_id(line, "entity exists ", id),

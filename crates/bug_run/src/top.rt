@@ -4,7 +4,7 @@ ghost use Rattle.gb_store.specs.Faults.{KeepsFaults};
 ghost use Rattle.gb_store.specs.Moments.{WroteIf};
 ghost use Rattle.repo_steps.specs.Answers.{KeepsToWords};
 ghost use Rattle.bug_run.specs.Printed.{Printed};
-ghost use Rattle.bug_run.specs.Run.{CommandAnswers, RequestAnswers, RunAnswers, RunStaysSound, RunWrites, bad_word_of, call_of, moment, status_for, status_of, text_of};
+ghost use Rattle.bug_run.specs.Run.{CommandAnswers, RequestAnswers, RunAnswers, RunStaysSound, RunWrites, bad_word_in, call_of, moment, status_for, status_of, text_of};
 ghost use Rattle.bug_run.specs.Told.{as_said, told_text};
 ghost use Rattle.bug_run.specs.Words.{request_of};
 
@@ -99,8 +99,7 @@ fn carry_out<S: Store>(
     requires moment { env.now.now ≤ LIMIT }
     ensures answers { IsTrue S.tells → CommandAnswers env.entry.now command.now
         (S.history disk.old) (S.history disk.new) (as_said result) }
-    ensures words { KeepsToWords (bad_word_of env.entry.now command.now (S.history disk.old))
-        (as_said result) }
+    ensures words { KeepsToWords (bad_word_in command.now) (as_said result) }
     ensures caused { KeepsFaults S.never_fails S.faults (IsErrOf result Stop.Disk)
         disk.old disk.new }
 {

@@ -1,4 +1,6 @@
+pub mod CallLemmas
 pub mod GrowingLemmas
+pub mod LabelLemmas
 pub mod OperationLemmas
 pub mod PlanBugLemmas
 pub mod PlanLemmas

@@ -1,5 +1,5 @@
 -- What is read on the way to the plan of an edit of a bug decides the checks of the command.
-use Rattle.std.proofs.Common.{◌≡◌, ◌≤◌, ◌<◌, ◌+◌, ℕ, Bool, true, false, List, [], ◌∷◌, ◌++◌, All, Contains, length, Vec, Option, Some, None, Result, Ok, Err, inl, inr, refl, sym, ◌∙◌, ap, subst, arith}
+use Rattle.std.proofs.Common.{◌≡◌, ◌≤◌, ℕ, Bool, true, false, List, [], ◌∷◌, ◌++◌, All, Contains, length, Vec, Option, Some, None, Result, Ok, Err, inl, inr, refl, sym, ◌∙◌, ap, subst, arith}
 use Rattle.std.specs.Prelude.{option_and_then}
 use Rattle.std.specs.List.{list_any}
 use Rattle.std.specs.Option.{option_map}
@@ -7,29 +7,27 @@ use Rattle.std.specs.declared.alloc.Global.{Global}
 use Rattle.std.proofs.lemmas.List.{append_assoc}
 use Rattle.gb_text.specs.declared.decimal.TheConstants.{LIMIT}
 use Rattle.gb_text.specs.declared.id.Id.{Id}
-use Rattle.gb_text.specs.declared.id.Name.{Name}
 use Rattle.gb_store.specs.Files.{Files, History, files_of}
 use Rattle.gb_store.specs.declared.store.Change.{Change}
-use Rattle.object_store.specs.Held.{Objects, objects_in}
+use Rattle.object_store.specs.Held.{objects_in}
 use Rattle.object_store.specs.Texts.{IsShort}
 use Rattle.object_store.specs.declared.fault.PutFault.{PutFault}
 use Rattle.object_store.specs.declared.fault.PutFault.TheVariants as fault
 use Rattle.object_batch.specs.Batches.{CannotHave, HasLong, MayBePut, missing_writes}
-use Rattle.object_batch.proofs.ClashLemmas.{Contains-cons_cases}
 use Rattle.ref_store.specs.Setting.{ref_write}
 use Rattle.commit_walk.specs.declared.below.TheConstants.{MOST_COMMITS}
 use Rattle.lamport.specs.Clock.{edit_time_of, root_time_of}
 use Rattle.op_pack.specs.declared.pack.Pack.{Pack}
 use Rattle.bug_ops.specs.Kind.{bug_kind}
 use Rattle.bug_ops.specs.declared.op.BugOp.{BugOp}
-use Rattle.dag_entity.specs.Appending.{AppendPlanAnswers, append_plan, appended_name, appended_objects}
-use Rattle.dag_entity.specs.Entities.{IsGreatestEdit}
-use Rattle.dag_entity.specs.Nodes.{edit_at}
+use Rattle.bug_ops.specs.declared.snapshot.Snapshot.{Snapshot}
+use Rattle.snapshot.specs.LastMention.{snapshot_of}
+use Rattle.dag_entity.specs.Appending.{AppendPlanAnswers, appended_name, appended_objects}
+use Rattle.dag_entity.specs.Entities.{ops_in}
 use Rattle.dag_entity.specs.declared.appending.CommitPlan.{CommitPlan}
-use Rattle.dag_entity.specs.declared.entity.Placed.{Placed}
 use Rattle.repo_state.proofs.BugLemmas.{head_edit}
 use Rattle.repo_state.specs.Clocks.{clock_at, see_writes}
-use Rattle.repo_state.specs.Sides.{found_by, has_ref, head_at, ref_place}
+use Rattle.repo_state.specs.Sides.{has_ref, head_at, ref_place}
 use Rattle.repo_state.specs.Stops.{stop_of_put}
 use Rattle.repo_state.specs.Users.{BadUser, NoUser, User, entry_by, user_at}
 use Rattle.repo_state.specs.declared.clocks.ClockFile.TheVariants as file
@@ -41,13 +39,16 @@ use Rattle.repo_state.specs.declared.refusal.Stop.TheVariants as stop
 use Rattle.repo_state.specs.declared.side.HeadEntry.{HeadEntry}
 use Rattle.repo_state.specs.declared.side.Side.TheVariants as side
 use Rattle.repo_steps.specs.Answers.{Plans}
-use Rattle.repo_steps.specs.BugDoings.{HasBug, MayWriteOp, added_by, addition_objects, addition_writes, begun_bug, bug_entry, later_addition, later_by, longer_bug, new_operation, one_op_pack, op_id, op_ids, root_addition, some_id}
-use Rattle.repo_steps.specs.Checks.{AllPass, Check, FirstFails}
+use Rattle.repo_steps.specs.BugDoings.{added_by, addition_objects, addition_writes, begun_bug, bug_entry, bug_says, clock_room, commit_room, edit_adds, later_addition, later_by, new_operation, op_ids, root_addition, some_id}
+use Rattle.repo_steps.specs.BugEdits.{bad_edit, edit_op, noop_op}
+use Rattle.repo_steps.specs.Checks.{Check, FirstFails}
 use Rattle.repo_steps.specs.Doing.{names, sizes}
+use Rattle.repo_steps.specs.NewOps.{MayWriteOp, one_op_pack, op_id}
 use Rattle.repo_steps.specs.declared.edit.Addition.{Addition}
+use Rattle.repo_steps.specs.declared.edit.BugEdit.{BugEdit}
 use Rattle.repo_steps.specs.declared.edit.Plan.{Plan}
 use Rattle.repo_edit.specs.Additions.{AddsCommit}
-use Rattle.repo_edit.specs.Growing.{AuthorAnswers, GrowingAnswers, GrownPlans, Grows, grown_checks, grown_objects, grown_writes, growing_checks, pack_has}
+use Rattle.repo_edit.specs.Growing.{AuthorAnswers, EditPlans, GrowingAnswers, GrownPlans, Grows, OpAnswers, RoomAnswers, grown_checks, grown_objects, growing_checks, has_id}
 use Rattle.repo_edit.specs.declared.growing.Growing.{Growing}
 use Rattle.repo_edit.proofs.RepeatLemmas.{repeats}
 
@@ -59,31 +60,31 @@ more_fail (check ∷ checks) more r (inr (passes, later)) = inr (passes, more_fa
 
 -- ---- the commit that adds an operation to a bug
 
-module _ (env : Env) (g : Growing) (op : BugOp) (old : History) where
+module _ (env : Env) (g : Growing) (edit : ℕ) (op : BugOp) (old : History) where
   abbrev pack : Pack BugOp
-  pack = one_op_pack g.author g.edit None op
+  pack = one_op_pack g.author edit None op
 
   module _ (plan : CommitPlan) (plans : AppendPlanAnswers bug_kind (g.head.name ∷ []) pack env.now (Ok plan)) (id : Id) (is : id ≡ op_id op)
-      (b : Bool) (has : b ≡ list_any (pack_has id) g.packs) where
+      (b : Bool) (has : b ≡ list_any (has_id id) g.ops) where
     -- the bug has the operation
-    pub grown_repeated : b ≡ true → GrownPlans env g op old (Err (stop.Refused (refusal.RepeatedOperation id)))
-    grown_repeated stands = inr (plans.1, inl (subst (Contains (op_ids g.packs)) is ((repeats id g.packs b has).0 stands), ap refusal.RepeatedOperation is))
+    pub grown_repeated : b ≡ true → GrownPlans env g edit op old (Err (stop.Refused (refusal.RepeatedOperation id)))
+    grown_repeated stands = inr (plans.1, inl (subst (Contains (op_ids g.ops)) is ((repeats id g.ops b has).0 stands), ap refusal.RepeatedOperation is))
 
     module _ (not : b ≡ false) (late : History) (later : late ≡ old) where
-      fresh : Contains (op_ids g.packs) (op_id op) → ⊥
+      fresh : Contains (op_ids g.ops) (op_id op) → ⊥
       fresh stands =
-          let found : b ≡ true = (repeats id g.packs b has).1 (subst (Contains (op_ids g.packs)) (sym is) stands) in
+          let found : b ≡ true = (repeats id g.ops b has).1 (subst (Contains (op_ids g.ops)) (sym is) stands) in
           cc (sym not ∙ found)
 
       -- of the plan's objects what is so is so of the commit's
-      planned : (P : List (List ℕ) → Type 0) → P plan.objects → P (grown_objects env g op)
+      planned : (P : List (List ℕ) → Type 0) → P plan.objects → P (grown_objects env g edit op)
       planned P = subst (λ (p : CommitPlan). P p.objects) plans.0
 
       -- an object is refused
-      pub grown_taken : (s : Stop) → AddsCommit env.folder g.head.id plan late (Err s) → GrownPlans env g op old (Err s)
+      pub grown_taken : (s : Stop) → AddsCommit env.folder g.head.id plan late (Err s) → GrownPlans env g edit op old (Err s)
       grown_taken s adds = each s (subst (λ (h : History). AddsCommit env.folder g.head.id plan h (Err s)) later adds)
         where
-          each : (s : Stop) → AddsCommit env.folder g.head.id plan old (Err s) → GrownPlans env g op old (Err s)
+          each : (s : Stop) → AddsCommit env.folder g.head.id plan old (Err s) → GrownPlans env g edit op old (Err s)
           each stop.Memory h = tt
           each stop.Disk h = tt
           each (stop.Refused (refusal.TooLarge count)) h = inl (planned HasLong h.1, ap refusal.TooLarge h.0)
@@ -92,157 +93,171 @@ module _ (env : Env) (g : Growing) (op : BugOp) (old : History) where
 
       -- the plan
       pub grown_planned : (added : Vec Change Global) (all : List Change) → AddsCommit env.folder g.head.id plan late (Ok added)
-          → all ≡ added.items ++ see_writes env.folder file.BugsEdit g.seen g.edit → GrownPlans env g op old (Ok (record { writes = all; id = id }))
+          → all ≡ added.items ++ see_writes env.folder file.BugsEdit g.seen edit → GrownPlans env g edit op old (Ok (record { writes = all; id = id }))
       grown_planned added all adds writes =
           let here = subst (λ (h : History). AddsCommit env.folder g.head.id plan h (Ok added)) later adds in
           let may = planned (λ ts. MayBePut env.folder ts old) here.0 in (
             (plans.1, (fresh, (may, tt))),
             writes
-                ∙ ap (λ (ws : List Change). ws ++ see_writes env.folder file.BugsEdit g.seen g.edit)
+                ∙ ap (λ (ws : List Change). ws ++ see_writes env.folder file.BugsEdit g.seen edit)
                 (here.1 ∙ ap (λ (p : CommitPlan). missing_writes env.folder p.objects (files_of old) ++ ref_write env.folder (ref_place side.Bugs g.head.id) p.head ∷ []) plans.0)
-                ∙ append_assoc (missing_writes env.folder (grown_objects env g op) (files_of old))
-                (ref_write env.folder (ref_place side.Bugs g.head.id) (appended_name bug_kind (g.head.name ∷ []) pack env.now) ∷ []) (see_writes env.folder file.BugsEdit g.seen g.edit),
+                ∙ append_assoc (missing_writes env.folder (grown_objects env g edit op) (files_of old))
+                (ref_write env.folder (ref_place side.Bugs g.head.id) (appended_name bug_kind (g.head.name ∷ []) pack env.now) ∷ []) (see_writes env.folder file.BugsEdit g.seen edit),
             sym is,
           )
 
--- ---- one operation more
+-- ---- an edit of a bug that stands
 
-module _ (env : Env) (word : List ℕ) (op : BugOp) (old : History) (rules : MayWriteOp op) where
+module _ (env : Env) (edit : BugEdit) (word : List ℕ) (old : History) (moment : env.now ≤ LIMIT) (good : bad_edit edit ≡ None) where
   abbrev files : Files
   files = files_of old
 
-  abbrev addition : Option Addition
-  addition = option_and_then (later_by env.folder files word op) (some_id (user_at files env.folder))
+  abbrev addition : BugOp → Option Addition
+  addition op = option_and_then (later_by env.folder files word op) (some_id (user_at files env.folder))
 
-  -- what is checked of what is added
-  abbrev making_checks : List Check
-  making_checks =
-      sizes (addition_objects env.now addition) ∷ new_operation env.folder files word op ∷ names env.folder (addition_objects env.now addition) old ∷ []
+  -- what is checked once the bug was read
+  abbrev later_checks : BugOp → List Check
+  later_checks op =
+      edit_adds env files word edit op ∷
+      clock_room env.folder files word ∷
+      commit_room env.folder files word ∷
+      sizes (addition_objects env.now (addition op)) ∷
+      new_operation env.folder files word op ∷
+      names env.folder (addition_objects env.now (addition op)) old ∷ []
 
-  -- it can't be added to the bug
-  pub longer_barred : (s : Stop) → GrowingAnswers (files_of old) env.folder word (Err s) → Plans (longer_bug env None word op old) (Err s)
-  longer_barred stop.Memory h = tt
-  longer_barred stop.Disk h = tt
-  longer_barred (stop.Refused r) h = inr ((refl, rules), more_fail (growing_checks files env.folder word) making_checks r h)
+  -- there is no user or no bug
+  pub edit_barred : (s : Stop) → GrowingAnswers (files_of old) env.folder word (Err s) → EditPlans env edit word old (Err s)
+  edit_barred stop.Memory h = (noop_op env, tt)
+  edit_barred stop.Disk h = (noop_op env, tt)
+  edit_barred (stop.Refused r) h = (noop_op env, inr ((good, moment), more_fail (growing_checks files env.folder word) (later_checks (noop_op env)) r h))
 
   module _ (g : Growing) (grows : Grows (files_of old) env.folder word g) where
-    -- what is added
-    abbrev grown : Addition
-    grown = record { bug = g.head.id; parents = g.head.name ∷ []; pack = one_op_pack g.author g.edit None op }
-
-    abbrev later_of : HeadEntry → ℕ → Option Addition
-    later_of head edit = Some (later_addition env.folder files op g.author head edit)
-
-    entry_is : bug_entry env.folder files word ≡ Some grows.bug.bug
-    entry_is =
-        ap (option_and_then (λ (id : Id). entry_by id (head_at files env.folder side.Bugs id))) grows.bug.finds.found
-        ∙ ap (entry_by grows.bug.bug.id) grows.bug.finds.head
-
-    edit_is : g.edit ≡ edit_time_of (clock_at files env.folder file.BugsEdit) grows.bug.entity.edit
-    edit_is = grows.is_edit ∙ ap (λ (seen : ℕ). edit_time_of seen grows.bug.entity.edit) grows.is_seen
-
-    addition_is : addition ≡ Some grown
-    addition_is =
-        ap (λ u. option_and_then (later_by env.folder files word op) (some_id u)) grows.is_user
-        ∙ ap (option_and_then (added_by env.folder files op g.author)) entry_is
-        ∙ ap (option_map (later_addition env.folder files op g.author grows.bug.bug)) (head_edit (objects_in files env.folder) grows.bug.bug.name grows.bug.entity.edit grows.bug.is.is.edit)
-        ∙ ap (λ (head : HeadEntry). later_of head grows.bug.entity.edit) grows.is_head
-        ∙ ap (λ (edit : ℕ). Some (record { bug = g.head.id; parents = g.head.name ∷ []; pack = one_op_pack g.author edit None op })) (sym edit_is)
-
-    objects_are : (P : List (List ℕ) → Type 0) → P (grown_objects env g op) → P (addition_objects env.now addition)
-    objects_are P = subst (λ (a : Option Addition). P (addition_objects env.now a)) (sym addition_is)
-
     not_bad : user_at files env.folder ≡ BadUser → ⊥
     not_bad e = cc (sym grows.is_user ∙ e)
 
     some : user_at files env.folder ≡ NoUser → ⊥
     some e = cc (sym grows.is_user ∙ e)
 
-    clock_left : grows.bug.entity.edit ≡ LIMIT → ⊥
-    clock_left full = omega (arith, grows.clock, full)
+    -- what is refused once the bug was read
+    refused : (op : BugOp) (r : Refusal) → FirstFails (later_checks op) r → EditPlans env edit word old (Err (stop.Refused r))
+    refused op r fails = (op, inr ((good, moment), inr (not_bad, inr (some, inr ((grows.bug.bug.id, grows.bug.finds.found), inr (grows.bug, fails))))))
 
-    room_left : MOST_COMMITS ≤ length grows.bug.entity.packs → ⊥
-    room_left full = omega (arith, grows.room, full)
+    -- what the bug says is what its operations say
+    says : (P : Snapshot → Type 0) → P (snapshot_of g.ops) → P (bug_says grows.bug.entity)
+    says P = subst (λ (ops : List BugOp). P (snapshot_of ops)) (sym grows.are_ops)
 
-    -- the operation is new to the bug as it is to its packs
-    repeats_bug : Contains (op_ids g.packs) (op_id op) → Contains (op_ids grows.bug.entity.packs) (op_id op)
-    repeats_bug = subst (λ (packs : List (Placed BugOp)). Contains (op_ids packs) (op_id op)) (sym grows.are_packs)
+    -- the edit adds nothing
+    pub edit_unmade : (s : Stop) → OpAnswers env edit (snapshot_of g.ops) (Err s) → EditPlans env edit word old (Err s)
+    edit_unmade stop.Memory h = (noop_op env, tt)
+    edit_unmade stop.Disk h = absurd h
+    edit_unmade (stop.Refused r) h = refused (noop_op env) r (inl (grows.bug, says (λ bug. edit_op env edit bug ≡ Err r) h))
 
-    repeats_packs : Contains (op_ids grows.bug.entity.packs) (op_id op) → Contains (op_ids g.packs) (op_id op)
-    repeats_packs = subst (λ (packs : List (Placed BugOp)). Contains (op_ids packs) (op_id op)) grows.are_packs
+    module _ (op : BugOp) (makes : edit_op env edit (snapshot_of g.ops) ≡ Ok op) (rules : MayWriteOp op) where
+      adds : (edit_adds env files word edit op).Passes
+      adds = (grows.bug, says (λ bug. edit_op env edit bug ≡ Ok op) makes, rules)
 
-    -- the plan of the commit is that of the command
-    pub longer_planned : (r : Result Plan Stop) → GrownPlans env g op old r → Plans (longer_bug env None word op old) r
-    longer_planned (Err stop.Memory) h = tt
-    longer_planned (Err stop.Disk) h = tt
-    longer_planned (Err (stop.Refused r)) h =
-        inr (
-          (refl, rules),
-          inr (
-            not_bad,
-            inr (
-              some,
-              inr (
-                (grows.bug.bug.id, grows.bug.finds.found),
-                inr (
-                  grows.bug,
-                  inr (
-                    (grows.bug, clock_left),
-                    inr (
-                      (grows.bug, room_left),
-                      elim h [
-                        | inl long ↦ inl (objects_are HasLong long.0, long.1)
-                        | inr (short, rest) ↦ inr (
-                          objects_are (All IsShort) short,
-                          elim rest [
-                            | inl repeated ↦ inl (grows.bug, repeats_bug repeated.0, repeated.1)
-                            | inr (fresh, last) ↦ inr (
-                              (grows.bug, λ stands. fresh (repeats_packs stands)),
-                              elim last [
-                                | inl (name, cannot, is) ↦ inl (name, objects_are (λ ts. CannotHave env.folder ts old name) cannot, is)
-                                | inr none ↦ absurd none.1
-                              ],
-                            )
-                          ],
-                        )
-                      ],
+      -- no clock is left, or there is no room
+      pub edit_full : (s : Stop) → RoomAnswers g.seen g.head.name g.edit g.commits (Err s) → EditPlans env edit word old (Err s)
+      edit_full (stop.Refused (refusal.ClockFull name)) (least, named) =
+          let full : grows.bug.entity.edit ≡ LIMIT = omega (arith, least, grows.is_edit, grows.within) in
+          refused op (refusal.ClockFull name) (inr (adds, inl (grows.bug, full, ap refusal.ClockFull (named ∙ ap (λ (head : HeadEntry). head.name) (sym grows.is_head)))))
+      edit_full (stop.Refused (refusal.TooLarge count)) (below, full, counted) =
+          let many : MOST_COMMITS ≤ length grows.bug.entity.packs = omega (arith, full, grows.is_count) in
+          refused op (refusal.TooLarge count) (inr (adds, inr ((grows.bug, λ e. omega (arith, below, e, grows.is_edit)), inl (grows.bug, many, ap refusal.TooLarge counted))))
+      edit_full (stop.Refused _) h = absurd h
+      edit_full stop.Memory h = absurd h
+      edit_full stop.Disk h = absurd h
+
+      module _ (clock : ℕ) (has_room : RoomAnswers g.seen g.head.name g.edit g.commits (Ok clock)) where
+        -- what is added
+        abbrev grown : Addition
+        grown = record { bug = g.head.id; parents = g.head.name ∷ []; pack = one_op_pack g.author clock None op }
+
+        abbrev later_of : HeadEntry → ℕ → Option Addition
+        later_of head edit = Some (later_addition env.folder files op g.author head edit)
+
+        entry_is : bug_entry env.folder files word ≡ Some grows.bug.bug
+        entry_is =
+            ap (option_and_then (λ (id : Id). entry_by id (head_at files env.folder side.Bugs id))) grows.bug.finds.found
+            ∙ ap (entry_by grows.bug.bug.id) grows.bug.finds.head
+
+        clock_is : clock ≡ edit_time_of (clock_at files env.folder file.BugsEdit) grows.bug.entity.edit
+        clock_is = has_room.2 ∙ ap (λ (seen : ℕ). edit_time_of seen g.edit) grows.is_seen ∙ ap (edit_time_of (clock_at files env.folder file.BugsEdit)) (sym grows.is_edit)
+
+        addition_is : addition op ≡ Some grown
+        addition_is =
+            ap (λ u. option_and_then (later_by env.folder files word op) (some_id u)) grows.is_user
+            ∙ ap (option_and_then (added_by env.folder files op g.author)) entry_is
+            ∙ ap (option_map (later_addition env.folder files op g.author grows.bug.bug)) (head_edit (objects_in files env.folder) grows.bug.bug.name grows.bug.entity.edit grows.bug.is.is.edit)
+            ∙ ap (λ (head : HeadEntry). later_of head grows.bug.entity.edit) grows.is_head
+            ∙ ap (λ (edit : ℕ). Some (record { bug = g.head.id; parents = g.head.name ∷ []; pack = one_op_pack g.author edit None op })) (sym clock_is)
+
+        objects_are : (P : List (List ℕ) → Type 0) → P (grown_objects env g clock op) → P (addition_objects env.now (addition op))
+        objects_are P = subst (λ (a : Option Addition). P (addition_objects env.now a)) (sym addition_is)
+
+        clock_left : grows.bug.entity.edit ≡ LIMIT → ⊥
+        clock_left full = omega (arith, has_room.0, full, grows.is_edit)
+
+        room_left : MOST_COMMITS ≤ length grows.bug.entity.packs → ⊥
+        room_left full = omega (arith, has_room.1, full, grows.is_count)
+
+        -- the operation is new to the bug as it is to what was read
+        repeats_bug : Contains (op_ids g.ops) (op_id op) → Contains (op_ids (ops_in bug_kind grows.bug.entity.packs)) (op_id op)
+        repeats_bug = subst (λ (ops : List BugOp). Contains (op_ids ops) (op_id op)) (sym grows.are_ops)
+
+        repeats_ops : Contains (op_ids (ops_in bug_kind grows.bug.entity.packs)) (op_id op) → Contains (op_ids g.ops) (op_id op)
+        repeats_ops = subst (λ (ops : List BugOp). Contains (op_ids ops) (op_id op)) grows.are_ops
+
+        -- what is refused of the commit
+        unmade : (r : Refusal) → FirstFails (grown_checks env g clock op old) r
+            → FirstFails (sizes (addition_objects env.now (addition op)) ∷ new_operation env.folder files word op ∷ names env.folder (addition_objects env.now (addition op)) old ∷ []) r
+        unmade r (inl long) = inl (objects_are HasLong long.0, long.1)
+        unmade r (inr (short, inl repeated)) = inr (objects_are (All IsShort) short, inl (grows.bug, repeats_bug repeated.0, repeated.1))
+        unmade r (inr (short, inr (fresh, inl (name, cannot, is)))) =
+            inr (objects_are (All IsShort) short, inr ((grows.bug, λ stands. fresh (repeats_ops stands)), inl (name, objects_are (λ ts. CannotHave env.folder ts old name) cannot, is)))
+        unmade r (inr (short, inr (fresh, inr none))) = absurd none.1
+
+        -- the plan of the commit is that of the edit
+        pub edit_planned : (r : Result Plan Stop) → GrownPlans env g clock op old r → EditPlans env edit word old r
+        edit_planned (Err stop.Memory) h = (op, tt)
+        edit_planned (Err stop.Disk) h = (op, tt)
+        edit_planned (Err (stop.Refused r)) h = refused op r (inr (adds, inr ((grows.bug, clock_left), inr ((grows.bug, room_left), unmade r h))))
+        edit_planned (Ok plan) h = (
+          op,
+          (
+            (
+              (good, moment),
+              (
+                not_bad,
+                (
+                  some,
+                  (
+                    (grows.bug.bug.id, grows.bug.finds.found),
+                    (
+                      grows.bug,
+                      (
+                        adds,
+                        (
+                          (grows.bug, clock_left),
+                          (
+                            (grows.bug, room_left),
+                            (objects_are (All IsShort) h.0.0, ((grows.bug, λ stands. h.0.1.0 (repeats_ops stands)), (objects_are (λ ts. MayBePut env.folder ts old) h.0.1.1.0, tt))),
+                          ),
+                        ),
+                      ),
                     ),
                   ),
                 ),
               ),
             ),
+            h.1
+                ∙ ap (λ (seen : ℕ). missing_writes env.folder (grown_objects env g clock op) files
+                ++ ref_write env.folder (ref_place side.Bugs g.head.id) (appended_name bug_kind (g.head.name ∷ []) (one_op_pack g.author clock None op) env.now)
+                ∷ see_writes env.folder file.BugsEdit seen clock) grows.is_seen
+                ∙ ap (addition_writes env files) (sym addition_is),
+            ap Some h.2,
           ),
         )
-    longer_planned (Ok plan) h = (
-      (
-        (refl, rules),
-        (
-          not_bad,
-          (
-            some,
-            (
-              (grows.bug.bug.id, grows.bug.finds.found),
-              (
-                grows.bug,
-                (
-                  (grows.bug, clock_left),
-                  (
-                    (grows.bug, room_left),
-                    (objects_are (All IsShort) h.0.0, ((grows.bug, λ stands. h.0.1.0 (repeats_packs stands)), (objects_are (λ ts. MayBePut env.folder ts old) h.0.1.1.0, tt))),
-                  ),
-                ),
-              ),
-            ),
-          ),
-        ),
-      ),
-      h.1
-          ∙ ap (λ (seen : ℕ). missing_writes env.folder (grown_objects env g op) files
-          ++ ref_write env.folder (ref_place side.Bugs g.head.id) (appended_name bug_kind (g.head.name ∷ []) (one_op_pack g.author g.edit None op) env.now)
-          ∷ see_writes env.folder file.BugsEdit seen g.edit) grows.is_seen
-          ∙ ap (addition_writes env files) (sym addition_is),
-      ap Some h.2,
-    )
 
 -- ---- a new bug
 

@@ -31,7 +31,7 @@ use Rattle.repo_state.specs.declared.refusal.Stop.TheVariants as stop
 use Rattle.repo_state.specs.declared.side.HeadEntry.{HeadEntry}
 use Rattle.repo_state.specs.declared.side.Side.TheVariants as side
 use Rattle.identity.proofs.IdLemmas.{sha256-bytes}
-use Rattle.repo_steps.specs.Answers.{EditAnswers, Plans}
+use Rattle.repo_steps.specs.Answers.{DoingAnswers, Plans}
 use Rattle.repo_steps.specs.Doing.{Doing, nonce_from}
 use Rattle.repo_steps.specs.PeopleDoings.{HasUser, MayWrite, bad_person, edited_user, first_user_write, new_made, new_objects, new_text, new_user, user_writes, version_writes}
 use Rattle.repo_steps.specs.declared.edit.Plan.{Plan}
@@ -40,13 +40,13 @@ use Rattle.repo_edit.specs.Adding.{AddsVersion, first_write}
 use Rattle.repo_edit.specs.Room.{HasRoom}
 
 -- a plan that is refused, or stops, answers so
-pub not_planned : (doing : Doing) (old new : History) (s : Stop) → new ≡ old → Plans doing (Err s) → EditAnswers doing old new (Err s)
+pub not_planned : (doing : Doing) (old new : History) (s : Stop) → new ≡ old → Plans doing (Err s) → DoingAnswers doing old new (Err s)
 not_planned doing old new stop.Memory same plan = inl same
 not_planned doing old new stop.Disk same plan = inl same
 not_planned doing old new (stop.Refused r) same plan = (plan, same)
 
 -- a plan whose writes are made answers as they were
-pub carried : (doing : Doing) (plan : Plan) (old mid new : History) (r : Result Id Stop) → mid ≡ old → Plans doing (Ok plan) → Carries plan mid new r → EditAnswers doing old new r
+pub carried : (doing : Doing) (plan : Plan) (old mid new : History) (r : Result Id Stop) → mid ≡ old → Plans doing (Ok plan) → Carries plan mid new r → DoingAnswers doing old new r
 carried doing plan old mid new (Ok id) same plans made = record {
   may = plans.0;
   writes = made.1 ∙ ap (λ (writes : List Change). reverse writes ++ mid) plans.1 ∙ ap (λ (h : History). reverse doing.writes ++ h) same;

@@ -1,6 +1,5 @@
 -- The bug that an edit adds to, and what bars it.
 use Rattle.std.specs.Prelude.{◌≡◌, ◌≤◌, ◌<◌, ◌+◌, ◌⊎◌, ⊤, ℕ, Bool, List, [], ◌∷◌, ◌++◌, Contains, length, None, Result, Ok, Err}
-use Rattle.std.specs.List.{list_any}
 use Rattle.std.specs.Str.{bytes_eq}
 use Rattle.gb_text.specs.Folder.{joined}
 use Rattle.gb_text.specs.declared.decimal.TheConstants.{LIMIT}
@@ -14,8 +13,10 @@ use Rattle.commit_walk.specs.declared.below.TheConstants.{MOST_COMMITS}
 use Rattle.lamport.specs.Clock.{edit_time_of}
 use Rattle.bug_ops.specs.Kind.{bug_kind}
 use Rattle.bug_ops.specs.declared.op.BugOp.{BugOp}
+use Rattle.bug_ops.specs.declared.snapshot.Snapshot.{Snapshot}
+use Rattle.snapshot.specs.LastMention.{IsBugList}
 use Rattle.dag_entity.specs.Appending.{appended_name, appended_objects}
-use Rattle.dag_entity.specs.declared.entity.Placed.{Placed}
+use Rattle.dag_entity.specs.Entities.{ops_in}
 use Rattle.repo_state.specs.Bugs.{FindsBug, ReadsBelow}
 use Rattle.repo_state.specs.Clocks.{clock_at, see_writes}
 use Rattle.repo_state.specs.Sides.{ref_place}
@@ -27,9 +28,13 @@ use Rattle.repo_state.specs.declared.refusal.Stop.{Stop}
 use Rattle.repo_state.specs.declared.refusal.Stop.TheVariants as stop
 use Rattle.repo_state.specs.declared.side.HeadEntry.{HeadEntry}
 use Rattle.repo_state.specs.declared.side.Side.TheVariants as side
-use Rattle.repo_steps.specs.BugDoings.{HasBug, bug_reads, clock_room, commit_room, one_op_pack, op_id, op_ids}
+use Rattle.repo_steps.specs.Answers.{Plans}
+use Rattle.repo_steps.specs.BugDoings.{HasBug, bug_reads, longer_bug, op_ids}
+use Rattle.repo_steps.specs.BugEdits.{edit_op}
 use Rattle.repo_steps.specs.Checks.{AllPass, Check, FirstFails}
 use Rattle.repo_steps.specs.Doing.{found, names, sizes, some_user, user_file}
+use Rattle.repo_steps.specs.NewOps.{one_op_pack, op_id}
+use Rattle.repo_steps.specs.declared.edit.BugEdit.{BugEdit}
 use Rattle.repo_steps.specs.declared.edit.Plan.{Plan}
 use Rattle.repo_edit.specs.declared.growing.Beginning.{Beginning}
 use Rattle.repo_edit.specs.declared.growing.Growing.{Growing}
@@ -67,22 +72,21 @@ growing_checks files folder word =
     user_file folder files ∷
     some_user folder files ∷
     found folder files side.Bugs word ∷
-    bug_reads folder files word ∷
-    clock_room folder files word ∷
-    commit_room folder files word ∷ []
+    bug_reads folder files word ∷ []
 
--- the bug that a word finds can grow by an edit of the user
+-- the bug that a word finds, and the user, who adds to it
 pub record Grows (files : Files) (folder word : List ℕ) (g : Growing) : Type 0 where
   pub is_user : user_at files folder ≡ User g.author
   pub bug : HasBug folder files word
   pub is_head : bug.bug ≡ g.head
-  pub are_packs : bug.entity.packs ≡ g.packs
+  pub are_ops : ops_in bug_kind bug.entity.packs ≡ g.ops
+  pub begins : IsBugList g.ops
   pub is_seen : g.seen ≡ clock_at files folder file.BugsEdit
-  pub is_edit : g.edit ≡ edit_time_of g.seen bug.entity.edit
-  pub clock : bug.entity.edit < LIMIT
-  pub room : length bug.entity.packs < MOST_COMMITS
+  pub is_edit : bug.entity.edit ≡ g.edit
+  pub within : bug.entity.edit ≤ LIMIT
+  pub is_count : length bug.entity.packs ≡ g.commits
 
--- the bug, or why it can't grow
+-- these, or why there is no user or no bug
 abbrev pub GrowingAnswers : Files → List ℕ → List ℕ → Result Growing Stop → Type 0
 GrowingAnswers files folder word (Ok g) = Grows files folder word g
 GrowingAnswers files folder word (Err stop.Memory) = ⊤
@@ -95,35 +99,46 @@ ReadsGrowing files folder word before after (Ok g) = FindsBug files folder word 
 ReadsGrowing files folder word before after (Err s) =
     (after ≡ before) ⊎ ((bug : HeadEntry) × FindsBug files folder word bug × ReadsBelow files folder bug before after)
 
--- the objects of the commit that adds an operation to a bug
-abbrev pub grown_objects : Env → Growing → BugOp → List (List ℕ)
-grown_objects env g op = appended_objects bug_kind (g.head.name ∷ []) (one_op_pack g.author g.edit None op) env.now
+-- the operation that an edit adds to a bug that says this, or why it adds none
+abbrev pub OpAnswers : Env → BugEdit → Snapshot → Result BugOp Stop → Type 0
+OpAnswers env edit bug (Ok op) = edit_op env edit bug ≡ Ok op
+OpAnswers env edit bug (Err stop.Memory) = ⊤
+OpAnswers env edit bug (Err stop.Disk) = ⊥
+OpAnswers env edit bug (Err (stop.Refused r)) = edit_op env edit bug ≡ Err r
+
+-- the objects of the commit that adds an operation to a bug, with an edit clock
+abbrev pub grown_objects : Env → Growing → ℕ → BugOp → List (List ℕ)
+grown_objects env g edit op = appended_objects bug_kind (g.head.name ∷ []) (one_op_pack g.author edit None op) env.now
 
 -- the operation is new
 abbrev pub is_new : Growing → BugOp → Check
 is_new g op = record {
-  Fails = λ r. Contains (op_ids g.packs) (op_id op) × (r ≡ refusal.RepeatedOperation (op_id op));
-  Passes = Contains (op_ids g.packs) (op_id op) → ⊥;
+  Fails = λ r. Contains (op_ids g.ops) (op_id op) × (r ≡ refusal.RepeatedOperation (op_id op));
+  Passes = Contains (op_ids g.ops) (op_id op) → ⊥;
 }
 
 -- what is checked of the commit
-abbrev pub grown_checks : Env → Growing → BugOp → History → List Check
-grown_checks env g op old = sizes (grown_objects env g op) ∷ is_new g op ∷ names env.folder (grown_objects env g op) old ∷ []
+abbrev pub grown_checks : Env → Growing → ℕ → BugOp → History → List Check
+grown_checks env g edit op old = sizes (grown_objects env g edit op) ∷ is_new g op ∷ names env.folder (grown_objects env g edit op) old ∷ []
 
 -- what is written of it
-abbrev pub grown_writes : Env → Growing → BugOp → Files → List Change
-grown_writes env g op files =
-    missing_writes env.folder (grown_objects env g op) files
-    ++ ref_write env.folder (ref_place side.Bugs g.head.id) (appended_name bug_kind (g.head.name ∷ []) (one_op_pack g.author g.edit None op) env.now)
-    ∷ see_writes env.folder file.BugsEdit g.seen g.edit
+abbrev pub grown_writes : Env → Growing → ℕ → BugOp → Files → List Change
+grown_writes env g edit op files =
+    missing_writes env.folder (grown_objects env g edit op) files
+    ++ ref_write env.folder (ref_place side.Bugs g.head.id) (appended_name bug_kind (g.head.name ∷ []) (one_op_pack g.author edit None op) env.now)
+    ∷ see_writes env.folder file.BugsEdit g.seen edit
 
 -- the plan that adds an operation to a bug, or why there is none
-abbrev pub GrownPlans : Env → Growing → BugOp → History → Result Plan Stop → Type 0
-GrownPlans env g op old (Ok plan) = AllPass (grown_checks env g op old) × (plan.writes ≡ grown_writes env g op (files_of old)) × (op_id op ≡ plan.id)
-GrownPlans env g op old (Err stop.Memory) = ⊤
-GrownPlans env g op old (Err stop.Disk) = ⊤
-GrownPlans env g op old (Err (stop.Refused r)) = FirstFails (grown_checks env g op old) r
+abbrev pub GrownPlans : Env → Growing → ℕ → BugOp → History → Result Plan Stop → Type 0
+GrownPlans env g edit op old (Ok plan) = AllPass (grown_checks env g edit op old) × (plan.writes ≡ grown_writes env g edit op (files_of old)) × (op_id op ≡ plan.id)
+GrownPlans env g edit op old (Err stop.Memory) = ⊤
+GrownPlans env g edit op old (Err stop.Disk) = ⊤
+GrownPlans env g edit op old (Err (stop.Refused r)) = FirstFails (grown_checks env g edit op old) r
 
--- an operation of the pack of a commit has this id
-abbrev pub pack_has : Id → Placed BugOp → Bool
-pack_has id placed = list_any (λ (op : BugOp). bytes_eq (bug_kind.common_of op).place.id.bytes id.bytes) placed.pack.ops
+-- the plan of an edit of a bug that stands, or why there is none
+abbrev pub EditPlans : Env → BugEdit → List ℕ → History → Result Plan Stop → Type 0
+EditPlans env edit word old result = (op : BugOp) × Plans (longer_bug env edit word op old) result
+
+-- an operation has this id
+abbrev pub has_id : Id → BugOp → Bool
+has_id id op = bytes_eq (bug_kind.common_of op).place.id.bytes id.bytes

@@ -9,7 +9,7 @@ ghost use Rattle.dag_entity.specs.Appending.{AppendPlanAnswers};
 ghost use Rattle.repo_state.specs.Clocks.{see_writes};
 ghost use Rattle.repo_state.specs.declared.clocks.ClockFile.TheVariants as file;
 ghost use Rattle.repo_steps.specs.Answers.{KeepsToWords};
-ghost use Rattle.repo_steps.specs.BugDoings.{MayWriteOp, one_op_pack};
+ghost use Rattle.repo_steps.specs.NewOps.{MayWriteOp, one_op_pack};
 ghost use Rattle.repo_edit.specs.Additions.{AddsCommit};
 
 use bug_ops::BugOp;

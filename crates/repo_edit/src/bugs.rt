@@ -1,18 +1,23 @@
-//! Edits of the bugs of a folder: each writes one operation.
+//! A new bug, and the one edit of a bug that stands: each writes one operation.
 ghost use Rattle.std.specs.Prelude.{◌≡◌, ◌≤◌, ◌+◌, None, IsTrue, IsErrOf};
 ghost use Rattle.gb_store.specs.Faults.{KeepsFaults};
 ghost use Rattle.gb_store.specs.Files.{files_of};
-ghost use Rattle.repo_steps.specs.Answers.{EditAnswers, KeepsToWords};
-ghost use Rattle.repo_steps.specs.BugDoings.{MayWriteOp, bad_bug, bad_message, begun_bug, commented_bug, longer_bug, new_bug, touched_bug};
+ghost use Rattle.repo_steps.specs.Answers.{DoingAnswers, KeepsToWords};
+ghost use Rattle.repo_steps.specs.BugDoings.{bad_bug, begun_bug, new_bug};
+ghost use Rattle.repo_steps.specs.BugEdits.{bad_edit};
+ghost use Rattle.repo_steps.specs.Doings.{BugEditAnswers};
+ghost use Rattle.repo_steps.specs.NewOps.{MayWriteOp};
 ghost use Rattle.repo_edit.specs.Reads.{ReadsEdit};
 
+use crate::bug_edit::bad_edit;
 use crate::carry::carry_out;
-use crate::operation::{bad_bug, bad_message, comment_op, create_op, noop_op};
-use crate::plan_bug::{plan_begun, plan_longer};
+use crate::operation::{bad_bug, create_op};
+use crate::plan_bug::{plan_begun, plan_edit};
 use bug_ops::BugOp;
 use gb_store::Store;
 use gb_text::{Id, LIMIT};
 use repo_state::{Env, Refusal, Stop};
+use repo_steps::BugEdit;
 use std::alloc::Global;
 
 /// Makes a bug of the user with this title and this message, which is its first comment. Answers the
@@ -29,7 +34,7 @@ pub fn new_bug<S: Store>(
 ) -> Result<Id, Stop>
     requires moment { env.now.now ≤ LIMIT }
     ensures answers { IsTrue S.tells
-        → EditAnswers (new_bug env.entry.now title.now message.now (S.history disk.old))
+        → DoingAnswers (new_bug env.entry.now title.now message.now (S.history disk.old))
         (S.history disk.old) (S.history disk.new) result }
     ensures words { KeepsToWords (bad_bug title.now message.now) result }
     ensures reads { S.object_reads disk.new ≤ S.object_reads disk.old + 4 }
@@ -43,53 +48,37 @@ pub fn new_bug<S: Store>(
     begin_bug(alloc, disk, env, op)
 }
 
-/// Adds a comment of the user to the bug that the word finds. Answers the id of its operation. Refuses
-/// in this order: words (`BadText`), a damaged user file, no user file (`NoUser`), a bug that isn't
-/// found (`NotFound`) or is damaged (`Damaged`, with the path of its ref), a head with the greatest
-/// edit clock (`ClockFull`), sizes (`TooLarge`, of 65,536 commits that stand already or of an object),
-/// an operation that the bug has (`RepeatedOperation`), names of objects (`NameTaken`). The objects are
-/// written first, then the ref, then the clock.
-pub fn comment<S: Store>(
+/// Makes an edit of the user in the bug that the word finds: a commit over its head, whose pack has the
+/// one operation that the edit adds by what the bug says. Answers the id of that operation. Refuses in
+/// this order: words (`BadText`), a damaged user file, no user file (`NoUser`), a bug that isn't found
+/// (`NotFound`) or is damaged (`Damaged`, with the path of its ref), labels none of which would change
+/// (`NoLabelChange`), the status that the bug has (`SameStatus`), a head with the greatest edit clock
+/// (`ClockFull`), sizes (`TooLarge`, of 65,536 commits that stand already or of an object), an operation
+/// that the bug has (`RepeatedOperation`), names of objects (`NameTaken`). The objects are written
+/// first, then the ref, then the clock.
+pub fn edit_bug<S: Store>(
     alloc: Global,
     disk: &mut S,
     env: &Env,
     bug: &str,
-    message: &str,
+    edit: &BugEdit,
 ) -> Result<Id, Stop>
     requires moment { env.now.now ≤ LIMIT }
     ensures answers { IsTrue S.tells
-        → EditAnswers (commented_bug env.entry.now bug.now message.now (S.history disk.old))
-        (S.history disk.old) (S.history disk.new) result }
-    ensures words { KeepsToWords (bad_message message.now) result }
+        → BugEditAnswers env.entry.now edit.now bug.now (S.history disk.old)
+        (S.history disk.new) result }
+    ensures words { KeepsToWords (bad_edit edit.now) result }
     ensures reads { IsTrue S.tells
         → ReadsEdit (files_of (S.history disk.old)) env.entry.now.folder bug.now
         (S.object_reads disk.old) (S.object_reads disk.new) }
     ensures caused { KeepsFaults S.never_fails S.faults (IsErrOf result Stop.Disk)
         disk.old disk.new }
 {
-    if let Some(place) = bad_message(message) {
+    if let Some(place) = bad_edit(edit) {
         return Err(Stop::Refused(Refusal::BadText(place)));
     }
-    let op = comment_op(alloc, env, message)?;
-    append_operation(alloc, disk, env, bug, op)
-}
-
-/// Adds an operation of the user that changes nothing to the bug that the word finds. Answers its id.
-/// Refuses and writes as `comment`, but for words.
-pub fn noop<S: Store>(alloc: Global, disk: &mut S, env: &Env, bug: &str) -> Result<Id, Stop>
-    requires moment { env.now.now ≤ LIMIT }
-    ensures answers { IsTrue S.tells
-        → EditAnswers (touched_bug env.entry.now bug.now (S.history disk.old))
-        (S.history disk.old) (S.history disk.new) result }
-    ensures words { KeepsToWords None result }
-    ensures reads { IsTrue S.tells
-        → ReadsEdit (files_of (S.history disk.old)) env.entry.now.folder bug.now
-        (S.object_reads disk.old) (S.object_reads disk.new) }
-    ensures caused { KeepsFaults S.never_fails S.faults (IsErrOf result Stop.Disk)
-        disk.old disk.new }
-{
-    let op = noop_op(alloc, env)?;
-    append_operation(alloc, disk, env, bug, op)
+    let plan = plan_edit(alloc, disk, env, bug, edit)?;
+    carry_out(alloc, disk, &plan)
 }
 
 // Begins a bug with an operation of the user.
@@ -97,7 +86,7 @@ fn begin_bug<S: Store>(alloc: Global, disk: &mut S, env: &Env, op: BugOp) -> Res
     requires moment { env.now.now ≤ LIMIT }
     requires rules { MayWriteOp op }
     ensures answers { IsTrue S.tells
-        → EditAnswers (begun_bug env.entry.now None op (S.history disk.old))
+        → DoingAnswers (begun_bug env.entry.now None op (S.history disk.old))
         (S.history disk.old) (S.history disk.new) result }
     ensures words { KeepsToWords None result }
     ensures reads { S.object_reads disk.new ≤ S.object_reads disk.old + 4 }
@@ -105,29 +94,5 @@ fn begin_bug<S: Store>(alloc: Global, disk: &mut S, env: &Env, op: BugOp) -> Res
         disk.old disk.new }
 {
     let plan = plan_begun(alloc, disk, env, op)?;
-    carry_out(alloc, disk, &plan)
-}
-
-// Adds an operation of the user to the bug that the word finds: all that edits one bug does this.
-fn append_operation<S: Store>(
-    alloc: Global,
-    disk: &mut S,
-    env: &Env,
-    bug: &str,
-    op: BugOp,
-) -> Result<Id, Stop>
-    requires moment { env.now.now ≤ LIMIT }
-    requires rules { MayWriteOp op }
-    ensures answers { IsTrue S.tells
-        → EditAnswers (longer_bug env.entry.now None bug.now op (S.history disk.old))
-        (S.history disk.old) (S.history disk.new) result }
-    ensures words { KeepsToWords None result }
-    ensures reads { IsTrue S.tells
-        → ReadsEdit (files_of (S.history disk.old)) env.entry.now.folder bug.now
-        (S.object_reads disk.old) (S.object_reads disk.new) }
-    ensures caused { KeepsFaults S.never_fails S.faults (IsErrOf result Stop.Disk)
-        disk.old disk.new }
-{
-    let plan = plan_longer(alloc, disk, env, bug, op)?;
     carry_out(alloc, disk, &plan)
 }

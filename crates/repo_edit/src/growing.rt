@@ -6,27 +6,29 @@ ghost use Rattle.gb_store.specs.Files.{files_of};
 ghost use Rattle.lamport.specs.Clock.{edit_time_of};
 ghost use Rattle.op_pack.specs.Heads.{IsClock};
 ghost use Rattle.repo_steps.specs.Answers.{KeepsToWords};
-ghost use Rattle.repo_edit.specs.Growing.{AuthorAnswers, BeginningAnswers, GrowingAnswers, ReadsGrowing, RoomAnswers, pack_has};
+ghost use Rattle.repo_edit.specs.Growing.{AuthorAnswers, BeginningAnswers, GrowingAnswers, ReadsGrowing, RoomAnswers, has_id};
 
 use bug_ops::BugOp;
 use commit_walk::MOST_COMMITS;
-use dag_entity::{Entity, Placed};
 use gb_store::Store;
 use gb_text::{Folder, Id, LIMIT, List};
 use lamport::Clock;
 use op_kind::OpKind;
-use repo_state::{ClockFile, HeadEntry, Refusal, Side, Stop, bug_at, clock, find_head, user};
+use repo_state::{
+    ClockFile, HeadEntry, Refusal, Side, Stop, bug_at, clock, find_head, ops_of, user,
+};
 use std::alloc::Global;
 
-/// A bug that an edit can add to: the author of the edit, the bug's head and its packs, the clock of
-/// the folder, and the edit clock of what is added.
+/// A bug that the user adds to: the author of what is added, the bug's head, its operations in order,
+/// the clock of the folder, and the head's edit clock and number of commits.
 #[derive(Drop)]
 pub struct Growing {
     pub author: Id,
     pub head: HeadEntry,
-    pub packs: List<Placed<BugOp>>,
+    pub ops: List<BugOp>,
     pub seen: Clock,
     pub edit: u64,
+    pub commits: u64,
 }
 
 // The user, who is the author of what a command adds to a bug.
@@ -70,7 +72,7 @@ pub fn root_of<S: Store>(alloc: Global, disk: &mut S, folder: &Folder) -> Result
     })
 }
 
-/// The bug that a word finds, where an edit can add to it.
+/// The bug that a word finds, and the user, who adds to it.
 pub fn growing_bug<S: Store>(
     alloc: Global,
     disk: &mut S,
@@ -79,7 +81,6 @@ pub fn growing_bug<S: Store>(
 ) -> Result<Growing, Stop>
     ensures answers { IsTrue S.tells
         → GrowingAnswers (files_of (S.history disk.old)) folder.now word.now result }
-    ensures clock { IfOk result (λ bug. IsClock bug.edit) }
     ensures words { KeepsToWords None result }
     ensures unwritten { IsTrue S.tells → S.history disk.new ≡ S.history disk.old }
     ensures reads { IsTrue S.tells
@@ -92,25 +93,28 @@ pub fn growing_bug<S: Store>(
     let head = find_head(alloc, disk, folder, &Side::Bugs, word)?;
     let entity = bug_at(alloc, disk, folder, &head)?;
     let seen = clock(alloc, disk, folder, ClockFile::BugsEdit)?;
-    let edit = room(seen, &head, entity.edit, entity.commits)?;
+    let (edit, commits) = (entity.edit, entity.commits);
     Ok(Growing {
         author,
         head,
-        packs: entity.packs,
+        ops: ops_of(alloc, entity.packs)?,
         seen,
         edit,
+        commits,
     })
 }
 
-// The edit clock of what is added to a bug whose head has this one and that has so many commits.
-fn room(seen: Clock, head: &HeadEntry, edit: u64, commits: u64) -> Result<u64, Stop>
-    ensures room { RoomAnswers seen head.now.name edit commits result }
+/// The edit clock of what is added to a bug: above that of its head, of which one has to be left, and
+/// where it has room for one commit more.
+pub fn room(bug: &Growing) -> Result<u64, Stop>
+    ensures room { RoomAnswers bug.now.seen bug.now.head.name bug.now.edit bug.now.commits result }
     ensures clock { IfOk result (λ edit. IsClock edit) }
+    ensures words { KeepsToWords None result }
 {
-    let Some(later) = later_clock(seen, edit) else {
-        return Err(Stop::Refused(Refusal::ClockFull(head.name)));
+    let Some(later) = later_clock(bug.seen, bug.edit) else {
+        return Err(Stop::Refused(Refusal::ClockFull(bug.head.name)));
     };
-    if commits >= MOST_COMMITS as u64 {
+    if bug.commits >= MOST_COMMITS as u64 {
         return Err(Stop::Refused(Refusal::TooLarge(MOST_COMMITS as u64 + 1)));
     }
     Ok(later)
@@ -129,17 +133,9 @@ fn later_clock(clock: Clock, head: u64) -> Option<u64>
     }
 }
 
-/// Whether packs have an operation of this id.
-pub fn has_operation(packs: &[Placed<BugOp>], id: &Id) -> bool
-    ensures { result ≡ list_any (pack_has id.now) packs.now }
+/// Whether one of these operations has an id.
+pub fn has_operation(ops: &[BugOp], id: &Id) -> bool
+    ensures { result ≡ list_any (has_id id.now) ops.now }
 {
-    packs.iter().any(|placed| pack_has(placed, id))
-}
-
-// Whether the pack of a commit has one.
-fn pack_has(placed: &Placed<BugOp>, id: &Id) -> bool
-    ensures { result ≡ pack_has id.now placed.now }
-{
-    let ops = placed.pack.ops.as_slice();
     ops.iter().any(|op| op.common().place.id == *id)
 }

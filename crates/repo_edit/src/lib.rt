@@ -2,16 +2,20 @@
 #![tactic(auto)]
 
 mod addition;
+mod bug_edit;
 mod bugs;
+mod calls;
 mod carry;
 mod command;
 mod growing;
+mod labels;
 mod operation;
 mod people;
 mod plan_bug;
 mod room;
 mod version;
 
-pub use bugs::{comment, new_bug, noop};
+pub use bugs::{edit_bug, new_bug};
+pub use calls::{comment, label_add, label_rm, meta, noop, set_status, title};
 pub use command::edit;
 pub use people::{user_edit, user_new, user_set};

@@ -1,11 +1,16 @@
 //! The operations that commands make, and the rules of their words.
-ghost use Rattle.std.specs.Prelude.{◌≡◌, ◌≤◌, IfOk};
-ghost use Rattle.repo_steps.specs.BugDoings.{MayWriteOp, bad_bug, bad_message, comment_op, create_op, new_common, noop_op, nowhere, op_id};
+ghost use Rattle.std.specs.Prelude.{◌≡◌, ◌≤◌, true, None, IfOk};
+ghost use Rattle.gb_text.specs.Digits.{IsId};
+ghost use Rattle.gb_text.specs.Rules.{is_message_text, is_title_text};
+ghost use Rattle.bug_ops.specs.BugForms.{AreLabels};
+ghost use Rattle.repo_steps.specs.BugDoings.{bad_bug};
+ghost use Rattle.repo_steps.specs.BugEdits.{comment_op, labels_op, metadata_op, noop_op, status_op, title_op};
+ghost use Rattle.repo_steps.specs.NewOps.{MayWriteOp, create_op, new_common, nowhere, op_id};
 
 use crate::version::nonce_from;
-use bug_ops::BugOp;
+use bug_ops::{BugOp, BugStatus};
 use gb_text::{Id, LIMIT, List, Memory, Text, is_message, is_title};
-use op_kind::{Common, Nonce, OpKind, Place};
+use op_kind::{Common, Nonce, OpKind, Pair, Place};
 use repo_state::Env;
 use sha2::{Digest, Sha256};
 use std::alloc::Global;
@@ -17,13 +22,6 @@ pub fn bad_bug(title: &str, message: &str) -> Option<u64>
     if !is_title(title) {
         return Some(1);
     }
-    bad_message(message)
-}
-
-/// The place of a message that is none, behind the word of a bug or a title.
-pub fn bad_message(message: &str) -> Option<u64>
-    ensures { result ≡ bad_message message.now }
-{
     if is_message(message) { None } else { Some(2) }
 }
 
@@ -45,7 +43,7 @@ pub fn create_op(alloc: Global, env: &Env, title: &str, message: &str) -> Result
 /// A comment.
 pub fn comment_op(alloc: Global, env: &Env, message: &str) -> Result<BugOp, Memory>
     requires moment { env.now.now ≤ LIMIT }
-    requires words { bad_message message.now ≡ None }
+    requires words { is_message_text message.now ≡ true }
     ensures op { IfOk result (λ op. op ≡ comment_op env.entry.now message.now) }
     ensures rules { IfOk result (λ op. MayWriteOp op) }
 {
@@ -65,6 +63,84 @@ pub fn noop_op(alloc: Global, env: &Env) -> Result<BugOp, Memory>
     Ok(BugOp::NoOp {
         common: new_common(alloc, env, 7)?,
     })
+}
+
+/// Another title, and the one before.
+pub fn title_op(alloc: Global, env: &Env, title: &str, was: &str) -> Result<BugOp, Memory>
+    requires moment { env.now.now ≤ LIMIT }
+    requires words { is_title_text title.now ≡ true }
+    ensures op { IfOk result (λ op. op ≡ title_op env.entry.now title.now was.now) }
+    ensures rules { IfOk result (λ op. MayWriteOp op) }
+{
+    Ok(BugOp::SetTitle {
+        common: new_common(alloc, env, 2)?,
+        title: Text::from_str(alloc, title)?,
+        was: Text::from_str(alloc, was)?,
+    })
+}
+
+/// Another status.
+pub fn status_op(alloc: Global, env: &Env, status: BugStatus) -> Result<BugOp, Memory>
+    requires moment { env.now.now ≤ LIMIT }
+    ensures op { IfOk result (λ op. op ≡ status_op env.entry.now status) }
+    ensures rules { IfOk result (λ op. MayWriteOp op) }
+{
+    Ok(BugOp::SetStatus {
+        common: new_common(alloc, env, 4)?,
+        status,
+    })
+}
+
+/// Labels that are put on, and labels that are taken off.
+pub fn labels_op(
+    alloc: Global,
+    env: &Env,
+    added: List<Text>,
+    removed: List<Text>,
+) -> Result<BugOp, Memory>
+    requires moment { env.now.now ≤ LIMIT }
+    requires added { AreLabels added }
+    requires removed { AreLabels removed }
+    ensures op { IfOk result (λ op. op ≡ labels_op env.entry.now added removed) }
+    ensures rules { IfOk result (λ op. MayWriteOp op) }
+{
+    Ok(BugOp::LabelChange {
+        common: new_common(alloc, env, 5)?,
+        added,
+        removed,
+    })
+}
+
+/// A value under a key of the bug whose first operation has the id of the target.
+pub fn metadata_op(
+    alloc: Global,
+    env: &Env,
+    target: Id,
+    key: &str,
+    value: &str,
+) -> Result<BugOp, Memory>
+    requires moment { env.now.now ≤ LIMIT }
+    ensures op { IfOk result (λ op. op ≡ metadata_op env.entry.now target key.now value.now) }
+    ensures rules { IfOk result (λ op. MayWriteOp op) }
+{
+    see_sized(&target);
+    let mut pairs = Vec::new(alloc);
+    pairs.push(Pair {
+        key: Text::from_str(alloc, key)?,
+        value: Text::from_str(alloc, value)?,
+    })?;
+    Ok(BugOp::SetMetadata {
+        common: new_common(alloc, env, 8)?,
+        target,
+        pairs: List::from_vec(pairs),
+    })
+}
+
+// Sees that an id is 32 bytes, as each id is.
+fn see_sized(id: &Id)
+    ensures { IsId id.now }
+{
+    id.text();
 }
 
 // What an operation of a type has that a command makes.

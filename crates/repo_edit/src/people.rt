@@ -1,7 +1,7 @@
 //! Edits of the people of a folder, and of who its user is.
 ghost use Rattle.std.specs.Prelude.{◌≡◌, ◌≤◌, None, IsTrue, IsErrOf};
 ghost use Rattle.gb_store.specs.Faults.{KeepsFaults};
-ghost use Rattle.repo_steps.specs.Answers.{EditAnswers, KeepsToWords, Plans};
+ghost use Rattle.repo_steps.specs.Answers.{DoingAnswers, KeepsToWords, Plans};
 ghost use Rattle.repo_steps.specs.PeopleDoings.{bad_person, edited_user, new_user, set_user};
 
 use crate::carry::carry_out;
@@ -28,7 +28,7 @@ pub fn user_new<S: Store>(
 ) -> Result<Id, Stop>
     requires moment { env.now.now ≤ LIMIT }
     ensures answers { IsTrue S.tells
-        → EditAnswers (new_user env.entry.now name.now email.now (S.history disk.old))
+        → DoingAnswers (new_user env.entry.now name.now email.now (S.history disk.old))
         (S.history disk.old) (S.history disk.new) result }
     ensures words { KeepsToWords (bad_person name.now email.now) result }
     ensures caused { KeepsFaults S.never_fails S.faults (IsErrOf result Stop.Disk)
@@ -85,7 +85,7 @@ pub fn user_edit<S: Store>(
 ) -> Result<Id, Stop>
     requires moment { env.now.now ≤ LIMIT }
     ensures answers { IsTrue S.tells
-        → EditAnswers (edited_user env.entry.now name.now email.now (S.history disk.old))
+        → DoingAnswers (edited_user env.entry.now name.now email.now (S.history disk.old))
         (S.history disk.old) (S.history disk.new) result }
     ensures words { KeepsToWords (bad_person name.now email.now) result }
     ensures caused { KeepsFaults S.never_fails S.faults (IsErrOf result Stop.Disk)
@@ -131,7 +131,7 @@ fn plan_edited_user<S: Store>(
 /// where the word finds none. The user file isn't read.
 pub fn user_set<S: Store>(alloc: Global, disk: &mut S, env: &Env, word: &str) -> Result<Id, Stop>
     ensures answers { IsTrue S.tells
-        → EditAnswers (set_user env.entry.now word.now (S.history disk.old))
+        → DoingAnswers (set_user env.entry.now word.now (S.history disk.old))
         (S.history disk.old) (S.history disk.new) result }
     ensures words { KeepsToWords None result }
     ensures caused { KeepsFaults S.never_fails S.faults (IsErrOf result Stop.Disk)

@@ -4,18 +4,21 @@ ghost use Rattle.gb_store.specs.Faults.{KeepsFaults};
 ghost use Rattle.gb_store.specs.Files.{files_of};
 ghost use Rattle.op_pack.specs.Heads.{IsClock};
 ghost use Rattle.repo_steps.specs.Answers.{KeepsToWords, Plans};
-ghost use Rattle.repo_steps.specs.BugDoings.{MayWriteOp, begun_bug, longer_bug};
-ghost use Rattle.repo_edit.specs.Growing.{Begins, GrownPlans};
+ghost use Rattle.repo_steps.specs.BugDoings.{begun_bug};
+ghost use Rattle.repo_steps.specs.BugEdits.{bad_edit};
+ghost use Rattle.repo_steps.specs.NewOps.{MayWriteOp};
+ghost use Rattle.repo_edit.specs.Growing.{Begins, EditPlans, GrownPlans};
 ghost use Rattle.repo_edit.specs.Reads.{ReadsEdit};
 
 use crate::addition::{commit_writes, plan_commit, with_clock, with_root_clocks};
-use crate::growing::{Beginning, Growing, growing_bug, has_operation, root_of};
+use crate::bug_edit::edit_op;
+use crate::growing::{Beginning, Growing, growing_bug, has_operation, room, root_of};
 use crate::operation::op_id;
 use bug_ops::BugOp;
 use gb_store::Store;
 use gb_text::{Id, LIMIT, List};
 use repo_state::{ClockFile, Env, Refusal, Side, Stop, stands};
-use repo_steps::Plan;
+use repo_steps::{BugEdit, Plan};
 use std::alloc::Global;
 
 /// What a command writes that begins a bug with an operation.
@@ -68,18 +71,18 @@ fn plan_root<S: Store>(
     })
 }
 
-/// What a command writes that adds an operation to the bug that a word finds.
-pub fn plan_longer<S: Store>(
+/// What an edit of the bug that a word finds writes.
+pub fn plan_edit<S: Store>(
     alloc: Global,
     disk: &mut S,
     env: &Env,
     word: &str,
-    op: BugOp,
+    edit: &BugEdit,
 ) -> Result<Plan, Stop>
     requires moment { env.now.now ≤ LIMIT }
-    requires rules { MayWriteOp op }
+    requires words { bad_edit edit.now ≡ None }
     ensures answers { IsTrue S.tells
-        → Plans (longer_bug env.entry.now None word.now op (S.history disk.old)) result }
+        → EditPlans env.entry.now edit.now word.now (S.history disk.old) result }
     ensures words { KeepsToWords None result }
     ensures unwritten { IsTrue S.tells → S.history disk.new ≡ S.history disk.old }
     ensures reads { IsTrue S.tells
@@ -89,22 +92,25 @@ pub fn plan_longer<S: Store>(
         disk.old disk.new }
 {
     let bug = growing_bug(alloc, disk, &env.folder, word)?;
-    plan_grown(alloc, disk, env, &bug, op)
+    let op = edit_op(alloc, env, edit, bug.ops.as_slice())?;
+    let clock = room(&bug)?;
+    plan_grown(alloc, disk, env, &bug, clock, op)
 }
 
-// What adds an operation to a bug that can grow.
+// What adds an operation with this edit clock to a bug.
 fn plan_grown<S: Store>(
     alloc: Global,
     disk: &mut S,
     env: &Env,
     bug: &Growing,
+    edit: u64,
     op: BugOp,
 ) -> Result<Plan, Stop>
     requires moment { env.now.now ≤ LIMIT }
     requires rules { MayWriteOp op }
-    requires clock { IsClock bug.now.edit }
+    requires clock { IsClock edit }
     ensures answers { IsTrue S.tells
-        → GrownPlans env.entry.now bug.now op (S.history disk.old) result }
+        → GrownPlans env.entry.now bug.now edit op (S.history disk.old) result }
     ensures words { KeepsToWords None result }
     ensures unwritten { IsTrue S.tells → S.history disk.new ≡ S.history disk.old }
     ensures reads { S.object_reads disk.new ≤ S.object_reads disk.old + 4 }
@@ -113,13 +119,13 @@ fn plan_grown<S: Store>(
 {
     let id = op_id(alloc, &op)?;
     let parents = [bug.head.name];
-    let commit = plan_commit(alloc, &parents, &bug.author, bug.edit, None, op, env.now)?;
-    if has_operation(bug.packs.as_slice(), &id) {
+    let commit = plan_commit(alloc, &parents, &bug.author, edit, None, op, env.now)?;
+    if has_operation(bug.ops.as_slice(), &id) {
         return Err(Stop::Refused(Refusal::RepeatedOperation(id)));
     }
     let writes = commit_writes(alloc, disk, &env.folder, &bug.head.id, &commit)?;
     let which = ClockFile::BugsEdit;
-    let writes = with_clock(alloc, &env.folder, which, bug.seen, bug.edit, writes)?;
+    let writes = with_clock(alloc, &env.folder, which, bug.seen, edit, writes)?;
     Ok(Plan {
         writes: List::from_vec(writes),
         id,

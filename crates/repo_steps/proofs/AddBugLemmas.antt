@@ -1,5 +1,5 @@
 -- A commit that is added to a bug, by its writes alone.
-use Rattle.std.proofs.Common.{◌≡◌, ◌≢◌, ◌<◌, ◌≤◌, ◌^◌, ℕ, Bool, true, false, List, [], ◌∷◌, ◌++◌, reverse, Option, Some, None, inl, inr, refl, sym, ◌∙◌, ap, subst, append_assoc, arith, ltb-true}
+use Rattle.std.proofs.Common.{◌≡◌, ◌≢◌, ◌<◌, ◌≤◌, ◌^◌, ℕ, Bool, true, false, List, [], ◌∷◌, ◌++◌, reverse, Option, Some, inl, inr, refl, sym, ◌∙◌, ap, subst, arith, ltb-true}
 use Rattle.std.specs.Prelude.{nat_lt}
 use Rattle.std.specs.List.{AllByRecursion}
 use Rattle.std.proofs.lemmas.Bool.{cases_lt, lt-ltb}
@@ -15,7 +15,7 @@ use Rattle.gb_store.specs.declared.store.Change.{Change}
 use Rattle.gb_store.proofs.MomentLemmas.{Wrote-none, Wrote-one, Wrote-then, Wrote-wider}
 use Rattle.git_object.proofs.NameLaws.{IsName-object_name}
 use Rattle.object_store.specs.Growth.{OnlyGrew}
-use Rattle.object_store.specs.Held.{Objects, objects_after, objects_in}
+use Rattle.object_store.specs.Held.{objects_after, objects_in}
 use Rattle.object_batch.specs.Batches.{MayBePut, missing_writes}
 use Rattle.object_batch.specs.Needs.{PutsAfterNeeds}
 use Rattle.object_batch.proofs.PlanLemmas.{batch_grew, batch_held}
@@ -23,7 +23,6 @@ use Rattle.ref_store.specs.Refs.{Head}
 use Rattle.ref_store.specs.Setting.{ref_write}
 use Rattle.ref_store.proofs.MapLemmas.{set_ref_reads, written-other}
 use Rattle.lamport.specs.Clock.{seen_by}
-use Rattle.lamport.specs.declared.clock.TheConstants.{CAP}
 use Rattle.bug_ops.specs.Kind.{bug_kind}
 use Rattle.bug_ops.specs.Laws.{bug_keeps_laws}
 use Rattle.bug_ops.specs.declared.op.BugOp.{BugOp}
@@ -37,7 +36,6 @@ use Rattle.repo_state.specs.Bugs.{EachIsLocal, IsBug}
 use Rattle.repo_state.specs.Clocks.{clock_at, clock_in, clock_place, clock_write, see_writes}
 use Rattle.repo_state.specs.Sides.{head_at, ref_place}
 use Rattle.repo_state.specs.declared.clocks.ClockFile.{ClockFile}
-use Rattle.repo_state.specs.declared.clocks.ClockFile.TheVariants as file
 use Rattle.repo_state.specs.declared.env.Env.{Env}
 use Rattle.repo_state.specs.declared.side.HeadEntry.{HeadEntry}
 use Rattle.repo_state.specs.declared.side.Side.{Side}
@@ -49,7 +47,7 @@ use Rattle.repo_steps.specs.BugDoings.{addition_head, addition_objects}
 use Rattle.repo_steps.specs.Kinds.{IsClockOf, IsUnder, IsWrite, a_bug_head, a_clock, an_object, ref_to}
 use Rattle.repo_steps.specs.Steps.{OnlyChanges}
 use Rattle.repo_steps.specs.declared.edit.Addition.{Addition}
-use Rattle.repo_steps.proofs.OnlyLemmas.{AddsObject, OnlyChanges-none, OnlyChanges-objects, OnlyChanges-put, OnlyChanges-then, head_kept}
+use Rattle.repo_steps.proofs.OnlyLemmas.{AddsObject, OnlyChanges-objects, OnlyChanges-put, OnlyChanges-then, head_kept}
 
 -- a clock reads the same where only objects were added
 clock_kept : (folder : List ℕ) (old new : Files) → OnlyChanges folder [] old new → (which : ClockFile) → clock_at new folder which ≡ clock_at old folder which

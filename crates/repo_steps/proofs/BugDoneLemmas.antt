@@ -1,14 +1,12 @@
 -- What a command on bugs that nothing keeps from being done leaves: its writes are of their kinds, and make its step.
-use Rattle.std.proofs.Common.{◌≡◌, ◌≢◌, ◌<◌, ◌≤◌, ◌^◌, ◌-◌, ◌+◌, ℕ, false, true, IsTrue, List, [], ◌∷◌, ◌++◌, length, reverse, flat_map, Contains, Option, Some, None, option_and_then, inl, inr, refl, sym, ◌∙◌, ap, subst, append_assoc, append-nil, arith}
-use Rattle.std.proofs.lemmas.List.{reverse-append}
+use Rattle.std.proofs.Common.{◌≡◌, ◌<◌, ◌≤◌, ◌^◌, ℕ, false, true, List, [], ◌∷◌, ◌++◌, length, reverse, Contains, Option, Some, None, Ok, option_and_then, inl, inr, refl, sym, ◌∙◌, ap, subst, append_assoc, arith}
+use Rattle.std.proofs.lemmas.List.{map-append}
 use Rattle.std.proofs.lemmas.List.Elements.{Contains-append_left, Contains-append_right, Contains-get_or}
 use Rattle.std.proofs.lemmas.Option.{same_Some}
-use Rattle.std.specs.Option.{option_map}
 use Rattle.gb_text.specs.Digits.{IsId}
 use Rattle.gb_text.specs.declared.decimal.TheConstants.{LIMIT}
 use Rattle.gb_text.specs.declared.id.Id.{Id}
 use Rattle.gb_text.specs.declared.id.Name.{Name}
-use Rattle.gb_text.proofs.DigitLemmas.{id_of-is}
 use Rattle.gb_store.specs.Files.{Files, History, files_of}
 use Rattle.gb_store.specs.Moments.{Wrote}
 use Rattle.gb_store.specs.declared.store.Change.{Change}
@@ -19,10 +17,10 @@ use Rattle.object_store.specs.Typed.{HoldsAs, as_commit, commit_at, tree_at}
 use Rattle.object_store.proofs.GrowthLemmas.{bind-some}
 use Rattle.object_batch.specs.Batches.{MayBePut, missing_writes}
 use Rattle.object_batch.proofs.ClashLemmas.{Contains-cons_cases, Contains-first, Contains-later}
-use Rattle.ref_store.specs.Refs.{Absent, Head}
+use Rattle.ref_store.specs.Refs.{Head}
 use Rattle.ref_store.specs.Setting.{ref_write}
 use Rattle.lamport.specs.Clock.{edit_time_of, root_time_of, seen_by}
-use Rattle.lamport.specs.declared.clock.TheConstants.{CAP, JUMP}
+use Rattle.lamport.specs.declared.clock.TheConstants.{CAP}
 use Rattle.identity.proofs.IdLemmas.{IsId-version_id}
 use Rattle.op_kind.specs.declared.place.Place.{Place}
 use Rattle.op_pack.specs.Heads.{IsClock, edit_clock_of}
@@ -31,14 +29,14 @@ use Rattle.bug_ops.specs.Kind.{bug_kind}
 use Rattle.bug_ops.specs.Laws.{bug_keeps_laws}
 use Rattle.bug_ops.specs.declared.op.BugOp.{BugOp}
 use Rattle.bug_ops.specs.declared.op.BugOp.TheVariants.{AddComment, Create, EditComment, LabelChange, NoOp, SetMetadata, SetStatus, SetTitle}
-use Rattle.commit_walk.specs.Below.{IsBelow, IsParent, head, parent}
+use Rattle.commit_walk.specs.Below.{IsBelow, head, parent}
 use Rattle.commit_walk.specs.Distinct.{AreDistinct}
 use Rattle.commit_walk.specs.declared.below.TheConstants.{MOST_COMMITS}
 use Rattle.commit_walk.proofs.DistinctLemmas.{AreDistinct-nil, AreDistinct-push, Contains-nil, Contains-one}
 use Rattle.dag_entity.specs.Appending.{AreHeld, CanBeRead, MayBeAppended, appended_head, appended_node}
-use Rattle.dag_entity.specs.Entities.{IsEntity, IsRootClock}
-use Rattle.dag_entity.specs.Extending.{Begins, Extends, begun, extended}
-use Rattle.dag_entity.specs.Nodes.{IsNode, edit_at, ids_of, pack_at}
+use Rattle.dag_entity.specs.Entities.{IsEntity, ops_in}
+use Rattle.dag_entity.specs.Extending.{Begins, Extends, extended}
+use Rattle.dag_entity.specs.Nodes.{edit_at, ids_of}
 use Rattle.dag_entity.specs.declared.entity.Entity.{Entity}
 use Rattle.dag_entity.specs.declared.entity.Loaded.{Loaded}
 use Rattle.dag_entity.specs.declared.entity.Placed.{Placed}
@@ -58,11 +56,14 @@ use Rattle.repo_state.specs.declared.side.Side.TheVariants as side
 use Rattle.repo_state.proofs.BugLemmas.{edit_within, head_edit}
 use Rattle.repo_state.proofs.BugSoundLemmas.{IsBug-over}
 use Rattle.repo_state.proofs.KindLemmas.{clock_at-capped}
-use Rattle.repo_steps.specs.BugDoings.{HasBug, MayWriteOp, addition_head, addition_objects, addition_writes, clock_writes, later_addition, one_op_pack, op_id, op_ids, root_addition}
+use Rattle.repo_steps.specs.BugDoings.{HasBug, addition_head, addition_objects, addition_writes, bug_says, clock_writes, later_addition, op_ids, root_addition}
+use Rattle.repo_steps.specs.BugEdits.{edit_op}
 use Rattle.repo_steps.specs.Kinds.{IsWrite}
-use Rattle.repo_steps.specs.Steps.{BugBegins, BugGrows, OnlyChanges, begun_entity}
+use Rattle.repo_steps.specs.NewOps.{MayWriteOp, one_op_pack, op_id}
+use Rattle.repo_steps.specs.Steps.{BugBegins, BugGrows, begun_entity}
 use Rattle.repo_steps.specs.declared.edit.Addition.{Addition}
-use Rattle.repo_steps.proofs.AddBugLemmas.{Seen, node, put, put_grew, put_node, see_made, set, set_bug, set_clock, set_head, set_only, set_wrote, set_writes, top}
+use Rattle.repo_steps.specs.declared.edit.BugEdit.{BugEdit}
+use Rattle.repo_steps.proofs.AddBugLemmas.{Seen, node, put, put_grew, put_node, see_made, set, set_bug, set_clock, set_head, set_only, set_wrote, set_writes}
 use Rattle.repo_steps.proofs.HeadLemmas.{head_at-absent}
 use Rattle.repo_steps.proofs.OnlyLemmas.{OnlyChanges-then}
 use Rattle.repo_steps.proofs.WriteLemmas.{all_both}
@@ -125,13 +126,13 @@ some_user_is NoUser good some = absurd (some refl)
 some_user_is (User id) good some = (id, refl)
 some_user_is BadUser good some = absurd (good refl)
 
--- what stands in one of several lists stands in all of them one after the other
-Contains-flat_map : {X A : Type 0} (f : X → List A) (xs : List X) (x : X) (a : A) → Contains xs x → Contains (f x) a → Contains (flat_map f xs) a
-Contains-flat_map f [] x a has in_one = absurd (Contains-nil x has)
-Contains-flat_map f (y ∷ ys) x a has in_one = elim (Contains-cons_cases y ys x has) [
-  | inl same ↦ Contains-append_left (f y) (flat_map f ys) a (subst (λ z. Contains (f z) a) (sym same) in_one)
-  | inr later ↦ Contains-append_right (f y) (flat_map f ys) a (Contains-flat_map f ys x a later in_one)
-]
+-- the id of an operation of one of several packs is among those of all of them
+ids_of_packs : (packs : List (Placed BugOp)) (placed : Placed BugOp) (id : Id) → Contains packs placed → Contains (ids_of bug_kind placed.pack) id → Contains (op_ids (ops_in bug_kind packs)) id
+ids_of_packs [] placed id has in_one = absurd (Contains-nil placed has)
+ids_of_packs (first ∷ rest) placed id has in_one = subst (λ ids. Contains ids id) (sym (map-append (λ (op : BugOp). (bug_kind.common_of op).place.id) first.pack.ops (ops_in bug_kind rest))) (elim (Contains-cons_cases first rest placed has) [
+  | inl same ↦ Contains-append_left (ids_of bug_kind first.pack) (op_ids (ops_in bug_kind rest)) id (subst (λ (p : Placed BugOp). Contains (ids_of bug_kind p.pack) id) (sym same) in_one)
+  | inr later ↦ Contains-append_right (ids_of bug_kind first.pack) (op_ids (ops_in bug_kind rest)) id (ids_of_packs rest placed id later in_one)
+])
 
 -- the writes of a commit that is added are its objects and its head, and then the clocks
 added_writes : (env : Env) (files : Files) (a : Addition)
@@ -274,10 +275,10 @@ module _ (env : Env) (old : History) (op : BugOp) (rules : MayWriteOp op) (momen
 
 -- ---- a bug with one operation more
 
-module _ (env : Env) (old : History) (word : List ℕ) (op : BugOp) (rules : MayWriteOp op) (moment : env.now < 2 ^ 64) (follows : bug_kind.is_following op ≡ true)
+module _ (env : Env) (old : History) (edit : BugEdit) (word : List ℕ) (op : BugOp) (rules : MayWriteOp op) (moment : env.now < 2 ^ 64) (follows : bug_kind.is_following op ≡ true)
     (user : Id) (is_user : user_at (files_of old) env.folder ≡ User user) (local : IsLocal (files_of old) env.folder user)
-    (found : HasBug env.folder (files_of old) word) (has_clock : found.entity.edit ≡ LIMIT → ⊥) (has_room : MOST_COMMITS ≤ length found.entity.packs → ⊥)
-    (is_new : Contains (op_ids found.entity.packs) (op_id op) → ⊥)
+    (found : HasBug env.folder (files_of old) word) (adds : edit_op env edit (bug_says found.entity) ≡ Ok op) (has_clock : found.entity.edit ≡ LIMIT → ⊥) (has_room : MOST_COMMITS ≤ length found.entity.packs → ⊥)
+    (is_new : Contains (op_ids (ops_in bug_kind found.entity.packs)) (op_id op) → ⊥)
     (free : MayBePut env.folder (addition_objects env.now (Some (later_addition env.folder (files_of old) op user found.bug found.entity.edit))) old) (is_id : IsId found.bug.id) where
   abbrev edit_before : ℕ
   edit_before = clock_at (files_of old) env.folder file.BugsEdit
@@ -355,7 +356,7 @@ module _ (env : Env) (old : History) (word : List ℕ) (op : BugOp) (rules : May
     once = subst AreDistinct (sym (ids_again heads user edit_now None op env.now)) (AreDistinct-push [] (op_id op) AreDistinct-nil (Contains-nil (op_id op)));
     fresh = λ placed id c has new.
         let same : op_id op ≡ id = Contains-one (op_id op) id (subst (λ (l : List Id). Contains l id) (ids_again heads user edit_now None op env.now) new) in
-        is_new (Contains-flat_map (λ (p : Placed BugOp). ids_of bug_kind p.pack) found.entity.packs placed (op_id op) c (subst (Contains (ids_of bug_kind placed.pack)) (sym same) has));
+        is_new (ids_of_packs found.entity.packs placed (op_id op) c (subst (Contains (ids_of bug_kind placed.pack)) (sym same) has));
     known = Contains-first user found.is.authors;
     few = omega (arith, has_room);
   }
@@ -400,11 +401,13 @@ module _ (env : Env) (old : History) (word : List ℕ) (op : BugOp) (rules : May
       let is = put_node env old added moment added_may added_can local.is_id added_parents free in
       parent (head (Contains-first (addition_head env.now added) [])) (record { commit = is.commit; held = is.held; names = subst (λ (l : List Name). Contains l found.bug.name) is.parents (Contains-first found.bug.name []) })
 
-  grows : BugGrows env word op (files_of old) (files_of then_edited) (op_id op)
+  grows : BugGrows env edit word (files_of old) (files_of then_edited) (op_id op)
   grows = record {
     user = user;
     is_user = is_user;
     bug = found;
+    op = op;
+    is_op = adds;
     is_told = refl;
     head = then_seen.heads side.Bugs found.bug.id ∙ then_reads;
     is = IsBug-over env.folder (files_of then_set) (files_of then_edited) (then_seen.heads side.Identities) then_seen.objects later_bug longer longer_set;
@@ -418,8 +421,8 @@ module _ (env : Env) (old : History) (word : List ℕ) (op : BugOp) (rules : May
       (set_wrote env old added moment added_may added_can local.is_id added_parents free longer authors each_local is_id is_longer (Some found.bug.name) found.finds.head under) then_seen.wrote
 
   -- the bug grows
-  pub bug_grown : MadeBug env old added (λ (new : Files). BugGrows env word op (files_of old) new (op_id op))
+  pub bug_grown : MadeBug env old added (λ (new : Files). BugGrows env edit word (files_of old) new (op_id op))
   bug_grown = record {
     wrote = subst (Wrote (IsWrite env.folder) old) then_all then_wrote;
-    step = subst (λ (new : History). BugGrows env word op (files_of old) (files_of new) (op_id op)) then_all grows;
+    step = subst (λ (new : History). BugGrows env edit word (files_of old) (files_of new) (op_id op)) then_all grows;
   }

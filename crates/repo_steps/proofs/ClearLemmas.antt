@@ -1,5 +1,5 @@
 -- The checks of each command are clear: none both fails and passes, and each has refusals of one number.
-use Rattle.std.proofs.Common.{◌≡◌, ℕ, ◌≤◌, ◌+◌, inl, inr, List, [], ◌∷◌, length, Contains, Option, None, refl, sym, ◌∙◌, ap, subst, arith}
+use Rattle.std.proofs.Common.{◌≡◌, ℕ, ◌≤◌, ◌+◌, inl, inr, List, [], ◌∷◌, ◌++◌, length, Contains, Option, None, Result, Ok, Err, refl, sym, ◌∙◌, ap, subst, arith}
 use Rattle.std.specs.Option.{option_map}
 use Rattle.std.specs.Prelude.{option_and_then}
 use Rattle.gb_text.specs.declared.decimal.TheConstants.{LIMIT}
@@ -11,7 +11,9 @@ use Rattle.object_store.specs.Texts.{IsShort}
 use Rattle.commit_chain.specs.Chain.{Walked}
 use Rattle.commit_chain.proofs.PassLemmas.{one_walk}
 use Rattle.commit_walk.specs.declared.below.TheConstants.{MOST_COMMITS}
+use Rattle.bug_ops.specs.Kind.{bug_kind}
 use Rattle.bug_ops.specs.declared.op.BugOp.{BugOp}
+use Rattle.dag_entity.specs.Entities.{ops_in}
 use Rattle.dag_entity.specs.declared.entity.Entity.{Entity}
 use Rattle.ref_store.specs.Refs.{Head}
 use Rattle.identity.specs.Persons.{IsChain}
@@ -27,11 +29,14 @@ use Rattle.repo_state.specs.declared.side.HeadEntry.{HeadEntry}
 use Rattle.repo_state.specs.declared.side.Side.{Side}
 use Rattle.repo_state.specs.declared.side.Side.TheVariants as side
 use Rattle.repo_steps.specs.Checks.{AllPass, AreClear, Check, FirstFails, IsClear}
-use Rattle.repo_steps.specs.BugDoings.{HasBug, MayWriteOp, addition_objects, bad_bug, bad_message, begun_bug, bug_check, bug_reads, clock_room, comment_op, commit_room, create_op, later_by, longer_bug, new_operation, noop_op, op_id, op_ids, root_addition, some_id}
+use Rattle.repo_steps.specs.BugDoings.{HasBug, addition_objects, bad_bug, begun_bug, bug_check, bug_reads, bug_says, clock_room, commit_room, edit_adds, later_by, longer_bug, new_bug, new_operation, op_ids, root_addition, some_id}
+use Rattle.repo_steps.specs.BugEdits.{bad_edit, edit_op}
 use Rattle.repo_steps.specs.Doing.{found, fresh, names, sizes, some_user, user_file, words}
-use Rattle.repo_steps.specs.Doings.{doing_of}
-use Rattle.repo_steps.specs.PeopleDoings.{HasBadChain, HasUser, MayWrite, bad_person, new_made, new_objects, user_chain, user_room}
+use Rattle.repo_steps.specs.Doings.{MayStep, Refused}
+use Rattle.repo_steps.specs.NewOps.{MayWriteOp, create_op, op_id}
+use Rattle.repo_steps.specs.PeopleDoings.{HasBadChain, HasUser, MayWrite, bad_person, edited_user, new_made, new_objects, new_user, set_user, user_chain, user_room}
 use Rattle.repo_state.proofs.BugLemmas.{bug_not_damaged, one_bug, one_entity}
+use Rattle.repo_steps.specs.declared.edit.BugEdit.{BugEdit}
 use Rattle.repo_steps.specs.declared.edit.Edit.{Edit}
 use Rattle.repo_steps.specs.declared.edit.Edit.TheVariants as edit
 
@@ -50,6 +55,21 @@ one_number (check ∷ checks) r s clear (inl one) (inl two) = clear.0.one r s on
 one_number (check ∷ checks) r s clear (inl one) (inr two) = absurd (clear.0.apart r one two.0)
 one_number (check ∷ checks) r s clear (inr one) (inl two) = absurd (clear.0.apart s two one.0)
 one_number (check ∷ checks) r s clear (inr one) (inr two) = one_number checks r s clear.1 one.1 two.1
+
+-- the same of two lists of checks that begin with the same clear ones, where it is so of their rests
+never_over : (checks ones twos : List Check) → AreClear checks → ((r : Refusal) → FirstFails ones r → AllPass twos → ⊥)
+    → (r : Refusal) → FirstFails (checks ++ ones) r → AllPass (checks ++ twos) → ⊥
+never_over [] ones twos clear rest r fails passes = rest r fails passes
+never_over (check ∷ checks) ones twos clear rest r (inl fails) passes = clear.0.apart r fails passes.0
+never_over (check ∷ checks) ones twos clear rest r (inr later) passes = never_over checks ones twos clear.1 rest r later.1 passes.1
+
+one_over : (checks ones twos : List Check) → AreClear checks → ((r s : Refusal) → FirstFails ones r → FirstFails twos s → number_of r ≡ number_of s)
+    → (r s : Refusal) → FirstFails (checks ++ ones) r → FirstFails (checks ++ twos) s → number_of r ≡ number_of s
+one_over [] ones twos clear rest r s one two = rest r s one two
+one_over (check ∷ checks) ones twos clear rest r s (inl one) (inl two) = clear.0.one r s one two
+one_over (check ∷ checks) ones twos clear rest r s (inl one) (inr two) = absurd (clear.0.apart r one two.0)
+one_over (check ∷ checks) ones twos clear rest r s (inr one) (inl two) = absurd (clear.0.apart s two one.0)
+one_over (check ∷ checks) ones twos clear rest r s (inr one) (inr two) = one_over checks ones twos clear.1 rest r s one.1 two.1
 
 -- ---- the user
 
@@ -155,7 +175,7 @@ module _ (folder : List ℕ) (files : Files) (word : List ℕ) where
   commit_room_clear = bug_check_clear (λ bug entity. MOST_COMMITS ≤ length entity.packs) (λ bug. refusal.TooLarge (MOST_COMMITS + 1)) 13 (λ bug. refl)
 
   new_operation_clear : (op : BugOp) → IsClear (new_operation folder files word op)
-  new_operation_clear op = bug_check_clear (λ bug entity. Contains (op_ids entity.packs) (op_id op)) (λ bug. refusal.RepeatedOperation (op_id op)) 8 (λ bug. refl)
+  new_operation_clear op = bug_check_clear (λ bug entity. Contains (op_ids (ops_in bug_kind entity.packs)) (op_id op)) (λ bug. refusal.RepeatedOperation (op_id op)) 8 (λ bug. refl)
 
 -- ---- each command
 
@@ -174,36 +194,94 @@ begun_clear env bad op old =
       ),
     )
 
--- and those of a command that adds to one
-longer_clear : (env : Env) (bad : Option ℕ) (word : List ℕ) (op : BugOp) (old : History) → AreClear (longer_bug env bad word op old).checks
-longer_clear env bad word op old =
-    let files = files_of old in
-    let objects = addition_objects env.now (option_and_then (later_by env.folder files word op) (some_id (user_at files env.folder))) in (
-      words_clear bad (MayWriteOp op),
-      (
-        user_file_clear env.folder files,
-        (
-          some_user_clear env.folder files,
-          (
-            found_clear env.folder files side.Bugs word,
-            (
-              bug_reads_clear env.folder files word,
-              (
-                clock_room_clear env.folder files word,
-                (
-                  commit_room_clear env.folder files word,
-                  (sizes_clear objects, (new_operation_clear env.folder files word op, (names_clear env.folder objects old, tt))),
-                ),
-              ),
-            ),
-          ),
-        ),
-      ),
-    )
+-- what an edit adds to a bug that a word finds is one operation, or one refusal
+module _ (env : Env) (files : Files) (word : List ℕ) (e : BugEdit) where
+  abbrev left : BugOp → Result BugOp Refusal
+  left op = Ok op
 
--- the checks of each edit are clear
-pub are_clear : (env : Env) (command : Edit) (old : History) → AreClear (doing_of env command old).checks
-are_clear env (edit.UserNew name email) old = (
+  abbrev right : Refusal → Result BugOp Refusal
+  right r = Err r
+
+  pub says_one : (one two : HasBug env.folder files word) → edit_op env e (bug_says one.entity) ≡ edit_op env e (bug_says two.entity)
+  says_one one two = ap (λ (entity : Entity BugOp). edit_op env e (bug_says entity)) (bug_one env.folder files word one two).1
+
+  pub adds_one : (op other : BugOp) (one two : HasBug env.folder files word) → edit_op env e (bug_says one.entity) ≡ Ok op → edit_op env e (bug_says two.entity) ≡ Ok other → op ≡ other
+  adds_one op other one two first second =
+      let both : left op ≡ left other = sym first ∙ says_one one two ∙ second in
+      cc
+
+  refuses_one : (r s : Refusal) (one two : HasBug env.folder files word) → edit_op env e (bug_says one.entity) ≡ Err r → edit_op env e (bug_says two.entity) ≡ Err s → r ≡ s
+  refuses_one r s one two first second =
+      let both : right r ≡ right s = sym first ∙ says_one one two ∙ second in
+      cc
+
+  never_adds : (op : BugOp) (r : Refusal) (one two : HasBug env.folder files word) → edit_op env e (bug_says one.entity) ≡ Ok op → edit_op env e (bug_says two.entity) ≡ Err r → ⊥
+  never_adds op r one two first second =
+      let both : left op ≡ right r = sym first ∙ says_one one two ∙ second in
+      cc both
+
+-- ---- an edit of a bug that stands
+
+module _ (env : Env) (word : List ℕ) (e : BugEdit) (old : History) where
+  abbrev before : Files
+  before = files_of old
+
+  -- what is checked before the operation is known
+  abbrev first_checks : List Check
+  first_checks =
+      words (bad_edit e) (env.now ≤ LIMIT) ∷
+      user_file env.folder before ∷
+      some_user env.folder before ∷
+      found env.folder before side.Bugs word ∷
+      bug_reads env.folder before word ∷ []
+
+  first_clear : AreClear first_checks
+  first_clear = (
+    words_clear (bad_edit e) (env.now ≤ LIMIT),
+    (user_file_clear env.folder before, (some_user_clear env.folder before, (found_clear env.folder before side.Bugs word, (bug_reads_clear env.folder before word, tt)))),
+  )
+
+  -- and of that
+  abbrev then_checks : BugOp → List Check
+  then_checks op =
+      let objects = addition_objects env.now (option_and_then (later_by env.folder before word op) (some_id (user_at before env.folder))) in
+      clock_room env.folder before word ∷
+      commit_room env.folder before word ∷
+      sizes objects ∷
+      new_operation env.folder before word op ∷
+      names env.folder objects old ∷ []
+
+  then_clear : (op : BugOp) → AreClear (then_checks op)
+  then_clear op =
+      let objects = addition_objects env.now (option_and_then (later_by env.folder before word op) (some_id (user_at before env.folder))) in
+      (clock_room_clear env.folder before word, (commit_room_clear env.folder before word, (sizes_clear objects, (new_operation_clear env.folder before word op, (names_clear env.folder objects old, tt)))))
+
+  rest_never : (op other : BugOp) (r : Refusal) → FirstFails (edit_adds env before word e op ∷ then_checks op) r → AllPass (edit_adds env before word e other ∷ then_checks other) → ⊥
+  rest_never op other r (inl fails) passes = never_adds env before word e other r passes.0.0 fails.0 passes.0.1 fails.1
+  rest_never op other r (inr later) passes =
+      never_both (then_checks op) r (then_clear op) (subst (λ (o : BugOp). AllPass (then_checks o)) (adds_one env before word e other op passes.0.0 later.0.0 passes.0.1 later.0.1) passes.1) later.1
+
+  rest_one : (op other : BugOp) (r s : Refusal) → FirstFails (edit_adds env before word e op ∷ then_checks op) r → FirstFails (edit_adds env before word e other ∷ then_checks other) s → number_of r ≡ number_of s
+  rest_one op other r s (inl one) (inl two) = ap number_of (refuses_one env before word e r s one.0 two.0 one.1 two.1)
+  rest_one op other r s (inl one) (inr two) = absurd (never_adds env before word e other r two.0.0 one.0 two.0.1 one.1)
+  rest_one op other r s (inr one) (inl two) = absurd (never_adds env before word e op s one.0.0 two.0 one.0.1 two.1)
+  rest_one op other r s (inr one) (inr two) =
+      one_number (then_checks op) r s (then_clear op) one.1
+      (subst (λ (o : BugOp). FirstFails (then_checks o) s) (adds_one env before word e other op two.0.0 one.0.0 two.0.1 one.0.1) two.1)
+
+  pub longer_never : (op other : BugOp) (r : Refusal) → FirstFails (longer_bug env e word op old).checks r → AllPass (longer_bug env e word other old).checks → ⊥
+  longer_never op other r fails passes =
+      never_over first_checks (edit_adds env before word e op ∷ then_checks op) (edit_adds env before word e other ∷ then_checks other) first_clear (rest_never op other) r fails passes
+
+  pub longer_one : (op other : BugOp) (r s : Refusal) → FirstFails (longer_bug env e word op old).checks r → FirstFails (longer_bug env e word other old).checks s → number_of r ≡ number_of s
+  longer_one op other r s one two =
+      one_over first_checks (edit_adds env before word e op ∷ then_checks op) (edit_adds env before word e other ∷ then_checks other) first_clear (rest_one op other) r s one two
+
+-- ---- each command
+
+-- the checks of a command on people are clear
+user_new_clear : (env : Env) (name email : List ℕ) (old : History) → AreClear (new_user env name email old).checks
+user_new_clear env name email old = (
   words_clear (bad_person name email) (MayWrite env name email),
   (
     user_file_clear env.folder (files_of old),
@@ -213,7 +291,9 @@ are_clear env (edit.UserNew name email) old = (
     ),
   ),
 )
-are_clear env (edit.UserEdit name email) old =
+
+user_edit_clear : (env : Env) (name email : List ℕ) (old : History) → AreClear (edited_user env name email old).checks
+user_edit_clear env name email old =
     let objects = new_objects env name email (option_map (λ (e : HeadEntry). e.name) (user_entry (files_of old) env.folder)) in (
       words_clear (bad_person name email) (MayWrite env name email),
       (
@@ -227,7 +307,22 @@ are_clear env (edit.UserEdit name email) old =
         ),
       ),
     )
-are_clear env (edit.UserSet word) old = (found_clear env.folder (files_of old) side.Identities word, tt)
-are_clear env (edit.New title message) old = begun_clear env (bad_bug title message) (create_op env title message) old
-are_clear env (edit.Comment bug message) old = longer_clear env (bad_message message) bug (comment_op env message) old
-are_clear env (edit.Noop bug) old = longer_clear env None bug (noop_op env) old
+
+user_set_clear : (env : Env) (word : List ℕ) (old : History) → AreClear (set_user env word old).checks
+user_set_clear env word old = (found_clear env.folder (files_of old) side.Identities word, tt)
+
+-- no command both may be done and is refused
+pub never_refused : (env : Env) (command : Edit) (old : History) (r : Refusal) → MayStep env command old → Refused env command old r → ⊥
+never_refused env (edit.UserNew name email) old r passes fails = never_both (new_user env name email old).checks r (user_new_clear env name email old) passes.1 fails.1
+never_refused env (edit.UserEdit name email) old r passes fails = never_both (edited_user env name email old).checks r (user_edit_clear env name email old) passes.1 fails.1
+never_refused env (edit.UserSet word) old r passes fails = never_both (set_user env word old).checks r (user_set_clear env word old) passes.1 fails.1
+never_refused env (edit.New title message) old r passes fails = never_both (new_bug env title message old).checks r (begun_clear env (bad_bug title message) (create_op env title message) old) passes.1 fails.1
+never_refused env (edit.OfBug word e) old r passes fails = longer_never env word e old fails.0 passes.0 r fails.1 passes.1
+
+-- and one number is told of its refusals
+pub one_refused : (env : Env) (command : Edit) (old : History) (r s : Refusal) → Refused env command old r → Refused env command old s → number_of r ≡ number_of s
+one_refused env (edit.UserNew name email) old r s one two = one_number (new_user env name email old).checks r s (user_new_clear env name email old) one.1 two.1
+one_refused env (edit.UserEdit name email) old r s one two = one_number (edited_user env name email old).checks r s (user_edit_clear env name email old) one.1 two.1
+one_refused env (edit.UserSet word) old r s one two = one_number (set_user env word old).checks r s (user_set_clear env word old) one.1 two.1
+one_refused env (edit.New title message) old r s one two = one_number (new_bug env title message old).checks r s (begun_clear env (bad_bug title message) (create_op env title message) old) one.1 two.1
+one_refused env (edit.OfBug word e) old r s one two = longer_one env word e old one.0 two.0 r s one.1 two.1

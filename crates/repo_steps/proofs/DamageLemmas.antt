@@ -1,19 +1,24 @@
 -- A sound folder is not damaged.
-use Rattle.std.proofs.Common.{◌≡◌, ℕ, inl, inr, List, Option, None, subst}
+use Rattle.std.proofs.Common.{◌≡◌, ℕ, inl, inr, Bool, true, false, List, [], ◌∷◌, Option, Err, subst}
 use Rattle.gb_text.specs.declared.id.Id.{Id}
 use Rattle.gb_store.specs.Files.{Files, History, files_of}
 use Rattle.object_store.specs.Held.{objects_in}
 use Rattle.bug_ops.specs.declared.op.BugOp.{BugOp}
+use Rattle.bug_ops.specs.declared.snapshot.Snapshot.{Snapshot}
 use Rattle.identity.proofs.NoFaultLemmas.{no_fault}
 use Rattle.repo_state.specs.Sound.{IsSound, IsSoundIdentity}
 use Rattle.repo_state.specs.Sound as parts
 use Rattle.repo_state.specs.Users.{User, user_at}
 use Rattle.repo_state.specs.declared.env.Env.{Env}
 use Rattle.repo_state.specs.declared.refusal.Refusal.TheVariants as refusal
-use Rattle.repo_steps.specs.BugDoings.{bad_bug, bad_message, begun_bug, comment_op, create_op, longer_bug, noop_op}
+use Rattle.repo_steps.specs.BugDoings.{bad_bug, begun_bug, bug_says, longer_bug}
+use Rattle.repo_steps.specs.BugEdits.{edit_op, named_off, named_on, same_status, status_op, unless_same, with_change}
 use Rattle.repo_steps.specs.Checks.{FirstFails}
 use Rattle.repo_steps.specs.Doings.{Refused}
-use Rattle.repo_steps.specs.PeopleDoings.{HasBadChain}
+use Rattle.repo_steps.specs.NewOps.{create_op}
+use Rattle.repo_steps.specs.PeopleDoings.{HasBadChain, edited_user, new_user}
+use Rattle.repo_steps.specs.declared.edit.BugEdit.{BugEdit}
+use Rattle.repo_steps.specs.declared.edit.BugEdit.TheVariants as kind
 use Rattle.repo_steps.specs.declared.edit.Edit.{Edit}
 use Rattle.repo_steps.specs.declared.edit.Edit.TheVariants as edit
 use Rattle.repo_state.proofs.FoundLemmas.{IsLocal-user}
@@ -41,35 +46,54 @@ begun_not_damaged env bad op old path sound (inr (w, inr (f, inr (u, inr (s, inl
 begun_not_damaged env bad op old path sound (inr (w, inr (f, inr (u, inr (s, inr (n, inl taken)))))) = cc taken.2
 begun_not_damaged env bad op old path sound (inr (w, inr (f, inr (u, inr (s, inr (n, inr (t, never))))))) = never
 
--- nor one that adds to a bug: of its checks only those of the user file and of the bug could tell damage
-longer_not_damaged : (env : Env) (bad : Option ℕ) (word : List ℕ) (op : BugOp) (old : History) (path : List ℕ) → IsSound env.folder (files_of old)
-    → FirstFails (longer_bug env bad word op old).checks (refusal.Damaged path) → ⊥
-longer_not_damaged env bad word op old path sound (inl words) = cc words.2
-longer_not_damaged env bad word op old path sound (inr (w, inl file)) = sound parts.User file.0
-longer_not_damaged env bad word op old path sound (inr (w, inr (f, inl none))) = cc none.1
-longer_not_damaged env bad word op old path sound (inr (w, inr (f, inr (u, inl lost)))) = cc lost.1
-longer_not_damaged env bad word op old path sound (inr (w, inr (f, inr (u, inr (b, inl wrong))))) = no_bad_found env.folder (files_of old) sound word wrong.0 wrong.1 wrong.2
-longer_not_damaged env bad word op old path sound (inr (w, inr (f, inr (u, inr (b, inr (e, inl full)))))) = cc full.2
-longer_not_damaged env bad word op old path sound (inr (w, inr (f, inr (u, inr (b, inr (e, inr (c, inl many))))))) = cc many.2
-longer_not_damaged env bad word op old path sound (inr (w, inr (f, inr (u, inr (b, inr (e, inr (c, inr (r, inl long)))))))) = cc long.1
-longer_not_damaged env bad word op old path sound (inr (w, inr (f, inr (u, inr (b, inr (e, inr (c, inr (r, inr (s, inl twice))))))))) = cc twice.2
-longer_not_damaged env bad word op old path sound (inr (w, inr (f, inr (u, inr (b, inr (e, inr (c, inr (r, inr (s, inr (n, inl taken)))))))))) = cc taken.2
-longer_not_damaged env bad word op old path sound (inr (w, inr (f, inr (u, inr (b, inr (e, inr (c, inr (r, inr (s, inr (n, inr (t, never))))))))))) = never
+-- an edit of a bug is never refused for damage by what the bug says
+change_never_damaged : (labels : List (List ℕ)) (op : BugOp) (path : List ℕ) → with_change labels op ≡ Err (refusal.Damaged path) → ⊥
+change_never_damaged [] op path is = cc is
+change_never_damaged (label ∷ labels) op path is = cc is
+
+status_never_damaged : (same : Bool) (op : BugOp) (path : List ℕ) → unless_same same op ≡ Err (refusal.Damaged path) → ⊥
+status_never_damaged true op path is = cc is
+status_never_damaged false op path is = cc is
+
+edit_never_damaged : (env : Env) (e : BugEdit) (bug : Snapshot) (path : List ℕ) → edit_op env e bug ≡ Err (refusal.Damaged path) → ⊥
+edit_never_damaged env (kind.Comment message) bug path is = cc is
+edit_never_damaged env kind.Noop bug path is = cc is
+edit_never_damaged env (kind.Title title) bug path is = cc is
+edit_never_damaged env (kind.Status status) bug path is = status_never_damaged (same_status bug.row.status status) (status_op env status) path is
+edit_never_damaged env (kind.AddLabels labels) bug path is = change_never_damaged (named_off bug.row.labels labels) _ path is
+edit_never_damaged env (kind.RemoveLabels labels) bug path is = change_never_damaged (named_on bug.row.labels labels) _ path is
+edit_never_damaged env (kind.Metadata key value) bug path is = cc is
+
+-- nor by one of its other checks: only those of the user file and of the bug could tell damage
+longer_not_damaged : (env : Env) (e : BugEdit) (word : List ℕ) (op : BugOp) (old : History) (path : List ℕ) → IsSound env.folder (files_of old)
+    → FirstFails (longer_bug env e word op old).checks (refusal.Damaged path) → ⊥
+longer_not_damaged env e word op old path sound (inl words) = cc words.2
+longer_not_damaged env e word op old path sound (inr (w, inl file)) = sound parts.User file.0
+longer_not_damaged env e word op old path sound (inr (w, inr (f, inl none))) = cc none.1
+longer_not_damaged env e word op old path sound (inr (w, inr (f, inr (u, inl lost)))) = cc lost.1
+longer_not_damaged env e word op old path sound (inr (w, inr (f, inr (u, inr (b, inl wrong))))) = no_bad_found env.folder (files_of old) sound word wrong.0 wrong.1 wrong.2
+longer_not_damaged env e word op old path sound (inr (w, inr (f, inr (u, inr (b, inr (g, inl barred)))))) = edit_never_damaged env e (bug_says barred.0.entity) path barred.1
+longer_not_damaged env e word op old path sound (inr (w, inr (f, inr (u, inr (b, inr (g, inr (a, inl full))))))) = cc full.2
+longer_not_damaged env e word op old path sound (inr (w, inr (f, inr (u, inr (b, inr (g, inr (a, inr (c, inl many)))))))) = cc many.2
+longer_not_damaged env e word op old path sound (inr (w, inr (f, inr (u, inr (b, inr (g, inr (a, inr (c, inr (r, inl long))))))))) = cc long.1
+longer_not_damaged env e word op old path sound (inr (w, inr (f, inr (u, inr (b, inr (g, inr (a, inr (c, inr (r, inr (s, inl twice)))))))))) = cc twice.2
+longer_not_damaged env e word op old path sound (inr (w, inr (f, inr (u, inr (b, inr (g, inr (a, inr (c, inr (r, inr (s, inr (n, inl taken))))))))))) = cc taken.2
+longer_not_damaged env e word op old path sound (inr (w, inr (f, inr (u, inr (b, inr (g, inr (a, inr (c, inr (r, inr (s, inr (n, inr (t, never)))))))))))) = never
 
 -- no command is refused for damage
 pub not_damaged : (env : Env) (command : Edit) (old : History) (path : List ℕ) → IsSound env.folder (files_of old) → Refused env command old (refusal.Damaged path) → ⊥
-not_damaged env (edit.UserNew name email) old path sound fails = each fails
+not_damaged env (edit.UserNew name email) old path sound fails = each fails.1
   where
-    each : Refused env (edit.UserNew name email) old (refusal.Damaged path) → ⊥
+    each : FirstFails (new_user env name email old).checks (refusal.Damaged path) → ⊥
     each (inl words) = cc words.2
     each (inr (w, inl file)) = sound parts.User file.0
     each (inr (w, inr (f, inl long))) = cc long.1
     each (inr (w, inr (f, inr (s, inl stands)))) = cc stands.1
     each (inr (w, inr (f, inr (s, inr (n, inl taken))))) = cc taken.2
     each (inr (w, inr (f, inr (s, inr (n, inr (t, never)))))) = never
-not_damaged env (edit.UserEdit name email) old path sound fails = each fails
+not_damaged env (edit.UserEdit name email) old path sound fails = each fails.1
   where
-    each : Refused env (edit.UserEdit name email) old (refusal.Damaged path) → ⊥
+    each : FirstFails (edited_user env name email old).checks (refusal.Damaged path) → ⊥
     each (inl words) = cc words.2
     each (inr (w, inl file)) = sound parts.User file.0
     each (inr (w, inr (f, inl none))) = cc none.1
@@ -78,8 +102,7 @@ not_damaged env (edit.UserEdit name email) old path sound fails = each fails
     each (inr (w, inr (f, inr (u, inr (c, inr (r, inl long)))))) = cc long.1
     each (inr (w, inr (f, inr (u, inr (c, inr (r, inr (s, inl taken))))))) = cc taken.2
     each (inr (w, inr (f, inr (u, inr (c, inr (r, inr (s, inr (t, never)))))))) = never
-not_damaged env (edit.UserSet word) old path sound (inl none) = cc none.1
-not_damaged env (edit.UserSet word) old path sound (inr later) = later.1
-not_damaged env (edit.New title message) old path sound fails = begun_not_damaged env (bad_bug title message) (create_op env title message) old path sound fails
-not_damaged env (edit.Comment bug message) old path sound fails = longer_not_damaged env (bad_message message) bug (comment_op env message) old path sound fails
-not_damaged env (edit.Noop bug) old path sound fails = longer_not_damaged env None bug (noop_op env) old path sound fails
+not_damaged env (edit.UserSet word) old path sound (op, inl none) = cc none.1
+not_damaged env (edit.UserSet word) old path sound (op, inr later) = later.1
+not_damaged env (edit.New title message) old path sound fails = begun_not_damaged env (bad_bug title message) (create_op env title message) old path sound fails.1
+not_damaged env (edit.OfBug word e) old path sound fails = longer_not_damaged env e word fails.0 old path sound fails.1

@@ -1,5 +1,5 @@
 -- What a command that nothing keeps from being done leaves: its writes are of their kinds, and make its step.
-use Rattle.std.proofs.Common.{◌≡◌, ◌<◌, ◌≤◌, ◌^◌, ℕ, false, true, Bool, IsTrue, cond, List, [], ◌∷◌, ◌++◌, length, reverse, Contains, Option, Some, None, option_and_then, Result, Ok, Err, inl, inr, refl, sym, ◌∙◌, ap, subst, append_assoc, arith}
+use Rattle.std.proofs.Common.{◌≡◌, ◌<◌, ◌≤◌, ◌^◌, ℕ, false, true, Bool, IsTrue, List, [], ◌∷◌, ◌++◌, length, reverse, Contains, Option, Some, None, option_and_then, Result, Ok, Err, inl, inr, refl, sym, ◌∙◌, ap, subst, append_assoc, arith}
 use Rattle.std.proofs.lemmas.List.{reverse-append}
 use Rattle.std.specs.Option.{option_map}
 use Rattle.gb_text.specs.Digits.{IsId, id_of}
@@ -19,35 +19,41 @@ use Rattle.identity.specs.Extending.{IsLonger}
 use Rattle.gb_text.specs.declared.decimal.TheConstants.{LIMIT}
 use Rattle.bug_ops.specs.Kind.{bug_kind}
 use Rattle.bug_ops.specs.declared.op.BugOp.{BugOp}
+use Rattle.bug_ops.specs.declared.snapshot.Snapshot.{Snapshot}
 use Rattle.commit_walk.specs.declared.below.TheConstants.{MOST_COMMITS}
+use Rattle.dag_entity.specs.Entities.{ops_in}
 use Rattle.dag_entity.specs.declared.entity.Entity.{Entity}
 use Rattle.repo_state.specs.Bugs.{IsLocal}
 use Rattle.repo_state.proofs.BugLemmas.{head_edit}
-use Rattle.repo_state.specs.Sides.{found_by, has_ref, head_at, is_there, ref_place, standing}
+use Rattle.repo_state.specs.Sides.{found_by, has_ref, head_at, is_there, ref_place}
 use Rattle.repo_state.specs.Users.{UserFound, BadUser, NoUser, User, entry_by, entry_of_user, id_line, user_at, user_entry, user_place, user_write}
 use Rattle.repo_state.specs.declared.env.Env.{Env}
+use Rattle.repo_state.specs.declared.refusal.Refusal.{Refusal}
 use Rattle.repo_state.specs.declared.refusal.Stop.{Stop}
 use Rattle.repo_state.specs.declared.refusal.Stop.TheVariants as stop
 use Rattle.repo_state.specs.declared.side.HeadEntry.{HeadEntry}
-use Rattle.repo_state.specs.declared.side.Side.{Side}
 use Rattle.repo_state.specs.declared.side.Side.TheVariants as side
 use Rattle.identity.proofs.IdLemmas.{IsId-version_id}
 use Rattle.repo_state.proofs.KindLemmas.{head_at-user_write, objects-user_write, user_at-set}
 use Rattle.repo_state.proofs.PlaceLemmas.{ref-not_user, same_or_other, user-not_object}
-use Rattle.repo_steps.specs.Answers.{EditAnswers, IsDone, IsStopped}
-use Rattle.repo_steps.specs.BugDoings.{HasBug, added_by, addition_objects, addition_writes, bad_bug, bad_message, begun_bug, bug_entry, comment_op, create_op, later_addition, later_by, longer_bug, noop_op, op_id, op_ids, root_addition, some_id}
+use Rattle.repo_steps.specs.Answers.{DoingAnswers, IsStopped}
+use Rattle.repo_steps.specs.BugDoings.{HasBug, added_by, addition_objects, addition_writes, bug_entry, bug_says, later_addition, later_by, longer_bug, new_bug, op_ids, root_addition, some_id}
+use Rattle.repo_steps.specs.BugEdits.{comment_op, edit_op, labels_op, metadata_op, named_off, named_on, noop_op, same_status, status_op, title_op, unless_same, with_change}
 use Rattle.repo_steps.specs.Checks.{AllPass}
 use Rattle.repo_steps.specs.Doing.{Doing}
-use Rattle.repo_steps.specs.Doings.{MayStep, doing_of}
+use Rattle.repo_steps.specs.Doings.{Done, EditAnswers, doing_of}
+use Rattle.repo_steps.specs.NewOps.{create_op, op_id}
 use Rattle.repo_steps.specs.PeopleDoings.{HasUser, MayWrite, edited_user, first_user_write, new_made, new_objects, new_text, new_user, set_user, set_writes, user_writes, version_writes}
 use Rattle.repo_steps.specs.Kinds.{IsWrite, a_user}
 use Rattle.repo_steps.specs.Steps.{BugBegins, BugGrows, OnlyChanges, Steps, first_user, first_user_place, new_version}
 use Rattle.repo_steps.specs.declared.edit.Addition.{Addition}
+use Rattle.repo_steps.specs.declared.edit.BugEdit.{BugEdit}
+use Rattle.repo_steps.specs.declared.edit.BugEdit.TheVariants as kind
 use Rattle.repo_steps.specs.declared.edit.Edit.{Edit}
 use Rattle.repo_steps.specs.declared.edit.Edit.TheVariants as edit
 use Rattle.repo_steps.proofs.AddLemmas.{MayExtend, added_below, added_extends, added_head, added_only, added_wrote, added_writes, after_add}
 use Rattle.repo_steps.proofs.BugDoneLemmas.{IsId-op_id, MadeBug, bug_begun, bug_grown, some_user_is}
-use Rattle.repo_steps.proofs.ClearLemmas.{bug_one}
+use Rattle.repo_steps.proofs.ClearLemmas.{bug_one, says_one}
 use Rattle.repo_steps.proofs.HeadLemmas.{head_at-absent}
 use Rattle.repo_state.proofs.FoundLemmas.{IsLocal-user, found_is}
 use Rattle.repo_steps.proofs.OnlyLemmas.{OnlyChanges-none, OnlyChanges-put, OnlyChanges-then, ref_left, user_left}
@@ -58,11 +64,11 @@ abbrev pub after : Doing → History → History
 after doing old = reverse doing.writes ++ old
 
 -- each write is of its kind, and the step is made, with the id that is told
-pub record IsMade (env : Env) (command : Edit) (old : History) : Type 0 where
+pub record IsMade (env : Env) (command : Edit) (doing : Doing) (old : History) : Type 0 where
   pub told : Id
-  pub is_told : (doing_of env command old).told ≡ Some told
-  pub wrote : Wrote (IsWrite env.folder) old (after (doing_of env command old) old)
-  pub steps : Steps env command (files_of old) (files_of (after (doing_of env command old) old)) told
+  pub is_told : doing.told ≡ Some told
+  pub wrote : Wrote (IsWrite env.folder) old (after doing old)
+  pub steps : Steps env command (files_of old) (files_of (after doing old)) told
 
 -- ---- the user behind a version that was added
 
@@ -128,7 +134,7 @@ first_made folder BadUser id mid is_id is sound stands = absurd (sound refl)
 -- ---- each command
 
 -- a new identity
-new_made_so : (env : Env) (name email : List ℕ) (old : History) → MayStep env (edit.UserNew name email) old → IsMade env (edit.UserNew name email) old
+new_made_so : (env : Env) (name email : List ℕ) (old : History) → AllPass (new_user env name email old).checks → IsMade env (edit.UserNew name email) (new_user env name email old) old
 new_made_so env name email old passes = record {
   told = id;
   is_told = refl;
@@ -181,7 +187,7 @@ new_made_so env name email old passes = record {
     all = all_both (version_writes env name email id None (files_of old)) (first_user_write env.folder found id) old mid new (added_writes env name email id old may None free refl) refl
 
 -- a new version of the user
-edited_made_so : (env : Env) (name email : List ℕ) (old : History) → MayStep env (edit.UserEdit name email) old → IsMade env (edit.UserEdit name email) old
+edited_made_so : (env : Env) (name email : List ℕ) (old : History) → AllPass (edited_user env name email old).checks → IsMade env (edit.UserEdit name email) (edited_user env name email old) old
 edited_made_so env name email old passes = record {
   told = user.id;
   is_told = ap (option_map (λ (e : HeadEntry). e.id)) entry;
@@ -218,7 +224,7 @@ edited_made_so env name email old passes = record {
     all = added_writes env name email user.id old may (Some user.head) free extends ∙ ap (λ (o : Option HeadEntry). reverse (user_writes env name email (files_of old) o) ++ old) (sym entry)
 
 -- another user
-set_made_so : (env : Env) (word : List ℕ) (old : History) → MayStep env (edit.UserSet word) old → IsMade env (edit.UserSet word) old
+set_made_so : (env : Env) (word : List ℕ) (old : History) → AllPass (set_user env word old).checks → IsMade env (edit.UserSet word) (set_user env word old) old
 set_made_so env word old passes = record {
   told = id;
   is_told = found;
@@ -265,17 +271,17 @@ bug_entry_is folder files word bug =
     ap (option_and_then (λ (id : Id). entry_by id (head_at files folder side.Bugs id))) bug.finds.found ∙ ap (entry_by bug.bug.id) bug.finds.head
 
 -- a bug that begins with an operation
-begun_made_so : (env : Env) (bad : Option ℕ) (op : BugOp) (command : Edit) (old : History) → doing_of env command old ≡ begun_bug env bad op old
-    → ((old new : Files) (told : Id) → BugBegins env op old new told → Steps env command old new told)
-    → env.now < 2 ^ 64 → bug_kind.is_opening op ≡ true → IsId (op_id op) → AllPass (begun_bug env bad op old).checks → IsMade env command old
-begun_made_so env bad op command old is_doing is_step moment opens is_id passes = record {
+begun_made_so : (env : Env) (title message : List ℕ) (old : History) → AllPass (new_bug env title message old).checks → IsMade env (edit.New title message) (new_bug env title message old) old
+begun_made_so env title message old passes = record {
   told = op_id op;
-  is_told = ap (λ (doing : Doing). doing.told) is_doing;
-  wrote = subst (λ (doing : Doing). Wrote (IsWrite env.folder) old (after doing old)) (sym is_doing) (subst (λ (o : Option Addition). Wrote (IsWrite env.folder) old (reverse (addition_writes env (files_of old) o) ++ old)) (sym same) made.wrote);
-  steps = subst (λ (doing : Doing). Steps env command (files_of old) (files_of (after doing old)) (op_id op)) (sym is_doing)
-      (is_step (files_of old) _ (op_id op) (subst (λ (o : Option Addition). BugBegins env op (files_of old) (files_of (reverse (addition_writes env (files_of old) o) ++ old)) (op_id op)) (sym same) made.step));
+  is_told = refl;
+  wrote = subst (λ (o : Option Addition). Wrote (IsWrite env.folder) old (reverse (addition_writes env (files_of old) o) ++ old)) (sym same) made.wrote;
+  steps = subst (λ (o : Option Addition). BugBegins env op (files_of old) (files_of (reverse (addition_writes env (files_of old) o) ++ old)) (op_id op)) (sym same) made.step;
 }
   where
+    op : BugOp
+    op = create_op env title message
+
     user : (id : Id) × (user_at (files_of old) env.folder ≡ User id) × IsLocal (files_of old) env.folder id
     user = local_user_is env.folder (files_of old) passes.1.0 passes.1.1.0
 
@@ -286,18 +292,39 @@ begun_made_so env bad op command old is_doing is_step moment opens is_id passes 
     free = subst (λ (o : Option Addition). MayBePut env.folder (addition_objects env.now o) old) same passes.1.1.1.1.1.0
 
     made : MadeBug env old (root_addition env.folder (files_of old) op user.0) (λ (new : Files). BugBegins env op (files_of old) new (op_id op))
-    made = bug_begun env old op passes.0.1 moment opens user.0 user.1 user.2 free passes.1.1.1.1.0 is_id
+    made = bug_begun env old op passes.0.1 (before_limit env passes.0.1.within.time) refl user.0 user.1 user.2 free passes.1.1.1.1.0 (IsId-op_id op)
+
+-- the operation that an edit adds may follow others
+abbrev adding : BugOp → Result BugOp Refusal
+adding op = Ok op
+
+follows_as : (made op : BugOp) → adding made ≡ adding op → bug_kind.is_following made ≡ true → bug_kind.is_following op ≡ true
+follows_as made op is follows = let same : made ≡ op = cc in subst (λ (o : BugOp). bug_kind.is_following o ≡ true) same follows
+
+status_follows : (same : Bool) (made op : BugOp) → bug_kind.is_following made ≡ true → unless_same same made ≡ Ok op → bug_kind.is_following op ≡ true
+status_follows true made op follows is = absurd (cc is)
+status_follows false made op follows is = follows_as made op is follows
+
+change_follows : (labels : List (List ℕ)) (made op : BugOp) → bug_kind.is_following made ≡ true → with_change labels made ≡ Ok op → bug_kind.is_following op ≡ true
+change_follows [] made op follows is = absurd (cc is)
+change_follows (label ∷ labels) made op follows is = follows_as made op is follows
+
+edit_follows : (env : Env) (e : BugEdit) (bug : Snapshot) (op : BugOp) → edit_op env e bug ≡ Ok op → bug_kind.is_following op ≡ true
+edit_follows env (kind.Comment message) bug op is = follows_as (comment_op env message) op is refl
+edit_follows env kind.Noop bug op is = follows_as (noop_op env) op is refl
+edit_follows env (kind.Title title) bug op is = follows_as (title_op env title bug.row.title) op is refl
+edit_follows env (kind.Status status) bug op is = status_follows (same_status bug.row.status status) (status_op env status) op refl is
+edit_follows env (kind.AddLabels labels) bug op is = change_follows (named_off bug.row.labels labels) (labels_op env (named_off bug.row.labels labels) []) op refl is
+edit_follows env (kind.RemoveLabels labels) bug op is = change_follows (named_on bug.row.labels labels) (labels_op env [] (named_on bug.row.labels labels)) op refl is
+edit_follows env (kind.Metadata key value) bug op is = follows_as (metadata_op env bug.row.id key value) op is refl
 
 -- a bug that has one operation more
-longer_made_so : (env : Env) (bad : Option ℕ) (word : List ℕ) (op : BugOp) (command : Edit) (old : History) → doing_of env command old ≡ longer_bug env bad word op old
-    → ((old new : Files) (told : Id) → BugGrows env word op old new told → Steps env command old new told)
-    → env.now < 2 ^ 64 → bug_kind.is_following op ≡ true → AllPass (longer_bug env bad word op old).checks → IsMade env command old
-longer_made_so env bad word op command old is_doing is_step moment follows passes = record {
+longer_made_so : (env : Env) (e : BugEdit) (word : List ℕ) (op : BugOp) (old : History) → AllPass (longer_bug env e word op old).checks → IsMade env (edit.OfBug word e) (longer_bug env e word op old) old
+longer_made_so env e word op old passes = record {
   told = op_id op;
-  is_told = ap (λ (doing : Doing). doing.told) is_doing;
-  wrote = subst (λ (doing : Doing). Wrote (IsWrite env.folder) old (after doing old)) (sym is_doing) (subst (λ (o : Option Addition). Wrote (IsWrite env.folder) old (reverse (addition_writes env (files_of old) o) ++ old)) (sym same) made.wrote);
-  steps = subst (λ (doing : Doing). Steps env command (files_of old) (files_of (after doing old)) (op_id op)) (sym is_doing)
-      (is_step (files_of old) _ (op_id op) (subst (λ (o : Option Addition). BugGrows env word op (files_of old) (files_of (reverse (addition_writes env (files_of old) o) ++ old)) (op_id op)) (sym same) made.step));
+  is_told = refl;
+  wrote = subst (λ (o : Option Addition). Wrote (IsWrite env.folder) old (reverse (addition_writes env (files_of old) o) ++ old)) (sym same) made.wrote;
+  steps = subst (λ (o : Option Addition). BugGrows env e word (files_of old) (files_of (reverse (addition_writes env (files_of old) o) ++ old)) (op_id op)) (sym same) made.step;
 }
   where
     files : Files
@@ -315,6 +342,10 @@ longer_made_so env bad word op command old is_doing is_step moment follows passe
         (let one = bug_one env.folder files word bug other in
         subst (λ (entity : Entity BugOp). Bars other.bug entity) one.1 (subst (λ (head : HeadEntry). Bars head bug.entity) one.0 bars))
 
+    -- and the operation is what the edit adds to it
+    adds : edit_op env e (bug_says bug.entity) ≡ Ok op
+    adds = says_one env files word e bug passes.1.1.1.1.1.0.0 ∙ passes.1.1.1.1.1.0.1
+
     addition : Addition
     addition = later_addition env.folder files op user.0 bug.bug bug.entity.edit
 
@@ -324,25 +355,21 @@ longer_made_so env bad word op command old is_doing is_step moment follows passe
         ∙ ap (option_map (later_addition env.folder files op user.0 bug.bug)) (head_edit (objects_in files env.folder) bug.bug.name bug.entity.edit bug.is.is.edit)
 
     free : MayBePut env.folder (addition_objects env.now (Some addition)) old
-    free = subst (λ (o : Option Addition). MayBePut env.folder (addition_objects env.now o) old) same passes.1.1.1.1.1.1.1.1.1.0
+    free = subst (λ (o : Option Addition). MayBePut env.folder (addition_objects env.now o) old) same passes.1.1.1.1.1.1.1.1.1.1.0
 
-    made : MadeBug env old addition (λ (new : Files). BugGrows env word op files new (op_id op))
-    made = bug_grown env old word op passes.0.1 moment follows user.0 user.1 user.2 bug
-        (of_this (λ head entity. entity.edit ≡ LIMIT) passes.1.1.1.1.1.0.0 passes.1.1.1.1.1.0.1)
-        (of_this (λ head entity. MOST_COMMITS ≤ length entity.packs) passes.1.1.1.1.1.1.0.0 passes.1.1.1.1.1.1.0.1)
-        (of_this (λ head entity. Contains (op_ids entity.packs) (op_id op)) passes.1.1.1.1.1.1.1.1.0.0 passes.1.1.1.1.1.1.1.1.0.1)
+    made : MadeBug env old addition (λ (new : Files). BugGrows env e word files new (op_id op))
+    made = bug_grown env old e word op passes.1.1.1.1.1.0.2 (before_limit env passes.0.1) (edit_follows env e (bug_says bug.entity) op adds) user.0 user.1 user.2 bug adds
+        (of_this (λ head entity. entity.edit ≡ LIMIT) passes.1.1.1.1.1.1.0.0 passes.1.1.1.1.1.1.0.1)
+        (of_this (λ head entity. MOST_COMMITS ≤ length entity.packs) passes.1.1.1.1.1.1.1.0.0 passes.1.1.1.1.1.1.1.0.1)
+        (of_this (λ head entity. Contains (op_ids (ops_in bug_kind entity.packs)) (op_id op)) passes.1.1.1.1.1.1.1.1.1.0.0 passes.1.1.1.1.1.1.1.1.1.0.1)
         free (id_of-is word bug.bug.id (found_is files env.folder side.Bugs word bug.bug.id bug.finds.found).0).0
 
-made_so : (env : Env) (command : Edit) (old : History) → MayStep env command old → IsMade env command old
-made_so env (edit.UserNew name email) old passes = new_made_so env name email old passes
-made_so env (edit.UserEdit name email) old passes = edited_made_so env name email old passes
-made_so env (edit.UserSet word) old passes = set_made_so env word old passes
-made_so env (edit.New title message) old passes =
-    begun_made_so env (bad_bug title message) (create_op env title message) (edit.New title message) old refl (λ old new told step. step) (before_limit env passes.0.1.within.time) refl (IsId-op_id (create_op env title message)) passes
-made_so env (edit.Comment word message) old passes =
-    longer_made_so env (bad_message message) word (comment_op env message) (edit.Comment word message) old refl (λ old new told step. step) (before_limit env passes.0.1.within.time) refl passes
-made_so env (edit.Noop word) old passes =
-    longer_made_so env None word (noop_op env) (edit.Noop word) old refl (λ old new told step. step) (before_limit env passes.0.1.within.time) refl passes
+made_so : (env : Env) (command : Edit) (op : BugOp) (old : History) → AllPass (doing_of env command op old).checks → IsMade env command (doing_of env command op old) old
+made_so env (edit.UserNew name email) op old passes = new_made_so env name email old passes
+made_so env (edit.UserEdit name email) op old passes = edited_made_so env name email old passes
+made_so env (edit.UserSet word) op old passes = set_made_so env word old passes
+made_so env (edit.New title message) op old passes = begun_made_so env title message old passes
+made_so env (edit.OfBug word e) op old passes = longer_made_so env e word op old passes
 
 -- ---- whatever is answered
 
@@ -359,24 +386,24 @@ some_wrote folder writes old new wrote some =
     })
 
 -- whatever an edit answers, its writes are of a kind
-pub answers_wrote : (env : Env) (command : Edit) (old new : History) (r : Result Id Stop) → EditAnswers (doing_of env command old) old new r → Wrote (IsWrite env.folder) old new
-answers_wrote env command old new r answers = each r answers
+pub answers_wrote : (env : Env) (command : Edit) (old new : History) (r : Result Id Stop) → EditAnswers env command old new r → Wrote (IsWrite env.folder) old new
+answers_wrote env command old new r (op, answers) = each r answers
   where
-    stopped : IsStopped (doing_of env command old) old new → Wrote (IsWrite env.folder) old new
+    stopped : IsStopped (doing_of env command op old) old new → Wrote (IsWrite env.folder) old new
     stopped (inl same) = Wrote-none (IsWrite env.folder) old new same
-    stopped (inr some) = some_wrote env.folder (doing_of env command old).writes old new (made_so env command old some.0).wrote some.1
+    stopped (inr some) = some_wrote env.folder (doing_of env command op old).writes old new (made_so env command op old some.0).wrote some.1
 
-    each : (r : Result Id Stop) → EditAnswers (doing_of env command old) old new r → Wrote (IsWrite env.folder) old new
-    each (Ok id) done = subst (Wrote (IsWrite env.folder) old) (sym done.writes) (made_so env command old done.may).wrote
+    each : (r : Result Id Stop) → DoingAnswers (doing_of env command op old) old new r → Wrote (IsWrite env.folder) old new
+    each (Ok id) done = subst (Wrote (IsWrite env.folder) old) (sym done.writes) (made_so env command op old done.may).wrote
     each (Err stop.Memory) some = stopped some
     each (Err stop.Disk) some = stopped some
     each (Err (stop.Refused r)) refused = Wrote-none (IsWrite env.folder) old new refused.1
 
 -- a command that was done made its step
-pub done_steps : (env : Env) (command : Edit) (old new : History) (id : Id) → IsDone (doing_of env command old) old new id → Steps env command (files_of old) (files_of new) id
-done_steps env command old new id done =
-    let made = made_so env command old done.may in
+pub done_steps : (env : Env) (command : Edit) (old new : History) (id : Id) → Done env command old new id → Steps env command (files_of old) (files_of new) id
+done_steps env command old new id (op, done) =
+    let made = made_so env command op old done.may in
     let both : Some made.told ≡ Some id = sym made.is_told ∙ done.told in
     let same : made.told ≡ id = cc in
     subst (λ (h : History). Steps env command (files_of old) (files_of h) id) (sym done.writes)
-    (subst (Steps env command (files_of old) (files_of (after (doing_of env command old) old))) same made.steps)
+    (subst (Steps env command (files_of old) (files_of (after (doing_of env command op old) old))) same made.steps)

@@ -9,6 +9,7 @@ pub mod KeptLemmas
 pub mod LossLemmas
 pub mod OnlyLemmas
 pub mod PlaceLemmas
+pub mod SayLemmas
 pub mod SoundBugLemmas
 pub mod SoundLemmas
 pub mod StepLemmas

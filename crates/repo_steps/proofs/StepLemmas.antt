@@ -21,12 +21,14 @@ use Rattle.repo_state.specs.declared.side.HeadEntry.{HeadEntry}
 use Rattle.repo_state.specs.declared.side.Side.{Side}
 use Rattle.repo_state.specs.declared.side.Side.TheVariants as side
 use Rattle.repo_state.proofs.PlaceLemmas.{clock-not_object, clock-not_user, clock-other, ref-not_clock, ref-not_object, ref-not_user, same_or_other, user-not_object}
-use Rattle.repo_steps.specs.BugDoings.{addition_head, comment_op, create_op, later_addition, noop_op, root_addition}
+use Rattle.repo_steps.specs.BugDoings.{addition_head, later_addition, root_addition}
+use Rattle.repo_steps.specs.NewOps.{create_op, op_id}
 use Rattle.repo_steps.specs.PeopleDoings.{new_made}
 use Rattle.repo_steps.specs.Steps.{BugBegins, BugGrows, IsObjectFile, OnlyChanges, Steps, UserEditSteps, UserNewSteps, UserSetSteps, first_user, first_user_place}
+use Rattle.repo_steps.specs.declared.edit.BugEdit.{BugEdit}
 use Rattle.repo_steps.specs.declared.edit.Edit.{Edit}
 use Rattle.repo_steps.specs.declared.edit.Edit.TheVariants as edit
-use Rattle.repo_steps.proofs.ClearLemmas.{bug_one, one_user, user-head, user-same}
+use Rattle.repo_steps.proofs.ClearLemmas.{adds_one, bug_one, one_user, user-head, user-same}
 
 -- ---- places apart
 
@@ -212,10 +214,10 @@ begins-same env op old one two first second here there = record {
     clocks-same file.BugsCreate = here.create_clock ∙ sym there.create_clock
     clocks-same file.BugsEdit = here.edit_clock ∙ sym there.edit_clock
 
-grows-same : (env : Env) (word : List ℕ) (op : BugOp) (old one two : Files) (first second : Id) → BugGrows env word op old one first → BugGrows env word op old two second
+grows-same : (env : Env) (e : BugEdit) (word : List ℕ) (old one two : Files) (first second : Id) → BugGrows env e word old one first → BugGrows env e word old two second
     → Same env.folder one two first second
-grows-same env word op old one two first second here there = record {
-  told = here.is_told ∙ sym there.is_told;
+grows-same env e word old one two first second here there = record {
+  told = here.is_told ∙ ap op_id ops ∙ sym there.is_told;
   heads = heads;
   user = users-same env.folder one two
       (user_file-same env.folder (place ∷ clock_place file.BugsEdit ∷ []) old one two here.only only
@@ -230,6 +232,9 @@ grows-same env word op old one two first second here there = record {
     place : List ℕ
     place = ref_place side.Bugs bug.id
 
+    ops : here.op ≡ there.op
+    ops = adds_one env old word e here.op there.op here.bug there.bug here.is_op there.is_op
+
     bugs : (there.bug.bug ≡ bug) × (there.bug.entity ≡ here.bug.entity)
     bugs = bug_one env.folder old word there.bug here.bug
 
@@ -239,13 +244,14 @@ grows-same env word op old one two first second here there = record {
     only : OnlyChanges env.folder (place ∷ clock_place file.BugsEdit ∷ []) old two
     only = subst (λ (b : HeadEntry). OnlyChanges env.folder (ref_place side.Bugs b.id ∷ clock_place file.BugsEdit ∷ []) old two) bugs.0 there.only
 
-    -- the head that is made for a user, a bug and its edit clock
-    made : Id → HeadEntry → ℕ → Name
-    made user b edit = addition_head env.now (later_addition env.folder old op user b edit)
+    -- the head that is made for an operation, a user, a bug and its edit clock
+    made : BugOp → Id → HeadEntry → ℕ → Name
+    made op user b edit = addition_head env.now (later_addition env.folder old op user b edit)
 
-    heads-made : made there.user there.bug.bug there.bug.entity.edit ≡ made here.user bug here.bug.entity.edit
-    heads-made = ap (λ (user : Id). made user there.bug.bug there.bug.entity.edit) (one_user env.folder old there.user here.user there.is_user here.is_user)
-        ∙ ap (λ (b : HeadEntry). made here.user b there.bug.entity.edit) bugs.0 ∙ ap (made here.user bug) edits
+    heads-made : made there.op there.user there.bug.bug there.bug.entity.edit ≡ made here.op here.user bug here.bug.entity.edit
+    heads-made = ap (λ (op : BugOp). made op there.user there.bug.bug there.bug.entity.edit) (sym ops)
+        ∙ ap (λ (user : Id). made here.op user there.bug.bug there.bug.entity.edit) (one_user env.folder old there.user here.user there.is_user here.is_user)
+        ∙ ap (λ (b : HeadEntry). made here.op here.user b there.bug.entity.edit) bugs.0 ∙ ap (made here.op here.user bug) edits
 
     set : head_at one env.folder side.Bugs bug.id ≡ head_at two env.folder side.Bugs bug.id
     set = here.head ∙ ap Head (sym heads-made) ∙ sym there.head ∙ ap (λ (b : HeadEntry). head_at two env.folder side.Bugs b.id) bugs.0
@@ -270,5 +276,4 @@ steps-same env (edit.UserNew name email) old one two first second here there = n
 steps-same env (edit.UserEdit name email) old one two first second here there = edit-same env name email old one two first second here there
 steps-same env (edit.UserSet word) old one two first second here there = set-same env word old one two first second here there
 steps-same env (edit.New title message) old one two first second here there = begins-same env (create_op env title message) old one two first second here there
-steps-same env (edit.Comment bug message) old one two first second here there = grows-same env bug (comment_op env message) old one two first second here there
-steps-same env (edit.Noop bug) old one two first second here there = grows-same env bug (noop_op env) old one two first second here there
+steps-same env (edit.OfBug bug e) old one two first second here there = grows-same env e bug old one two first second here there

@@ -2,9 +2,7 @@
 use Rattle.std.proofs.Common.{◌≡◌, List, ◌++◌, reverse, sym, ◌∙◌, ap, append_assoc}
 use Rattle.std.proofs.lemmas.List.{reverse-append}
 use Rattle.gb_store.specs.Files.{History}
-use Rattle.gb_store.specs.Moments.{WroteSome}
 use Rattle.gb_store.specs.declared.store.Change.{Change}
-use Rattle.gb_store.proofs.MomentLemmas.{WroteSome-there, WroteSome-back}
 
 -- all of the first writes, and all of the others
 pub all_both : (writes more : List Change) (old mid new : History) → mid ≡ reverse writes ++ old → new ≡ reverse more ++ mid → new ≡ reverse (writes ++ more) ++ old

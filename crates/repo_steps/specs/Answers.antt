@@ -28,11 +28,11 @@ abbrev pub IsStopped : Doing → History → History → Type 0
 IsStopped doing old new = (new ≡ old) ⊎ (AllPass doing.checks × WroteSome doing.writes old new)
 
 -- the answer to a command, with what was written: all, the first, or nothing where it is refused
-abbrev pub EditAnswers : Doing → History → History → Result Id Stop → Type 0
-EditAnswers doing old new (Ok id) = IsDone doing old new id
-EditAnswers doing old new (Err stop.Memory) = IsStopped doing old new
-EditAnswers doing old new (Err stop.Disk) = IsStopped doing old new
-EditAnswers doing old new (Err (stop.Refused r)) = FirstFails doing.checks r × (new ≡ old)
+abbrev pub DoingAnswers : Doing → History → History → Result Id Stop → Type 0
+DoingAnswers doing old new (Ok id) = IsDone doing old new id
+DoingAnswers doing old new (Err stop.Memory) = IsStopped doing old new
+DoingAnswers doing old new (Err stop.Disk) = IsStopped doing old new
+DoingAnswers doing old new (Err (stop.Refused r)) = FirstFails doing.checks r × (new ≡ old)
 
 -- the place of the word for which a command was refused
 abbrev pub bad_text_of : {T : Type 0} → Result T Stop → Option ℕ

@@ -1,6 +1,5 @@
 -- What each command on bugs does: when it is refused, what it writes, and the id that it tells.
-use Rattle.std.specs.Prelude.{◌≡◌, ◌≤◌, ◌+◌, ℕ, List, [], ◌∷◌, ◌++◌, length, flat_map, Contains, Option, Some, None, option_and_then, if◌then◌else◌}
-use Rattle.std.specs.List.{repeat}
+use Rattle.std.specs.Prelude.{◌≡◌, ◌≤◌, ◌+◌, ℕ, List, [], ◌∷◌, ◌++◌, length, map, Contains, Option, Some, None, option_and_then, Ok, Err, if◌then◌else◌}
 use Rattle.std.specs.Option.{option_map}
 use Rattle.gb_text.specs.Folder.{joined}
 use Rattle.gb_text.specs.Rules.{is_message_text, is_title_text}
@@ -13,19 +12,16 @@ use Rattle.object_store.specs.Held.{objects_in}
 use Rattle.object_batch.specs.Batches.{missing_writes}
 use Rattle.ref_store.specs.Setting.{ref_write}
 use Rattle.lamport.specs.Clock.{edit_time_of, root_time_of}
-use Rattle.op_kind.specs.declared.place.Common.{Common}
-use Rattle.op_kind.specs.declared.place.Place.{Place}
-use Rattle.op_kind.specs.declared.place.TheConstants.{VERSION}
 use Rattle.bug_ops.specs.Kind.{bug_kind}
 use Rattle.bug_ops.specs.declared.op.BugOp.{BugOp}
-use Rattle.bug_ops.specs.declared.op.BugOp.TheVariants.{AddComment, Create, NoOp}
-use Rattle.op_pack.specs.Packs.{hash_of}
+use Rattle.bug_ops.specs.declared.snapshot.Snapshot.{Snapshot}
+use Rattle.snapshot.specs.LastMention.{snapshot_of}
 use Rattle.op_pack.specs.declared.pack.Pack.{Pack}
 use Rattle.commit_walk.specs.declared.below.TheConstants.{MOST_COMMITS}
 use Rattle.dag_entity.specs.Appending.{appended_name, appended_objects}
-use Rattle.dag_entity.specs.Nodes.{edit_at, ids_of}
+use Rattle.dag_entity.specs.Entities.{ops_in}
+use Rattle.dag_entity.specs.Nodes.{edit_at}
 use Rattle.dag_entity.specs.declared.entity.Entity.{Entity}
-use Rattle.dag_entity.specs.declared.entity.Placed.{Placed}
 use Rattle.repo_state.specs.Bugs.{FindsBug, IsBug, IsDamagedBug}
 use Rattle.repo_state.specs.Clocks.{clock_at, see_writes}
 use Rattle.repo_state.specs.Sides.{found_by, head_at, ref_place}
@@ -36,52 +32,18 @@ use Rattle.repo_state.specs.declared.refusal.Refusal.{Refusal}
 use Rattle.repo_state.specs.declared.refusal.Refusal.TheVariants as refusal
 use Rattle.repo_state.specs.declared.side.HeadEntry.{HeadEntry}
 use Rattle.repo_state.specs.declared.side.Side.TheVariants as side
+use Rattle.repo_steps.specs.BugEdits.{bad_edit, edit_op}
 use Rattle.repo_steps.specs.Checks.{Check}
+use Rattle.repo_steps.specs.Doing.{Doing, words, user_file, some_user, sizes, fresh, names, found}
+use Rattle.repo_steps.specs.NewOps.{MayWriteOp, create_op, one_op_pack, op_id}
 use Rattle.repo_steps.specs.declared.edit.Addition.{Addition}
-use Rattle.repo_steps.specs.Doing.{Doing, words, user_file, some_user, sizes, fresh, names, found, nonce_from}
-
--- ---- operations
-
-abbrev pub zero_id : Id
-zero_id = record { bytes = repeat 32 (0 ∷ []) }
-
--- the place of an operation that is not written yet: where it will stand follows from what is written
-abbrev pub nowhere : Place
-nowhere = record { id = zero_id; author = zero_id; edit = 0; create = None }
-
--- what an operation of a type has that a command makes: the moment, the nonce, and no metadata
-abbrev pub new_common : Env → ℕ → Common
-new_common env kind = record { place = nowhere; kind = kind; time = env.now; nonce = nonce_from env.seed; metadata = [] }
-
--- the operation that begins a bug
-abbrev pub create_op : Env → List ℕ → List ℕ → BugOp
-create_op env title message = Create (new_common env 1) title message []
-
--- a comment
-abbrev pub comment_op : Env → List ℕ → BugOp
-comment_op env message = AddComment (new_common env 3) message []
-
--- an operation that changes nothing
-abbrev pub noop_op : Env → BugOp
-noop_op env = NoOp (new_common env 7)
-
--- the id of an operation: the SHA-256 of its text
-abbrev pub op_id : BugOp → Id
-op_id op = hash_of (bug_kind.written op)
-
--- a pack of one operation by an author, with these clocks
-abbrev pub one_op_pack : Id → ℕ → Option ℕ → BugOp → Pack BugOp
-one_op_pack author edit create op = record { id = zero_id; version = VERSION; edit = edit; create = create; author = author; ops = op ∷ [] }
+use Rattle.repo_steps.specs.declared.edit.BugEdit.{BugEdit}
 
 -- ---- words
 
 -- the place, counted from 1, of the first of a title and a message that is none
 abbrev pub bad_bug : List ℕ → List ℕ → Option ℕ
 bad_bug title message = if is_title_text title then (if is_message_text message then None else Some 2) else Some 1
-
--- of a bug and a message
-abbrev pub bad_message : List ℕ → Option ℕ
-bad_message message = if is_message_text message then None else Some 2
 
 -- ---- what is added to a bug
 
@@ -166,6 +128,17 @@ bug_check folder files word Bars refusal = record {
   Passes = (bug : HasBug folder files word) × (Bars bug → ⊥);
 }
 
+-- what a bug says, by its operations in order
+abbrev pub bug_says : Entity BugOp → Snapshot
+bug_says entity = snapshot_of (ops_in bug_kind entity.packs)
+
+-- the edit adds this operation to the bug that the word finds, by what it says
+abbrev pub edit_adds : Env → Files → List ℕ → BugEdit → BugOp → Check
+edit_adds env files word edit op = record {
+  Fails = λ r. (bug : HasBug env.folder files word) × (edit_op env edit (bug_says bug.entity) ≡ Err r);
+  Passes = (bug : HasBug env.folder files word) × (edit_op env edit (bug_says bug.entity) ≡ Ok op) × MayWriteOp op;
+}
+
 -- an edit clock is left above that of its head
 abbrev pub clock_room : List ℕ → Files → List ℕ → Check
 clock_room folder files word = bug_check folder files word (λ bug. bug.entity.edit ≡ LIMIT) (λ bug. refusal.ClockFull bug.bug.name)
@@ -174,20 +147,16 @@ clock_room folder files word = bug_check folder files word (λ bug. bug.entity.e
 abbrev pub commit_room : List ℕ → Files → List ℕ → Check
 commit_room folder files word = bug_check folder files word (λ bug. MOST_COMMITS ≤ length bug.entity.packs) (λ bug. refusal.TooLarge (MOST_COMMITS + 1))
 
--- the ids of the operations of packs
-abbrev pub op_ids : List (Placed BugOp) → List Id
-op_ids packs = flat_map (λ (p : Placed BugOp). ids_of bug_kind p.pack) packs
+-- the ids of operations
+abbrev pub op_ids : List BugOp → List Id
+op_ids ops = map (λ op. (bug_kind.common_of op).place.id) ops
 
 -- it does not have the operation yet
 abbrev pub new_operation : List ℕ → Files → List ℕ → BugOp → Check
 new_operation folder files word op =
-    bug_check folder files word (λ bug. Contains (op_ids bug.entity.packs) (op_id op)) (λ bug. refusal.RepeatedOperation (op_id op))
+    bug_check folder files word (λ bug. Contains (op_ids (ops_in bug_kind bug.entity.packs)) (op_id op)) (λ bug. refusal.RepeatedOperation (op_id op))
 
 -- ---- the commands
-
--- the operation keeps the rules of bugs' operations
-abbrev pub MayWriteOp : BugOp → Type 0
-MayWriteOp op = bug_kind.KeepsRules op
 
 -- a bug that begins with this operation, by the user
 abbrev pub begun_bug : Env → Option ℕ → BugOp → History → Doing
@@ -196,7 +165,6 @@ begun_bug env bad op old =
     let addition = option_map (root_addition env.folder files op) (some_id (user_at files env.folder)) in
     let objects = addition_objects env.now addition in
     record {
-      bad_word = bad;
       checks =
           words bad (MayWriteOp op) ∷
           user_file env.folder files ∷
@@ -208,20 +176,20 @@ begun_bug env bad op old =
       told = Some (op_id op);
     }
 
--- one operation more of the bug that a word finds, by the user
-abbrev pub longer_bug : Env → Option ℕ → List ℕ → BugOp → History → Doing
-longer_bug env bad word op old =
+-- the operation that an edit adds to the bug that a word finds, by the user
+abbrev pub longer_bug : Env → BugEdit → List ℕ → BugOp → History → Doing
+longer_bug env edit word op old =
     let files = files_of old in
     let addition = option_and_then (later_by env.folder files word op) (some_id (user_at files env.folder)) in
     let objects = addition_objects env.now addition in
     record {
-      bad_word = bad;
       checks =
-          words bad (MayWriteOp op) ∷
+          words (bad_edit edit) (env.now ≤ LIMIT) ∷
           user_file env.folder files ∷
           some_user env.folder files ∷
           found env.folder files side.Bugs word ∷
           bug_reads env.folder files word ∷
+          edit_adds env files word edit op ∷
           clock_room env.folder files word ∷
           commit_room env.folder files word ∷
           sizes objects ∷
@@ -234,11 +202,3 @@ longer_bug env bad word op old =
 -- a new bug with a title and a message, which is its first comment
 abbrev pub new_bug : Env → List ℕ → List ℕ → History → Doing
 new_bug env title message old = begun_bug env (bad_bug title message) (create_op env title message) old
-
--- a comment
-abbrev pub commented_bug : Env → List ℕ → List ℕ → History → Doing
-commented_bug env word message old = longer_bug env (bad_message message) word (comment_op env message) old
-
--- an operation that changes nothing of what the bug says
-abbrev pub touched_bug : Env → List ℕ → History → Doing
-touched_bug env word old = longer_bug env None word (noop_op env) old

@@ -15,10 +15,8 @@ use Rattle.repo_state.specs.declared.refusal.Refusal.TheVariants as refusal
 use Rattle.repo_state.specs.declared.side.Side.{Side}
 use Rattle.repo_steps.specs.Checks.{Check}
 
--- What a command does: the place of the first of its words that breaks its rule, its checks in their order, its writes in
--- their order, and the id that it tells.
+-- What a command does: its checks in their order, its writes in their order, and the id that it tells.
 pub record Doing : Type 1 where
-  pub bad_word : Option ℕ
   pub checks : List Check
   pub writes : List Change
   pub told : Option Id

@@ -1,9 +1,11 @@
 pub mod Answers
 pub mod BugDoings
+pub mod BugEdits
 pub mod Checks
 pub mod Doing
 pub mod Doings
 pub mod Kept
 pub mod Kinds
+pub mod NewOps
 pub mod PeopleDoings
 pub mod Steps

@@ -107,7 +107,6 @@ set_writes folder (Some id) = user_write folder id ∷ []
 -- a new identity of one version, which becomes the user where no user file stands
 abbrev pub new_user : Env → List ℕ → List ℕ → History → Doing
 new_user env name email old = record {
-  bad_word = bad_person name email;
   checks =
       words (bad_person name email) (MayWrite env name email) ∷
       user_file env.folder (files_of old) ∷
@@ -126,7 +125,6 @@ edited_user env name email old =
     let user = user_entry (files_of old) env.folder in
     let parent = option_map (λ (e : HeadEntry). e.name) user in
     record {
-      bad_word = bad_person name email;
       checks =
           words (bad_person name email) (MayWrite env name email) ∷
           user_file env.folder (files_of old) ∷
@@ -144,7 +142,6 @@ abbrev pub set_user : Env → List ℕ → History → Doing
 set_user env word old =
     let id = found_by (files_of old) env.folder side.Identities word in
     record {
-      bad_word = None;
       checks = found env.folder (files_of old) side.Identities word ∷ [];
       writes = set_writes env.folder id;
       told = id;

@@ -1,5 +1,5 @@
 -- The step of each command that edits: what it changes of the files, and the id that it tells.
-use Rattle.std.specs.Prelude.{◌≡◌, ℕ, List, [], ◌∷◌, Contains, false, IsTrue, Some, None}
+use Rattle.std.specs.Prelude.{◌≡◌, ℕ, List, [], ◌∷◌, Contains, false, IsTrue, Some, None, Ok}
 use Rattle.gb_text.specs.Digits.{IsName, id_of}
 use Rattle.gb_text.specs.Folder.{joined}
 use Rattle.gb_text.specs.declared.id.Id.{Id}
@@ -25,10 +25,13 @@ use Rattle.repo_state.specs.Users.{UserFound, BadUser, NoUser, User, user_at, us
 use Rattle.repo_state.specs.declared.clocks.ClockFile.TheVariants as file
 use Rattle.repo_state.specs.declared.env.Env.{Env}
 use Rattle.repo_state.specs.declared.side.Side.TheVariants as side
-use Rattle.repo_steps.specs.BugDoings.{HasBug, addition_head, comment_op, create_op, later_addition, noop_op, op_id, root_addition}
+use Rattle.repo_steps.specs.BugDoings.{HasBug, addition_head, bug_says, later_addition, root_addition}
+use Rattle.repo_steps.specs.BugEdits.{edit_op}
 use Rattle.repo_steps.specs.Doing.{nonce_from}
+use Rattle.repo_steps.specs.NewOps.{create_op, op_id}
 use Rattle.repo_steps.specs.PeopleDoings.{HasUser, new_made}
 use Rattle.repo_steps.specs.declared.edit.Addition.{Addition}
+use Rattle.repo_steps.specs.declared.edit.BugEdit.{BugEdit}
 use Rattle.repo_steps.specs.declared.edit.Edit.{Edit}
 use Rattle.repo_steps.specs.declared.edit.Edit.TheVariants as edit
 
@@ -103,12 +106,14 @@ pub record BugBegins (env : Env) (op : BugOp) (old new : Files) (told : Id) : Ty
   pub create_clock : clock_at new env.folder file.BugsCreate ≡ root_time_of (clock_at old env.folder file.BugsCreate)
   pub only : OnlyChanges env.folder (ref_place side.Bugs told ∷ clock_place file.BugsCreate ∷ clock_place file.BugsEdit ∷ []) old new
 
--- The bug that the word names has one operation more, by the user, in a commit over its head, behind all others; the clock
--- has seen it. The operation's id is told.
-pub record BugGrows (env : Env) (word : List ℕ) (op : BugOp) (old new : Files) (told : Id) : Type 0 where
+-- The bug that the word names has one operation more, by the user, which the edit adds to what the bug says, in a commit over
+-- its head, behind all others; the clock has seen it. The operation's id is told.
+pub record BugGrows (env : Env) (edit : BugEdit) (word : List ℕ) (old new : Files) (told : Id) : Type 0 where
   pub user : Id
   pub is_user : user_at old env.folder ≡ User user
   pub bug : HasBug env.folder old word
+  pub op : BugOp
+  pub is_op : edit_op env edit (bug_says bug.entity) ≡ Ok op
   pub is_told : told ≡ op_id op
   pub head : head_at new env.folder side.Bugs bug.bug.id ≡ Head (addition_head env.now (later_addition env.folder old op user bug.bug bug.entity.edit))
   pub is : IsBug new env.folder (record { id = bug.bug.id; name = addition_head env.now (later_addition env.folder old op user bug.bug bug.entity.edit) })
@@ -122,5 +127,4 @@ Steps env (edit.UserNew name email) old new told = UserNewSteps env name email o
 Steps env (edit.UserEdit name email) old new told = UserEditSteps env name email old new told
 Steps env (edit.UserSet word) old new told = UserSetSteps env word old new told
 Steps env (edit.New title message) old new told = BugBegins env (create_op env title message) old new told
-Steps env (edit.Comment bug message) old new told = BugGrows env bug (comment_op env message) old new told
-Steps env (edit.Noop bug) old new told = BugGrows env bug (noop_op env) old new told
+Steps env (edit.OfBug bug e) old new told = BugGrows env e bug old new told

@@ -1,6 +1,12 @@
 //! Laws of the commands that edit, and of the kinds of write, each the contract of a function that
 //! does nothing.
-ghost use Rattle.std.specs.Prelude.{◌≡◌, ◌≤◌, [], ◌∷◌, ◌++◌, false, true, List, ℕ, Result, reverse};
+ghost use Rattle.std.specs.Prelude.{◌≡◌, ◌≤◌, [], ◌∷◌, ◌++◌, ◌||◌, ◌&&◌, false, true, not, List, ℕ, Result, Ok, reverse};
+ghost use Rattle.bug_ops.specs.Mentions.{is_among};
+ghost use Rattle.bug_ops.specs.declared.op.BugOp.{BugOp as OpValue};
+ghost use Rattle.bug_ops.specs.declared.op.BugStatus.{BugStatus as StatusValue};
+ghost use Rattle.snapshot.specs.LastMention.{IsBugList, snapshot_of};
+ghost use Rattle.repo_steps.specs.BugEdits.{edit_op};
+ghost use Rattle.repo_steps.specs.declared.edit.BugEdit.TheVariants as kind;
 ghost use Rattle.gb_text.specs.Digits.{IsId};
 ghost use Rattle.gb_text.specs.Folder.{is_rooted, joined};
 ghost use Rattle.gb_text.specs.Overlap.{Overlap};
@@ -26,8 +32,7 @@ ghost use Rattle.repo_state.specs.declared.refusal.Refusal.TheVariants as refusa
 ghost use Rattle.repo_state.specs.declared.refusal.Stop.{Stop as StopValue};
 ghost use Rattle.repo_state.specs.declared.side.Side.{Side as SideValue};
 ghost use Rattle.repo_state.specs.declared.side.Side.TheVariants as side;
-ghost use Rattle.repo_steps.specs.Answers.{EditAnswers, IsDone};
-ghost use Rattle.repo_steps.specs.Doings.{MayStep, Refused, doing_of};
+ghost use Rattle.repo_steps.specs.Doings.{Done, EditAnswers, MayStep, Refused};
 ghost use Rattle.repo_steps.specs.Kept.{LosesNothing};
 ghost use Rattle.repo_steps.specs.Kinds.{IsPlace, IsWrite, is_dotless};
 ghost use Rattle.repo_steps.specs.Steps.{Steps};
@@ -37,15 +42,37 @@ ghost use Rattle.repo_steps.specs.declared.edit.Edit.{Edit as EditValue};
 pub fn edits_write_by_kinds()
     ensures { (env : EnvValue) (command : EditValue) (old new : History)
         (result : Result Id StopValue)
-        → EditAnswers (doing_of env command old) old new result
+        → EditAnswers env command old new result
         → Wrote (IsWrite env.folder) old new }
 {}
 
 /// A command that was done has made its step, and told its id.
 pub fn done_edits_make_their_step()
     ensures { (env : EnvValue) (command : EditValue) (old new : History) (id : Id)
-        → IsDone (doing_of env command old) old new id
+        → Done env command old new id
         → Steps env command (files_of old) (files_of new) id }
+{}
+
+/// After an edit of it a bug says what the words of the edit say: by all of its operations and the one
+/// that the edit adds it has the title, or the status; each label that was on or was named is on, or
+/// each that was on and was not named.
+pub fn edits_say_what_they_change()
+    ensures title { (env : EnvValue) (ops : List OpValue) (op : OpValue) → IsBugList ops
+        → (title : List ℕ) → edit_op env (kind.Title title) (snapshot_of ops) ≡ Ok op
+        → (snapshot_of (ops ++ op ∷ [])).row.title ≡ title }
+    ensures status { (env : EnvValue) (ops : List OpValue) (op : OpValue) → IsBugList ops
+        → (status : StatusValue) → edit_op env (kind.Status status) (snapshot_of ops) ≡ Ok op
+        → (snapshot_of (ops ++ op ∷ [])).row.status ≡ status }
+    ensures added { (env : EnvValue) (ops : List OpValue) (op : OpValue) → IsBugList ops
+        → (labels : List (List ℕ))
+        → edit_op env (kind.AddLabels labels) (snapshot_of ops) ≡ Ok op → (label : List ℕ)
+        → is_among (snapshot_of (ops ++ op ∷ [])).row.labels label
+        ≡ (is_among labels label || is_among (snapshot_of ops).row.labels label) }
+    ensures removed { (env : EnvValue) (ops : List OpValue) (op : OpValue) → IsBugList ops
+        → (labels : List (List ℕ))
+        → edit_op env (kind.RemoveLabels labels) (snapshot_of ops) ≡ Ok op → (label : List ℕ)
+        → is_among (snapshot_of (ops ++ op ∷ [])).row.labels label
+        ≡ (is_among (snapshot_of ops).row.labels label && not (is_among labels label)) }
 {}
 
 /// What is written by kinds keeps each part of a folder sound at each moment, wherever it stops. So it

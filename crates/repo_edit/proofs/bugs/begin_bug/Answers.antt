@@ -1,7 +1,7 @@
 use Rattle.std.proofs.Common.{◌≡◌, None, Result, Err, sym, subst, rules}
 use Rattle.gb_text.specs.declared.id.Id.{Id}
 use Rattle.repo_state.specs.declared.refusal.Stop.{Stop}
-use Rattle.repo_steps.specs.Answers.{EditAnswers}
+use Rattle.repo_steps.specs.Answers.{DoingAnswers}
 use Rattle.repo_steps.specs.BugDoings.{begun_bug}
 use Rattle.repo_edit.proofs.PlanLemmas.{not_planned}
 use Rattle.repo_edit.proofs.bugs.begin_bug.Goals as goal
@@ -13,5 +13,5 @@ returns-in_err-plan-clause-answers g c = λ tells.
     let doing = begun_bug c.args.env.now None c.args.op old in
     let answer : Result Id Stop = Err c.in_err-plan.field-0.0 in
     let is : c.from_residual.result ≡ answer = search rules in
-    subst (EditAnswers doing old new) (sym is)
+    subst (DoingAnswers doing old new) (sym is)
     (not_planned doing old new c.in_err-plan.field-0.0 (c.plan_begun.ensures.unwritten tells) (c.in_err-plan.ensures.answers tells))

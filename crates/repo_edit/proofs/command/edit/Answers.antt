@@ -1,8 +1,9 @@
 use Rattle.std.proofs.Common.{◌≡◌, List, ℕ, sym, subst}
-use Rattle.repo_steps.specs.Answers.{EditAnswers}
-use Rattle.repo_steps.specs.BugDoings.{commented_bug, new_bug, touched_bug}
-use Rattle.repo_steps.specs.Doings.{doing_of}
-use Rattle.repo_steps.specs.PeopleDoings.{edited_user, new_user}
+use Rattle.repo_steps.specs.Answers.{DoingAnswers}
+use Rattle.repo_steps.specs.BugDoings.{new_bug}
+use Rattle.repo_steps.specs.BugEdits.{noop_op}
+use Rattle.repo_steps.specs.Doings.{BugEditAnswers, EditAnswers}
+use Rattle.repo_steps.specs.PeopleDoings.{edited_user, new_user, set_user}
 use Rattle.repo_steps.specs.declared.edit.Edit.{Edit}
 use Rattle.repo_edit.proofs.command.edit.Goals as goal
 
@@ -14,37 +15,42 @@ pub returns-in-UserNew-clause-answers : goal.returns-in-UserNew-clause-answers
 returns-in-UserNew-clause-answers g c = λ tells.
     let old = g.S.Store.history c.args.disk.now in
     let new = g.S.Store.history c.user_new.new.disk in
-    subst (λ (command : Edit). EditAnswers (doing_of c.args.env.now command old) old new c.user_new.result) (sym c.in-UserNew.is)
-    (by_words (λ name email. EditAnswers (new_user c.args.env.now name email old) old new c.user_new.result) c.in-UserNew.name c.as_str.result.now
-    c.in-UserNew.email c.as_str-in-UserNew.result.now c.as_str.ensures c.as_str-in-UserNew.ensures (c.user_new.ensures.answers tells))
+    subst (λ (command : Edit). EditAnswers c.args.env.now command old new c.user_new.result) (sym c.in-UserNew.is) (
+      noop_op c.args.env.now,
+      by_words (λ name email. DoingAnswers (new_user c.args.env.now name email old) old new c.user_new.result) c.in-UserNew.name c.as_str.result.now
+          c.in-UserNew.email c.as_str-in-UserNew.result.now c.as_str.ensures c.as_str-in-UserNew.ensures (c.user_new.ensures.answers tells),
+    )
 
 pub returns-in-UserEdit-clause-answers : goal.returns-in-UserEdit-clause-answers
 returns-in-UserEdit-clause-answers g c = λ tells.
     let old = g.S.Store.history c.args.disk.now in
     let new = g.S.Store.history c.user_edit.new.disk in
-    subst (λ (command : Edit). EditAnswers (doing_of c.args.env.now command old) old new c.user_edit.result) (sym c.in-UserEdit.is)
-    (by_words (λ name email. EditAnswers (edited_user c.args.env.now name email old) old new c.user_edit.result) c.in-UserEdit.name c.as_str-in-UserEdit.result.now
-    c.in-UserEdit.email c.as_str-in-UserEdit-2.result.now c.as_str-in-UserEdit.ensures c.as_str-in-UserEdit-2.ensures (c.user_edit.ensures.answers tells))
+    subst (λ (command : Edit). EditAnswers c.args.env.now command old new c.user_edit.result) (sym c.in-UserEdit.is) (
+      noop_op c.args.env.now,
+      by_words (λ name email. DoingAnswers (edited_user c.args.env.now name email old) old new c.user_edit.result) c.in-UserEdit.name c.as_str-in-UserEdit.result.now
+          c.in-UserEdit.email c.as_str-in-UserEdit-2.result.now c.as_str-in-UserEdit.ensures c.as_str-in-UserEdit-2.ensures (c.user_edit.ensures.answers tells),
+    )
+
+pub returns-in-UserSet-clause-answers : goal.returns-in-UserSet-clause-answers
+returns-in-UserSet-clause-answers g c = λ tells.
+    let old = g.S.Store.history c.args.disk.now in
+    let new = g.S.Store.history c.user_set.new.disk in
+    subst (λ (command : Edit). EditAnswers c.args.env.now command old new c.user_set.result) (sym c.in-UserSet.is)
+    (noop_op c.args.env.now, subst (λ (id : List ℕ). DoingAnswers (set_user c.args.env.now id old) old new c.user_set.result) c.as_str-in-UserSet.ensures (c.user_set.ensures.answers tells))
 
 pub returns-in-New-clause-answers : goal.returns-in-New-clause-answers
 returns-in-New-clause-answers g c = λ tells.
     let old = g.S.Store.history c.args.disk.now in
     let new = g.S.Store.history c.new_bug.new.disk in
-    subst (λ (command : Edit). EditAnswers (doing_of c.args.env.now command old) old new c.new_bug.result) (sym c.in-New.is)
-    (by_words (λ title message. EditAnswers (new_bug c.args.env.now title message old) old new c.new_bug.result) c.in-New.title c.as_str-in-New.result.now
-    c.in-New.message c.as_str-in-New-2.result.now c.as_str-in-New.ensures c.as_str-in-New-2.ensures (c.new_bug.ensures.answers tells))
+    subst (λ (command : Edit). EditAnswers c.args.env.now command old new c.new_bug.result) (sym c.in-New.is) (
+      noop_op c.args.env.now,
+      by_words (λ title message. DoingAnswers (new_bug c.args.env.now title message old) old new c.new_bug.result) c.in-New.title c.as_str-in-New.result.now
+          c.in-New.message c.as_str-in-New-2.result.now c.as_str-in-New.ensures c.as_str-in-New-2.ensures (c.new_bug.ensures.answers tells),
+    )
 
-pub returns-in-Comment-clause-answers : goal.returns-in-Comment-clause-answers
-returns-in-Comment-clause-answers g c = λ tells.
+pub returns-in-OfBug-clause-answers : goal.returns-in-OfBug-clause-answers
+returns-in-OfBug-clause-answers g c = λ tells.
     let old = g.S.Store.history c.args.disk.now in
-    let new = g.S.Store.history c.comment.new.disk in
-    subst (λ (command : Edit). EditAnswers (doing_of c.args.env.now command old) old new c.comment.result) (sym c.in-Comment.is)
-    (by_words (λ bug message. EditAnswers (commented_bug c.args.env.now bug message old) old new c.comment.result) c.in-Comment.bug c.as_str-in-Comment.result.now
-    c.in-Comment.message c.as_str-in-Comment-2.result.now c.as_str-in-Comment.ensures c.as_str-in-Comment-2.ensures (c.comment.ensures.answers tells))
-
-pub returns-in-Noop-clause-answers : goal.returns-in-Noop-clause-answers
-returns-in-Noop-clause-answers g c = λ tells.
-    let old = g.S.Store.history c.args.disk.now in
-    let new = g.S.Store.history c.noop.new.disk in
-    subst (λ (command : Edit). EditAnswers (doing_of c.args.env.now command old) old new c.noop.result) (sym c.in-Noop.is)
-    (subst (λ (bug : List ℕ). EditAnswers (touched_bug c.args.env.now bug old) old new c.noop.result) c.as_str-in-Noop.ensures (c.noop.ensures.answers tells))
+    let new = g.S.Store.history c.edit_bug.new.disk in
+    subst (λ (command : Edit). EditAnswers c.args.env.now command old new c.edit_bug.result) (sym c.in-OfBug.is)
+    (subst (λ (bug : List ℕ). BugEditAnswers c.args.env.now c.in-OfBug.edit bug old new c.edit_bug.result) c.as_str-in-OfBug.ensures (c.edit_bug.ensures.answers tells))

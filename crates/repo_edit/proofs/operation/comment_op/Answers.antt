@@ -1,7 +1,8 @@
 use Rattle.std.proofs.Common.{◌≡◌, sym, subst, rules}
 use Rattle.bug_ops.specs.declared.op.BugOp.{BugOp}
 use Rattle.bug_ops.specs.declared.op.BugOp.TheVariants.{AddComment}
-use Rattle.repo_steps.specs.BugDoings.{MayWriteOp, comment_op}
+use Rattle.repo_steps.specs.BugEdits.{comment_op}
+use Rattle.repo_steps.specs.NewOps.{MayWriteOp}
 use Rattle.repo_edit.proofs.OperationLemmas.{comment_rules}
 use Rattle.repo_edit.proofs.operation.comment_op.Goals as goal
 

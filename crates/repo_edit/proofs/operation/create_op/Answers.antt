@@ -1,7 +1,7 @@
 use Rattle.std.proofs.Common.{◌≡◌, sym, subst, rules}
 use Rattle.bug_ops.specs.declared.op.BugOp.{BugOp}
 use Rattle.bug_ops.specs.declared.op.BugOp.TheVariants.{Create}
-use Rattle.repo_steps.specs.BugDoings.{MayWriteOp, create_op}
+use Rattle.repo_steps.specs.NewOps.{MayWriteOp, create_op}
 use Rattle.repo_edit.proofs.OperationLemmas.{create_rules}
 use Rattle.repo_edit.proofs.operation.create_op.Goals as goal
 

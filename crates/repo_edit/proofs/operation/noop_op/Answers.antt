@@ -1,7 +1,8 @@
 use Rattle.std.proofs.Common.{◌≡◌, sym, subst, rules}
 use Rattle.bug_ops.specs.declared.op.BugOp.{BugOp}
 use Rattle.bug_ops.specs.declared.op.BugOp.TheVariants.{NoOp}
-use Rattle.repo_steps.specs.BugDoings.{MayWriteOp, noop_op}
+use Rattle.repo_steps.specs.BugEdits.{noop_op}
+use Rattle.repo_steps.specs.NewOps.{MayWriteOp}
 use Rattle.repo_edit.proofs.OperationLemmas.{noop_rules}
 use Rattle.repo_edit.proofs.operation.noop_op.Goals as goal
 
