@@ -5,6 +5,8 @@
 #[cfg(test)]
 mod bugs;
 #[cfg(test)]
-mod cases;
+mod calls;
+#[cfg(test)]
+mod changes;
 #[cfg(test)]
 mod people;

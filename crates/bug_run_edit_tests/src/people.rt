@@ -1,8 +1,8 @@
 //! What the commands of persons print, write and leave, one after the other.
-use crate::cases::{Case, DISK_FAULT, DONE, REFUSED, USAGE, first_wrong, run_words};
-use gb_store::{Fail as Listed, MemSink, MemStore, Store};
-use gb_text::{Folder, Id, List};
+use fixtures::{Disk, id};
 use repo_state::{Side, heads, names, user};
+use run_fixtures::Row::{self, Done, Refused, Usage};
+use run_fixtures::{DISK_FAULT, DONE, REFUSED, hold, run_at, run_into, run_words, sink};
 use std::alloc::Global;
 use std::test::Fail;
 
@@ -10,80 +10,37 @@ const ANA: &str = "a206955f92c7be1bb318733460d3b85e208c8b1c8fb805c6d9991de1e0f35
 
 const BO: &str = "1ad3ae4547bb1d614e5b427941cb338a23337548df8aa90ad06ab93e51e4ec20\n";
 
-const SESSION: &[Case] = &[
-    Case {
-        words: &["f", "user-edit", "x", "y"],
-        now: 100,
-        seed: 1,
-        status: REFUSED,
-        text: "refused 1 no user\n",
-        writes: 0,
-    },
-    Case {
-        words: &["f", "user-new", "Ana", "ana@x"],
-        now: 101,
-        seed: 1,
-        status: DONE,
-        text: ANA,
-        writes: 5,
-    },
-    Case {
-        words: &["f", "user-new", "Ana", "ana@x"],
-        now: 101,
-        seed: 1,
-        status: REFUSED,
-        text: "refused 9 entity exists a206955f92c7be1bb318733460d3b85e208c8b1c8fb805c6d9991de1e0f35c00\n",
-        writes: 5,
-    },
-    Case {
-        words: &["f", "user-new", "Bo", "bo@x"],
-        now: 102,
-        seed: 2,
-        status: DONE,
-        text: BO,
-        writes: 9,
-    },
-    Case {
-        words: &[
+const SESSION: &[Row] = &[
+    Refused(&["f", "user-edit", "x", "y"], 1, "1 no user", 0),
+    Done(&["f", "user-new", "Ana", "ana@x"], 1, ANA, 5),
+    Refused(
+        &["f", "user-new", "Ana", "ana@x"],
+        1,
+        "9 entity exists a206955f92c7be1bb318733460d3b85e208c8b1c8fb805c6d9991de1e0f35c00",
+        5,
+    ),
+    Done(&["f", "user-new", "Bo", "bo@x"], 2, BO, 9),
+    Done(
+        &[
             "f",
             "user-set",
             "1ad3ae4547bb1d614e5b427941cb338a23337548df8aa90ad06ab93e51e4ec20",
         ],
-        now: 103,
-        seed: 9,
-        status: DONE,
-        text: BO,
-        writes: 10,
-    },
-    Case {
-        words: &["f", "user-edit", "Bo2", "bo@x"],
-        now: 104,
-        seed: 3,
-        status: DONE,
-        text: BO,
-        writes: 14,
-    },
-    Case {
-        words: &["f", "user-new", "", "x"],
-        now: 105,
-        seed: 4,
-        status: REFUSED,
-        text: "refused 4 bad text 1\n",
-        writes: 14,
-    },
+        9,
+        BO,
+        10,
+    ),
+    Done(&["f", "user-edit", "Bo2", "bo@x"], 4, BO, 14),
+    Refused(&["f", "user-new", "", "x"], 4, "4 bad text 1", 14),
 ];
 
 #[test]
 fn a_first_person_edits_a_folder(rt: HostRuntime) -> Result<(), Fail> {
-    let alloc = rt.alloc();
-    let mut store = MemStore::new(alloc, List::new(alloc));
-    assert_eq!(rt; first_wrong(alloc, &mut store, SESSION)?, SESSION.len());
-    let folder = Folder::read(alloc, "f")?;
-    let bo = Id::read(b"1ad3ae4547bb1d614e5b427941cb338a23337548df8aa90ad06ab93e51e4ec20").ok_or(
-        "an id",
-    )?;
-    assert_eq!(rt; user(alloc, &mut store, &folder)?, Some(bo));
-    let people = names(alloc, &mut store, &folder)?;
+    let mut disk = Disk::new(rt.alloc())?;
+    hold(&mut disk, SESSION)?;
+    let bo = id("1ad3ae4547bb1d614e5b427941cb338a23337548df8aa90ad06ab93e51e4ec20")?;
+    assert_eq!(rt; user(disk.alloc, &mut disk.store, &disk.folder)?, Some(bo));
+    let people = names(disk.alloc, &mut disk.store, &disk.folder)?;
     let [first, second] = people.as_slice() else {
         return Err(Fail::from("two people"));
     };
@@ -91,7 +48,7 @@ fn a_first_person_edits_a_folder(rt: HostRuntime) -> Result<(), Fail> {
     assert_eq!(rt; first.name.as_str(), "Bo2");
     assert_eq!(rt;
         first.head.text(),
-        *b"46f2681d5fbc2c4c0760b63db5028d9cb2d06a1e"
+        *b"d6f548e5bc2b0770a584e36837766c75e74472b1"
     );
     assert_eq!(rt; second.name.as_str(), "Ana");
     Ok(())
@@ -99,159 +56,107 @@ fn a_first_person_edits_a_folder(rt: HostRuntime) -> Result<(), Fail> {
 
 // What is refused in a folder whose user file names no identity, by words alone, or by a word that
 // names nobody.
-const REFUSALS: &[Case] = &[
-    Case {
-        words: &["f", "user-new", "Ana", "ana@x"],
-        now: 101,
-        seed: 1,
-        status: REFUSED,
-        text: "refused 14 damaged f/git-bug/user\n",
-        writes: 1,
-    },
-    Case {
-        words: &["f", "user-edit", "Ana", "ana@x"],
-        now: 101,
-        seed: 1,
-        status: REFUSED,
-        text: "refused 14 damaged f/git-bug/user\n",
-        writes: 1,
-    },
-    Case {
-        words: &["f", "user-edit", "Ana", "ana\n@x"],
-        now: 101,
-        seed: 1,
-        status: REFUSED,
-        text: "refused 4 bad text 2\n",
-        writes: 1,
-    },
-    Case {
-        words: &["f", "user-edit", "A\u{7f}na", "ana\n@x"],
-        now: 101,
-        seed: 1,
-        status: REFUSED,
-        text: "refused 4 bad text 1\n",
-        writes: 1,
-    },
-    Case {
-        words: &[
+const REFUSALS: &[Row] = &[
+    Refused(
+        &["f", "user-new", "Ana", "ana@x"],
+        1,
+        "14 damaged f/git-bug/user",
+        1,
+    ),
+    Refused(
+        &["f", "user-edit", "Ana", "ana@x"],
+        1,
+        "14 damaged f/git-bug/user",
+        1,
+    ),
+    Refused(&["f", "user-edit", "Ana", "ana\n@x"], 1, "4 bad text 2", 1),
+    Refused(
+        &["f", "user-edit", "A\u{7f}na", "ana\n@x"],
+        1,
+        "4 bad text 1",
+        1,
+    ),
+    Refused(
+        &[
             "f",
             "user-set",
             "1ad3ae4547bb1d614e5b427941cb338a23337548df8aa90ad06ab93e51e4ec20",
         ],
-        now: 101,
-        seed: 1,
-        status: REFUSED,
-        text: "refused 2 not found\n",
-        writes: 1,
-    },
-    Case {
-        words: &["f", "user-set", ""],
-        now: 101,
-        seed: 1,
-        status: REFUSED,
-        text: "refused 2 not found\n",
-        writes: 1,
-    },
-    Case {
-        words: &["a/../b", "user-new", "Ana", "ana@x"],
-        now: 101,
-        seed: 1,
-        status: REFUSED,
-        text: "refused 17 bad folder\n",
-        writes: 1,
-    },
-    Case {
-        words: &["f", "user-new", "Ana"],
-        now: 101,
-        seed: 1,
-        status: USAGE,
-        text: "usage: gitbug FOLDER COMMAND ARGUMENTS\n",
-        writes: 1,
-    },
-    Case {
-        words: &["f", "user-set", "a", "b"],
-        now: 101,
-        seed: 1,
-        status: USAGE,
-        text: "usage: gitbug FOLDER COMMAND ARGUMENTS\n",
-        writes: 1,
-    },
-    Case {
-        words: &["g", "user-new", "Ana", "ana@x"],
-        now: -5,
-        seed: 1,
-        status: DONE,
-        text: "75d5e40e1775c8cc291fb23f98109bc81bc0396eb10a8fce49af5864f297f4f7\n",
-        writes: 6,
-    },
+        1,
+        "2 not found",
+        1,
+    ),
+    Refused(&["f", "user-set", ""], 1, "2 not found", 1),
+    Refused(
+        &["a/../b", "user-new", "Ana", "ana@x"],
+        1,
+        "17 bad folder",
+        1,
+    ),
+    Usage(&["f", "user-new", "Ana"], 1),
+    Usage(&["f", "user-set", "a", "b"], 1),
 ];
 
 #[test]
 fn refused_edits_write_nothing(rt: HostRuntime) -> Result<(), Fail> {
-    let alloc = rt.alloc();
-    let mut store = MemStore::new(alloc, List::new(alloc));
-    store.put(
-        alloc,
+    let mut disk = Disk::new(rt.alloc())?;
+    disk.put(
         "f/git-bug/user",
         b"a206955f92c7be1bb318733460d3b85e208c8b1c8fb805c6d9991de1e0f35c00\n",
     )?;
-    assert_eq!(rt; first_wrong(alloc, &mut store, REFUSALS)?, REFUSALS.len());
+    hold(&mut disk, REFUSALS)?;
     Ok(())
 }
 
-const TAKEN: &[Case] = &[Case {
-    words: &["f", "user-new", "Ana", "ana@x"],
-    now: 101,
-    seed: 1,
-    status: REFUSED,
-    text: "refused 10 name taken d25ed61d16b3e7727459e236e98d8a171ed7b864\n",
-    writes: 1,
-}];
+const TAKEN: &[Row] = &[Refused(
+    &["f", "user-new", "Ana", "ana@x"],
+    1,
+    "10 name taken d25ed61d16b3e7727459e236e98d8a171ed7b864",
+    1,
+)];
 
 #[test]
 fn another_text_under_the_name_of_the_blob_is_kept(rt: HostRuntime) -> Result<(), Fail> {
-    let alloc = rt.alloc();
-    let mut store = MemStore::new(alloc, List::new(alloc));
-    store.put(
-        alloc,
-        "f/objects/d2/5ed61d16b3e7727459e236e98d8a171ed7b864",
-        b"x",
-    )?;
-    assert_eq!(rt; first_wrong(alloc, &mut store, TAKEN)?, TAKEN.len());
+    let mut disk = Disk::new(rt.alloc())?;
+    disk.put("f/objects/d2/5ed61d16b3e7727459e236e98d8a171ed7b864", b"x")?;
+    hold(&mut disk, TAKEN)?;
     Ok(())
 }
 
 #[test]
 fn a_name_of_four_megabytes_is_too_large(rt: HostRuntime) -> Result<(), Fail> {
-    let alloc = rt.alloc();
-    let mut store = MemStore::new(alloc, List::new(alloc));
-    let mut sink = MemSink::new(alloc, List::new(alloc), 100);
-    let mut name = String::new(alloc);
+    let mut disk = Disk::new(rt.alloc())?;
+    let mut sink = sink(disk.alloc);
+    let mut name = String::new(disk.alloc);
     for _ in 0..4_194_304 {
         name.push('a')?;
     }
     let words = ["f", "user-new", name.as_str(), "x"];
-    assert_eq!(rt;
-        run_words(alloc, &mut store, &mut sink, &words, 100, 1)?,
-        REFUSED
-    );
+    assert_eq!(rt; run_into(&mut disk, &mut sink, &words, 1)?, REFUSED);
     assert!(rt; sink.bytes() == b"refused 13 too large 4194305\n".as_slice());
-    assert_eq!(rt; store.writes(), 0);
+    assert_eq!(rt; disk.store.writes(), 0);
+    Ok(())
+}
+
+#[test]
+fn a_moment_before_1970_counts_as_0(rt: HostRuntime) -> Result<(), Fail> {
+    let mut disk = Disk::new(rt.alloc())?;
+    let mut sink = sink(disk.alloc);
+    let words = ["g", "user-new", "Ana", "ana@x"];
+    assert_eq!(rt; run_at(&mut disk, &mut sink, &words, -5, 1)?, DONE);
+    let line = b"75d5e40e1775c8cc291fb23f98109bc81bc0396eb10a8fce49af5864f297f4f7\n";
+    assert!(rt; sink.bytes() == line.as_slice());
     Ok(())
 }
 
 // Makes an identity in a store that fails at one call, before or after its write is made, and then
 // once more. Answers the status of both and how many identities there are.
 fn stopped(alloc: Global, call: u64, after: bool) -> Result<(u8, u8, usize), Fail> {
-    let mut fails = List::new(alloc);
-    fails.push(Listed { call, after })?;
-    let mut store = MemStore::new(alloc, fails);
+    let mut disk = Disk::failing(alloc, &[(call, after)])?;
     let words = ["f", "user-new", "Ana", "ana@x"];
-    let mut sink = MemSink::new(alloc, List::new(alloc), 100);
-    let first = run_words(alloc, &mut store, &mut sink, &words, 101, 1)?;
-    let second = run_words(alloc, &mut store, &mut sink, &words, 101, 1)?;
-    let folder = Folder::read(alloc, "f")?;
-    let people = heads(alloc, &mut store, &folder, &Side::Identities)?;
+    let first = run_words(&mut disk, &words, 1)?;
+    let second = run_words(&mut disk, &words, 1)?;
+    let people = heads(alloc, &mut disk.store, &disk.folder, &Side::Identities)?;
     Ok((first, second, people.as_slice().len()))
 }
 

@@ -422,14 +422,48 @@ fn put_user(disk: &mut Disk) -> Result<(), Fail> {
     disk.put("f/git-bug/user", AUTHOR.as_bytes())
 }
 
+// What a command on the bug is refused by.
+type Refusal = (&'static [&'static str], &'static str);
+
+// By 65,536 commits, and before them by what the bug says.
+const LONG: &[Refusal] = &[
+    (&["f", "noop", BUG], "refused 13 too large 65537\n"),
+    (&["f", "close", BUG], "refused 13 too large 65537\n"),
+    (&["f", "open", BUG], "refused 6 same status\n"),
+];
+
+const CLOCK_FULL: &str = "refused 7 clock full d9aa2beb1b0a09eb7170aaa2c807638d00258378\n";
+
+// By the greatest clock, and before it by what the bug says.
+const LATE: &[Refusal] = &[
+    (&["f", "comment", BUG, "hi"], CLOCK_FULL),
+    (&["f", "title", BUG, "t"], CLOCK_FULL),
+    (&["f", "close", BUG], CLOCK_FULL),
+    (&["f", "open", BUG], "refused 6 same status\n"),
+    (&["f", "label-add", BUG, "x"], CLOCK_FULL),
+    (&["f", "label-rm", BUG, "x"], "refused 5 no label change\n"),
+    (&["f", "meta", BUG, "k", "v"], CLOCK_FULL),
+];
+
+// Sees that each is refused so, and that nothing is written.
+fn are_refused(disk: &mut Disk, rows: &[Refusal]) -> Result<(), Fail> {
+    let writes = disk.store.writes();
+    for (place, &(words, line)) in rows.iter().enumerate() {
+        expect(disk, place, words, REFUSED, line)?;
+    }
+    if disk.store.writes() != writes {
+        return Err(Fail::from("a refused command wrote"));
+    }
+    Ok(())
+}
+
 #[test]
 fn no_more_than_65536_commits_are_logged(rt: HostRuntime) -> Result<(), Fail> {
     let mut disk = Disk::new(rt.alloc())?;
     let (below, head) = put_long(&mut disk, 65_537)?;
     assert!(rt; has_lines(&mut disk, &below, 65_536)?);
     put_user(&mut disk)?;
-    let line = "refused 13 too large 65537\n";
-    expect(&mut disk, 0, &["f", "noop", BUG], REFUSED, line)?;
+    are_refused(&mut disk, LONG)?;
     put_ref(&mut disk, BUG, &head.text())?;
     expect(&mut disk, 0, &["f", "log", BUG], REFUSED, DAMAGED)
 }
@@ -439,9 +473,5 @@ fn a_full_clock_takes_no_operation(rt: HostRuntime) -> Result<(), Fail> {
     let mut disk = Disk::new(rt.alloc())?;
     put_graph(&mut disk, BUG, &[Root(FULL, &[CREATE])])?;
     put_user(&mut disk)?;
-    let line = "refused 7 clock full d9aa2beb1b0a09eb7170aaa2c807638d00258378\n";
-    let writes = disk.store.writes();
-    expect(&mut disk, 0, &["f", "comment", BUG, "hi"], REFUSED, line)?;
-    assert_eq!(rt; disk.store.writes(), writes);
-    Ok(())
+    are_refused(&mut disk, LATE)
 }

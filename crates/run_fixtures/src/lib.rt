@@ -7,6 +7,6 @@ mod runs;
 
 pub use rows::{Row, hold};
 pub use runs::{
-    DISK_FAULT, DONE, MEMORY, OUT_FAULT, REFUSED, USAGE, USAGE_LINE, expect, expect_at, run_into,
-    run_words, sink,
+    DISK_FAULT, DONE, MEMORY, OUT_FAULT, REFUSED, USAGE, USAGE_LINE, expect, expect_at, run_at,
+    run_into, run_words, sink,
 };

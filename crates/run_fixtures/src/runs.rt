@@ -39,16 +39,10 @@ fn run_all(
     words: &[String],
     store: &mut MemStore,
     sink: &mut MemSink,
-    number: u8,
+    now: i64,
+    seed: u8,
 ) -> Status {
-    run(
-        alloc,
-        words,
-        store,
-        sink,
-        100 + i64::from(number),
-        [number; 32],
-    )
+    run(alloc, words, store, sink, now, [seed; 32])
 }
 
 /// A sink that takes seven bytes a write.
@@ -56,20 +50,30 @@ pub fn sink(alloc: Global) -> MemSink {
     MemSink::new(alloc, List::new(alloc), 7)
 }
 
-/// Runs the words, and answers how that ended. The number is each byte of the seed, and the moment
-/// lies so many seconds behind 100.
+/// Runs the words at a moment, with so many as each byte of the seed, and answers how that ended.
+pub fn run_at(
+    disk: &mut Disk,
+    sink: &mut MemSink,
+    words: &[&str],
+    now: i64,
+    seed: u8,
+) -> Result<u8, Fail> {
+    let mut all = Vec::new(disk.alloc);
+    for word in words {
+        all.push(String::from_str(disk.alloc, word)?)?;
+    }
+    let status = run_all(disk.alloc, &all, &mut disk.store, sink, now, seed);
+    Ok(code(&status))
+}
+
+/// The same, where the number is each byte of the seed and the moment lies so many seconds behind 100.
 pub fn run_into(
     disk: &mut Disk,
     sink: &mut MemSink,
     words: &[&str],
     number: u8,
 ) -> Result<u8, Fail> {
-    let mut all = Vec::new(disk.alloc);
-    for word in words {
-        all.push(String::from_str(disk.alloc, word)?)?;
-    }
-    let status = run_all(disk.alloc, &all, &mut disk.store, sink, number);
-    Ok(code(&status))
+    run_at(disk, sink, words, 100 + i64::from(number), number)
 }
 
 /// The same, where what is printed is not looked at.
