@@ -1,7 +1,11 @@
-//! The benchmark's program: it goes over the operations in the lines of a file so many times, and prints
-//! what it counted there.
+//! The benchmark's program: it goes over the operations in the lines of a file so many times, or makes
+//! bugs in memory and copies them, and prints what it counted there.
 #![tactic(auto)]
 
+mod copies;
+mod texts;
+
+use crate::copies::Work;
 use bug_ops::BugOp;
 use gb_text::Id;
 use json_span::members;
@@ -95,25 +99,48 @@ fn lines_of<'a>(alloc: Global, text: &'a str) -> Result<Vec<&'a str>, AllocError
     text.lines().collect(alloc)
 }
 
-// What the words ask for: a file, a task, and how many times. None where they ask for nothing.
+// What is counted in the lines of a file, gone over so many times. None where no task or no number
+// has this word.
+fn over_file<R: Files + AllocGlobal>(
+    rt: &R,
+    path: &str,
+    task: &str,
+    rounds: &str,
+) -> io::Result<Option<u64>> {
+    let (Some(task), Ok(rounds)) = (Task::named(task), rounds.parse::<u64>()) else {
+        return Ok(None);
+    };
+    let text = fs::read_to_string(rt, path)?;
+    let lines = lines_of(rt.alloc(), text.as_str())?;
+    Ok(Some(count_all(rt.alloc(), task, &lines, rounds)))
+}
+
+// What is counted over so many bugs in memory. None where no work or no number has this word.
+fn over_bugs(alloc: Global, work: &str, bugs: &str) -> Option<u64> {
+    let work = Work::named(work)?;
+    let bugs = bugs.parse::<u64>().ok()?;
+    copies::count(alloc, work, bugs)
+}
+
+// What the words ask for: a file, a task and how many times, or a work and how many bugs. None where
+// they ask for nothing.
 fn answer<R: Env + Files + AllocGlobal>(rt: &R) -> io::Result<Option<u64>> {
     let mut words = env::args(rt)?;
     let _name = words.next();
-    let (Some(path), Some(task), Some(rounds)) = (words.next(), words.next(), words.next()) else {
+    let (Some(first), Some(second)) = (words.next(), words.next()) else {
         return Ok(None);
     };
-    let (Some(task), Ok(rounds)) = (Task::named(task.as_str()), rounds.as_str().parse::<u64>())
-    else {
-        return Ok(None);
-    };
-    let text = fs::read_to_string(rt, path.as_str())?;
-    let lines = lines_of(rt.alloc(), text.as_str())?;
-    Ok(Some(count_all(rt.alloc(), task, &lines, rounds)))
+    match words.next() {
+        Some(rounds) => over_file(rt, first.as_str(), second.as_str(), rounds.as_str()),
+        None => Ok(over_bugs(rt.alloc(), first.as_str(), second.as_str())),
+    }
 }
 
 fn main(rt: HostRuntime) -> io::Result<()> {
     match answer(&rt)? {
         Some(total) => println!(rt; "{total}"),
-        None => println!(rt; "speed FILE split|value|hash|fold ROUNDS"),
+        None => println!(rt;
+            "speed FILE split|value|hash|fold ROUNDS, or speed build|copy|reads BUGS"
+        ),
     }
 }
