@@ -17,8 +17,8 @@ mod unsynced;
 mod ways;
 mod writer;
 
+pub use claim::{Claim, Purpose};
 pub use exit::exit_code;
-pub use start::run_words;
-
-#[cfg(test)]
-mod tests;
+pub use folder_store::FolderStore;
+pub use lock::Locking;
+pub use start::{run_over_folders, run_words};

@@ -13,6 +13,3 @@ pub use laws::{
     commits_need_their_tree_and_parents, paths_compose, trees_need_their_entries,
     what_is_led_to_is_held,
 };
-
-#[cfg(test)]
-mod tests;

@@ -20,6 +20,3 @@ pub use path::path_of;
 pub use read::{MOST_BYTES, Raw, get, get_raw, judge, judge_raw};
 pub use typed::{get_blob, get_commit, get_tree};
 pub use write::{put, put_text, stands};
-
-#[cfg(test)]
-mod tests;

@@ -15,6 +15,3 @@ pub use laws::{
 pub use listing::{RefEntry, RefFound, list, place_of};
 pub use read::get;
 pub use write::{set, write_of};
-
-#[cfg(test)]
-mod tests;

@@ -5,9 +5,9 @@ ghost use Rattle.gb_store.specs.Faults.{KeepsFaults};
 ghost use Rattle.gb_store.specs.Files.{files_of};
 ghost use Rattle.ref_store.specs.Refs.{Answers, ref_at};
 
-use crate::{RefFault, get, refs_are_a_map, set};
 use gb_store::{MemStore, Store, writes_change_their_path};
 use gb_text::{Folder, List, Name};
+use ref_store::{RefFault, get, refs_are_a_map, set};
 use std::alloc::Global;
 use std::test::Fail;
 

@@ -1,10 +1,12 @@
 //! What strangers and neighbours leave at the places of files.
-use super::{Testing, holds, is_absent};
-use crate::folder_store::FolderStore;
-use gb_store::{Store, StoreFault};
+use crate::system::{
+    Testing, count, has_bytes, holds, is_absent, is_free, link, list_fails, make_dir, put,
+    put_fails, read_fails, write,
+};
+use gitbug_edge::FolderStore;
 use std::fs;
 use std::io::Read;
-use std::os::unix::fs::{PermissionsExt, symlink};
+use std::os::unix::fs::PermissionsExt;
 use std::test::Fail;
 
 /// Tries each.
@@ -24,9 +26,9 @@ fn open_readers_keep_their_bytes<R: Testing>(
     rt: &R,
     store: &mut FolderStore<R>,
 ) -> Result<(), Fail> {
-    store.put(rt.alloc(), "f/refs/k", b"old")?;
+    put(rt, store, "f/refs/k", b"old")?;
     let mut reader = fs::open(rt, "f/refs/k")?;
-    store.put(rt.alloc(), "f/refs/k", b"newer")?;
+    put(rt, store, "f/refs/k", b"newer")?;
     let mut bytes = Vec::new(rt.alloc());
     reader.read_to_end(&mut bytes)?;
     assert_eq!(rt; bytes.as_slice(), b"old".as_slice());
@@ -37,18 +39,18 @@ fn open_readers_keep_their_bytes<R: Testing>(
 fn long_files_read_back<R: Testing>(rt: &R, store: &mut FolderStore<R>) -> Result<(), Fail> {
     let mut bytes = Vec::new(rt.alloc());
     bytes.resize(10_000, 7)?;
-    store.put(rt.alloc(), "f/refs/long", &bytes)?;
+    put(rt, store, "f/refs/long", &bytes)?;
     assert!(rt; holds(rt, store, "f/refs/long", &bytes));
     Ok(())
 }
 
 fn links_to_files_are_replaced<R: Testing>(rt: &R, store: &mut FolderStore<R>) -> Result<(), Fail> {
-    fs::write(rt, "victim", "kept")?;
-    symlink(rt, "../../victim", "f/refs/link")?;
+    write(rt, "victim", "kept")?;
+    link(rt, "../../victim", "f/refs/link")?;
     assert!(rt; is_absent(rt, store, "f/refs/link"));
-    store.put(rt.alloc(), "f/refs/link", b"new")?;
+    put(rt, store, "f/refs/link", b"new")?;
     assert!(rt; holds(rt, store, "f/refs/link", b"new"));
-    assert_eq!(rt; fs::read(rt, "victim")?.as_slice(), b"kept".as_slice());
+    assert!(rt; has_bytes(rt, "victim", b"kept"));
     Ok(())
 }
 
@@ -56,35 +58,42 @@ fn links_to_folders_are_refused<R: Testing>(
     rt: &R,
     store: &mut FolderStore<R>,
 ) -> Result<(), Fail> {
-    fs::create_dir(rt, "outside")?;
-    fs::write(rt, "outside/x", "kept")?;
-    symlink(rt, "../../outside", "f/refs/way")?;
-    let put = store.put(rt.alloc(), "f/refs/way/x", b"new");
-    assert!(rt; matches!(put, Err(StoreFault::Failed)));
-    let read = store.read(rt.alloc(), "f/refs/way/x", 9);
-    assert!(rt; matches!(read, Err(StoreFault::Failed)));
-    let list = store.list(rt.alloc(), "f/refs/way");
-    assert!(rt; matches!(list, Err(StoreFault::Failed)));
-    assert_eq!(rt; fs::read(rt, "outside/x")?.as_slice(), b"kept".as_slice());
+    make_dir(rt, "outside")?;
+    write(rt, "outside/x", "kept")?;
+    link(rt, "../../outside", "f/refs/way")?;
+    assert!(rt; put_fails(rt, store, "f/refs/way/x"));
+    assert!(rt; read_fails(rt, store, "f/refs/way/x"));
+    assert!(rt; list_fails(rt, store, "f/refs/way"));
+    assert!(rt; has_bytes(rt, "outside/x", b"kept"));
     Ok(())
 }
 
+// Lets the owner alone read and write a file.
+fn keep_for_owner<R: Testing>(rt: &R, path: &str) -> Result<(), Fail> {
+    Ok(fs::set_permissions(rt, path, fs::Permissions::from_mode(0o600))?)
+}
+
+// Whether the owner alone may read and write a file.
+fn is_for_owner<R: Testing>(rt: &R, path: &str) -> Result<bool, Fail> {
+    Ok(fs::metadata(rt, path)?.permissions().mode() & 0o777 == 0o600)
+}
+
 fn modes_are_kept<R: Testing>(rt: &R, store: &mut FolderStore<R>) -> Result<(), Fail> {
-    fs::write(rt, "f/refs/own", "1")?;
-    fs::set_permissions(rt, "f/refs/own", fs::Permissions::from_mode(0o600))?;
-    store.put(rt.alloc(), "f/refs/own", b"2")?;
-    let mode = fs::metadata(rt, "f/refs/own")?.permissions().mode();
-    assert_eq!(rt; mode & 0o777, 0o600);
+    write(rt, "f/refs/own", "1")?;
+    keep_for_owner(rt, "f/refs/own")?;
+    put(rt, store, "f/refs/own", b"2")?;
+    assert!(rt; is_for_owner(rt, "f/refs/own")?);
     Ok(())
 }
 
 fn what_killed_runs_left_goes<R: Testing>(rt: &R, store: &mut FolderStore<R>) -> Result<(), Fail> {
-    fs::create_dir_all(rt, "f/left/.gitbug-2")?;
-    fs::write(rt, "f/left/.gitbug-1", "left behind")?;
-    fs::write(rt, "f/left/.gitignore", "of another")?;
-    store.put(rt.alloc(), "f/left/a", b"1")?;
-    assert_eq!(rt; fs::read_dir(rt, "f/left")?.count(), 3);
-    assert!(rt; !fs::exists(rt, "f/left/.gitbug-1")?);
+    make_dir(rt, "f/left")?;
+    make_dir(rt, "f/left/.gitbug-2")?;
+    write(rt, "f/left/.gitbug-1", "left behind")?;
+    write(rt, "f/left/.gitignore", "of another")?;
+    put(rt, store, "f/left/a", b"1")?;
+    assert_eq!(rt; count(rt, "f/left")?, 3);
+    assert!(rt; is_free(rt, "f/left/.gitbug-1"));
     Ok(())
 }
 
@@ -92,9 +101,8 @@ fn other_folders_are_left_alone<R: Testing>(
     rt: &R,
     store: &mut FolderStore<R>,
 ) -> Result<(), Fail> {
-    let put = store.put(rt.alloc(), "top", b"1");
-    assert!(rt; matches!(put, Err(StoreFault::Failed)));
-    assert!(rt; !fs::exists(rt, "top")?);
+    assert!(rt; put_fails(rt, store, "top"));
+    assert!(rt; is_free(rt, "top"));
     Ok(())
 }
 
