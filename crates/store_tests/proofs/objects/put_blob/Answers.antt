@@ -1,6 +1,6 @@
 use Rattle.std.proofs.Common.{refl}
 use Rattle.git_object.specs.declared.object.Object.TheVariants as objects
-use Rattle.object_store.proofs.tests.put_blob.Goals as goal
+use Rattle.store_tests.proofs.objects.put_blob.Goals as goal
 
 pub put-requires : goal.put-requires
 put-requires c = record { object = objects.Blob c.args.content.now; is_kind = refl; is = refl }
