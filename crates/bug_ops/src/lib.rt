@@ -17,6 +17,7 @@ mod row;
 mod snapshot;
 mod write;
 
+pub use copies::{copy_ids, copy_pairs, copy_text, copy_texts};
 pub use fold::Fold;
 pub use laws::{
     labels_go_by_mention, reached_snapshots_are_in_order, written_members_are_in_order,

@@ -109,7 +109,8 @@ fn words_of_bugs_keep_their_rules(rt: HostRuntime) -> Result<(), Fail> {
     Ok(())
 }
 
-const BEGUN: &[Row] = &[
+/// A bug of two comments and a no-op. Ids are those that a script apart from the program makes of the format.
+pub const BEGUN: &[Row] = &[
     Done(
         &["f", "user-new", "Ana", "ana@x"],
         1,

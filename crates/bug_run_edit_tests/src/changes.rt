@@ -1,4 +1,5 @@
 //! A bug is worked on: its title, status, labels and metadata change, or they don't.
+use crate::bugs::BEGUN;
 use fixtures::Disk;
 use run_fixtures::Row::{self, Done, Refused, Usage};
 use run_fixtures::{DONE, REFUSED, hold, run_words};
@@ -6,35 +7,6 @@ use std::alloc::Global;
 use std::test::Fail;
 
 const BUG: &str = "b946b7380c3eb77a68d0dc6a49f8fb74554aad7c4dc3167cb4fe898d15cbfc63";
-
-// A bug of two comments and a no-op. Ids are those that a script apart from the program makes of the
-// format.
-const BEGUN: &[Row] = &[
-    Done(
-        &["f", "user-new", "Ana", "ana@x"],
-        1,
-        "a206955f92c7be1bb318733460d3b85e208c8b1c8fb805c6d9991de1e0f35c00\n",
-        5,
-    ),
-    Done(
-        &["f", "new", "Login fails", "Since monday"],
-        2,
-        "b946b7380c3eb77a68d0dc6a49f8fb74554aad7c4dc3167cb4fe898d15cbfc63\n",
-        12,
-    ),
-    Done(
-        &["f", "comment", BUG, "hi"],
-        3,
-        "e4935016ce47972c287159671c9cc66a5f1ce2e49e398d1357bb86791390ebde\n",
-        17,
-    ),
-    Done(
-        &["f", "noop", BUG],
-        4,
-        "239b4c7b0e733b50df3a82248123fd3d5b4d1866da84c86d9b488625380a9b3a\n",
-        22,
-    ),
-];
 
 // An id is the SHA-256 of the operation's text, so it tells the title of before, the labels that
 // change in their order, and the target.

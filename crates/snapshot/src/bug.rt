@@ -4,8 +4,7 @@ ghost use Rattle.op_kind.specs.Fold.{state_from};
 ghost use Rattle.bug_ops.specs.Kind.{bug_kind};
 ghost use Rattle.snapshot.specs.LastMention.{IsBugList, snapshot_of};
 
-use crate::copies::{copy_ids, copy_pairs, copy_text, copy_texts};
-use bug_ops::{BugOp, Excerpt, Fold, Snapshot};
+use bug_ops::{BugOp, Excerpt, Fold, Snapshot, copy_ids, copy_pairs, copy_text, copy_texts};
 use gb_text::Memory;
 use op_kind::OpKind;
 use std::alloc::Global;

@@ -2,7 +2,6 @@
 #![tactic(auto)]
 
 mod bug;
-mod copies;
 mod laws;
 #[cfg(test)]
 mod tests;
