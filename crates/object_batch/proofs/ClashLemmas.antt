@@ -24,7 +24,8 @@ Contains-first y xs = (0, omega arith, refl)
 pub Contains-later : {X : Type 0} (y : X) (xs : List X) (x : X) → Contains xs x → Contains (y ∷ xs) x
 Contains-later y xs x member = (suc member.0, omega (arith, member.1), member.2)
 
-find-some : {X : Type 0} (p : X → Bool) (xs : List X) (x : X) → find p xs ≡ Some x → Contains xs x × (p x ≡ true)
+-- what a search finds is an element that it seeks
+pub find-some : {X : Type 0} (p : X → Bool) (xs : List X) (x : X) → find p xs ≡ Some x → Contains xs x × (p x ≡ true)
 find-some p [] x e = absurd (cc)
 find-some p (y ∷ ys) x e = each (find-some p ys x) (p y) refl
   where

@@ -1,5 +1,5 @@
 -- What an entity needs, of a head that was copied.
-use Rattle.std.proofs.Common.{◌≡◌, ◌⊎◌, inl, inr, zero, suc, ℕ, Bool, true, false, cond, List, [], ◌∷◌, Contains, Option, Some, None, refl, sym, ◌∙◌, ap, subst, arith}
+use Rattle.std.proofs.Common.{◌≡◌, ◌⊎◌, inl, inr, zero, suc, ℕ, Bool, true, false, List, [], ◌∷◌, Contains, Option, Some, None, refl, sym, ◌∙◌, ap, subst, arith}
 use Rattle.std.specs.Prelude.{codes, find}
 use Rattle.std.specs.Option.{option_map}
 use Rattle.std.specs.Str.{bytes_eq}
@@ -19,6 +19,7 @@ use Rattle.object_store.specs.Held.{Objects, object_at}
 use Rattle.object_store.specs.Typed.{as_commit, as_tree, commit_at, tree_at}
 use Rattle.object_store.proofs.GrowthLemmas.{bind-some}
 use Rattle.object_batch.specs.Needs.{NamesNext, Reference, kind_named}
+use Rattle.object_batch.proofs.ClashLemmas.{find-some}
 use Rattle.commit_walk.specs.Below.{IsBelow, head, parent}
 use Rattle.commit_pack.specs.Packs.{NamesOps}
 use Rattle.op_pack.specs.Heads.{is_file, is_ops, ops_of}
@@ -27,20 +28,6 @@ use Rattle.dag_entity.specs.Nodes.{IsNeeded, IsPackNeeded}
 use Rattle.remote_copy.specs.Closure.{IsFollowed, IsLeft, StandsAlike, commit_named, first, next}
 use Rattle.remote_copy.specs.Copies.{IsCopied}
 use Rattle.remote_copy.proofs.TextLemmas.{text_at-is}
-
--- what a search finds is an element that it seeks
-find_is : {X : Type 0} (p : X → Bool) (xs : List X) (x : X) → find p xs ≡ Some x → Contains xs x × (p x ≡ true)
-find_is p [] x e = absurd (cc)
-find_is p (y ∷ ys) x e = each (find_is p ys x) (p y) refl
-  where
-    each : (find p ys ≡ Some x → Contains ys x × (p x ≡ true)) → (b : Bool) → p y ≡ b → Contains (y ∷ ys) x × (p x ≡ true)
-    each rest true h =
-        let same : Some y ≡ Some x = sym (ap (λ (c : Bool). cond c (Some y) (find p ys)) h) ∙ e in
-        let is : y ≡ x = cc in
-        ((0, omega arith, is), ap p (sym is) ∙ h)
-    each rest false h =
-        let later = rest (sym (ap (λ (c : Bool). cond c (Some y) (find p ys)) h) ∙ e) in
-        ((suc later.0.0, omega (arith, later.0.1), later.0.2), later.1)
 
 -- an object that reads as a commit is one
 commit_is : (object : Object) (commit : Commit) → as_commit object ≡ Some commit → object ≡ objects.Commit commit
@@ -104,7 +91,7 @@ module _ (source entry target : Objects) (top : Name) (copied : IsCopied false s
       found_entry : (o : Option Entry) → find is_ops ops.tree.entries ≡ o → (entry : Entry) × Contains ops.tree.entries entry × (entry.object ≡ name) × (kind_named entry.mode ≡ Some kinds.Blob)
       found_entry None e = let named = ops.named in absurd (cc)
       found_entry (Some entry) e =
-          let is = find_is is_ops ops.tree.entries entry e in
+          let is = find-some is_ops ops.tree.entries entry e in
           let object : entry.object ≡ name = same_Some entry.object name (sym (ap (option_map (λ (it : Entry). it.object)) e) ∙ ops.named) in
           (entry, is.0, object, file_kind entry.mode (and_parts (bytes_eq entry.name (codes "ops")) (is_file entry.mode) is.1).1)
 
