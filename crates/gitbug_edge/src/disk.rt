@@ -79,7 +79,8 @@ pub fn open_folder<R: Files>(rt: &R, alloc: Global, path: &str) -> io::Result<Op
     }
 }
 
-/// The names of the plain files right in a folder but the temporary ones, each once, in byte order.
+/// The names of the plain files right in a folder but the temporary ones, each once, in byte order. Where a signal
+/// interrupts the listing it is made again from the start.
 pub fn list<R: Files + AllocGlobal + Clone + Drop>(
     rt: &R,
     alloc: Global,
@@ -87,7 +88,7 @@ pub fn list<R: Files + AllocGlobal + Clone + Drop>(
 ) -> io::Result<Vec<Text>>
     ensures { IfOk result (λ names. IsStrictlySortedBy (slice_cmp nat_cmp) names.items) }
 {
-    Ok(in_order(names_in(rt, alloc, dir)?))
+    Ok(in_order(again(|| names_in(rt, alloc, dir))?))
 }
 
 // The names of the plain files right in a folder but the temporary ones, in any order.
