@@ -11,6 +11,3 @@ pub use laws::{
     a_chain_has_at_most_65536_commits, a_whole_walk_has_no_fault,
     a_whole_walk_passes_what_it_meets, walks_are_determined, walks_stay,
 };
-
-#[cfg(test)]
-mod tests;

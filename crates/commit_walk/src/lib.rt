@@ -12,6 +12,3 @@ pub use laws::{
     a_walk_has_at_most_65536_commits, a_whole_walk_has_no_fault, below_is_transitive,
     walks_have_the_same_commits, what_lies_below_stays,
 };
-
-#[cfg(test)]
-mod tests;
