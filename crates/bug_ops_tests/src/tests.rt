@@ -200,30 +200,33 @@ fn place(byte: u8) -> Place {
     }
 }
 
+// What calls an operation of bugs is generic over the kind: it is proved from the kind's contract alone, in which the
+// meaning of bugs, a large term, does not stand.
+
 /// The operation of a text.
-fn read(alloc: Global, byte: u8, text: &[u8]) -> Result<BugOp, OpFault> {
-    BugOp::read_op(alloc, place(byte), text)
+fn read<K: OpKind>(alloc: Global, byte: u8, text: &[u8]) -> Result<K, OpFault> {
+    K::read_op(alloc, place(byte), text)
 }
 
 /// Whether an operation is written as this text.
-fn is_written_as(alloc: Global, op: &BugOp, text: &[u8]) -> Result<bool, OpFault> {
+fn is_written_as<K: OpKind>(alloc: Global, op: &K, text: &[u8]) -> Result<bool, OpFault> {
     Ok(op.write_op(alloc)?.as_slice() == text)
 }
 
 /// Whether an operation's text is written as it was read.
-fn is_written_again(alloc: Global, text: &[u8]) -> Result<bool, OpFault> {
-    is_written_as(alloc, &read(alloc, 1, text)?, text)
+fn is_written_again<K: OpKind>(alloc: Global, text: &[u8]) -> Result<bool, OpFault> {
+    is_written_as(alloc, &read::<K>(alloc, 1, text)?, text)
 }
 
 /// Whether what is written of an operation's text is written as it is read again.
-fn is_stable(alloc: Global, text: &[u8]) -> Result<bool, OpFault> {
-    let written = read(alloc, 1, text)?.write_op(alloc)?;
-    is_written_again(alloc, written.as_slice())
+fn is_stable<K: OpKind>(alloc: Global, text: &[u8]) -> Result<bool, OpFault> {
+    let written = read::<K>(alloc, 1, text)?.write_op(alloc)?;
+    is_written_again::<K>(alloc, written.as_slice())
 }
 
 /// The fault that is named of a text, if it is no operation.
 fn fault_of(alloc: Global, text: &[u8]) -> Option<OpFault> {
-    BugOp::read_op(alloc, place(1), text).err()
+    read::<BugOp>(alloc, 1, text).err()
 }
 
 const FRONT: &[u8] = b"{\"nonce\":\"AAAAAAAAAAAAAAAAAAAAAAAAAAA=\",\"timestamp\":0,";
@@ -243,23 +246,33 @@ fn first_row(alloc: Global) -> Result<Excerpt, OpFault> {
     Ok(BugOp::row_of(alloc, &BugOp::start(alloc))?)
 }
 
-/// A bug one operation further, whose text this is.
-fn apply(alloc: Global, fold: &mut Fold, byte: u8, text: &[u8]) -> Result<(), OpFault> {
-    let op = read(alloc, byte, text)?;
-    Ok(BugOp::apply(alloc, fold, &op)?)
+/// A state one operation further, whose text this is.
+fn apply<K: OpKind>(
+    alloc: Global,
+    state: &mut K::State,
+    byte: u8,
+    text: &[u8],
+) -> Result<(), OpFault> {
+    let op = read::<K>(alloc, byte, text)?;
+    Ok(K::apply(alloc, state, &op)?)
 }
 
 /// A row one operation further, whose text this is.
-fn row_apply(alloc: Global, row: &mut Excerpt, byte: u8, text: &[u8]) -> Result<(), OpFault> {
-    let op = read(alloc, byte, text)?;
-    Ok(BugOp::row_apply(alloc, row, &op)?)
+fn row_apply<K: OpKind>(
+    alloc: Global,
+    row: &mut K::Row,
+    byte: u8,
+    text: &[u8],
+) -> Result<(), OpFault> {
+    let op = read::<K>(alloc, byte, text)?;
+    Ok(K::row_apply(alloc, row, &op)?)
 }
 
 /// The bug of some operations, each a byte of its id and its text.
 fn bug(alloc: Global, ops: &[(u8, &[u8])]) -> Result<Snapshot, OpFault> {
     let mut fold = BugOp::start(alloc);
     for (byte, text) in ops {
-        apply(alloc, &mut fold, *byte, text)?;
+        apply::<BugOp>(alloc, &mut fold, *byte, text)?;
     }
     Ok(fold.finish(alloc)?)
 }
@@ -276,9 +289,9 @@ fn first_message(bug: &Snapshot) -> &str {
 fn each_type_is_written_as_it_was_read(rt: HostRuntime) -> Result<(), Fail> {
     let alloc = rt.alloc();
     assert_eq!(rt; CREATE.len(), 99);
-    assert!(rt; is_written_again(alloc, CREATE)?);
+    assert!(rt; is_written_again::<BugOp>(alloc, CREATE)?);
     for (_, text) in WRITTEN {
-        assert!(rt; is_written_again(alloc, text)?);
+        assert!(rt; is_written_again::<BugOp>(alloc, text)?);
     }
     Ok(())
 }
@@ -329,7 +342,7 @@ fn a_text_without_a_common_part_is_refused(rt: HostRuntime) -> Result<(), Fail> 
 fn what_is_read_is_written_and_read_again(rt: HostRuntime) -> Result<(), Fail> {
     for (row, members) in READ.iter().enumerate() {
         let text = with_members(rt.alloc(), *members)?;
-        assert!(rt; is_stable(rt.alloc(), &text)?, "row {row}");
+        assert!(rt; is_stable::<BugOp>(rt.alloc(), &text)?, "row {row}");
     }
     Ok(())
 }
@@ -369,7 +382,7 @@ fn the_least_creation_has_a_place(rt: HostRuntime) -> Result<(), Fail> {
 /// Whether the row is one of the least creation, once that is applied, and empty before.
 fn row_is_created(alloc: Global, row: &mut Excerpt) -> Result<bool, OpFault> {
     let empty = row.title.as_str().is_empty() && row.comments == 0;
-    row_apply(alloc, row, 1, CREATE)?;
+    row_apply::<BugOp>(alloc, row, 1, CREATE)?;
     Ok(empty && row.title.as_str() == "a" && row.status == BugStatus::Opened)
 }
 
@@ -384,7 +397,7 @@ fn the_least_creation_is_a_row(rt: HostRuntime) -> Result<(), Fail> {
 /// The comments of a row that had so many, once the least creation is applied.
 fn comments_after(alloc: Global, row: &mut Excerpt, before: u64) -> Result<u64, OpFault> {
     row.comments = before;
-    row_apply(alloc, row, 1, CREATE)?;
+    row_apply::<BugOp>(alloc, row, 1, CREATE)?;
     Ok(row.comments)
 }
 

@@ -82,10 +82,15 @@ fn set_key(alloc: Global, index: u32) -> Result<BugOp, Fail> {
     })
 }
 
+/// A state one operation further.
+fn apply<K: OpKind>(alloc: Global, state: &mut K::State, op: &K) -> Result<(), Fail> {
+    K::apply(alloc, state, op)?;
+    Ok(())
+}
+
 /// A bug one operation further.
 fn step(alloc: Global, fold: &mut Fold, op: Result<BugOp, Fail>) -> Result<(), Fail> {
-    BugOp::apply(alloc, fold, &op?)?;
-    Ok(())
+    apply::<BugOp>(alloc, fold, &op?)
 }
 
 /// How many comments have the message.
