@@ -26,43 +26,80 @@ const CREATION: &[u8] = b"{ \"title\":\"a\\u003cb\", \"message\":\"m\", \
 const COMMENT: &[u8] =
     b"{\"message\":\"c\",\"nonce\":\"AAAAAAAAAAAAAAAAAAAAAAAAAAA=\",\"timestamp\":2,\"type\":3}";
 
-/// The pack of these operations.
-fn pack_of(alloc: Global, ops: &[&[u8]]) -> Result<Pack<BugOp>, Fail> {
-    Ok(read(alloc, &pack_text(alloc, AUTHOR_DIGITS, ops)?)?)
+// What reads and writes is generic over the kind: it is proved from the kind's contract alone, in which the meaning of bugs, a
+// large term, does not stand. What a test looks at of a pack stands in a function of its own, so that the pack is dropped at
+// one place of the test.
+
+/// The pack of a text.
+fn read<K: OpKind>(alloc: Global, text: &[u8]) -> Result<Pack<K>, PackFault> {
+    Pack::read(alloc, &HEAD, text)
 }
 
-fn read(alloc: Global, text: &[u8]) -> Result<Pack<BugOp>, PackFault> {
-    Pack::read(alloc, &HEAD, text)
+/// The pack of these operations.
+fn pack_of<K: OpKind>(alloc: Global, ops: &[&[u8]]) -> Result<Pack<K>, Fail> {
+    Ok(read::<K>(alloc, &pack_text(alloc, AUTHOR_DIGITS, ops)?)?)
+}
+
+/// The pack of what a pack is written as.
+fn read_again<K: OpKind>(alloc: Global, pack: &Pack<K>) -> Result<Pack<K>, Fail> {
+    let written = pack.write(alloc)?;
+    Ok(read::<K>(alloc, written.as_slice())?)
+}
+
+/// The id of the first operation of a pack.
+fn first_id<K: OpKind>(pack: &Pack<K>) -> Option<Id> {
+    pack.ops.as_slice().first().map(|op| op.common().place.id)
+}
+
+/// The place of the first operation of a pack, once that is written and read there.
+fn first_at<K: OpKind>(alloc: Global, pack: &Pack<K>, there: Place) -> Result<Place, Fail> {
+    let op = pack.ops.as_slice().first().ok_or("an operation")?;
+    let text = op.write_op(alloc)?;
+    let again = K::read_op(alloc, there, text.as_slice())?;
+    Ok(again.common().place)
+}
+
+/// The title with which the first operation of a pack begins a bug.
+fn first_title(pack: &Pack<BugOp>) -> &str {
+    match pack.ops.as_slice().first() {
+        Some(BugOp::Create { title, .. }) => title.as_str(),
+        _ => "",
+    }
+}
+
+/// Whether a pack of the creation has its title, and the id of its text as another program wrote it.
+fn is_as_it_stands(alloc: Global, pack: &Pack<BugOp>) -> Result<bool, Fail> {
+    let wanted = id("66b36241fadce89bf1f6d8f32136295d7deb3b601e26ef97556f9e1bafb23e38")?;
+    let again = first_id(&read_again(alloc, pack)?);
+    Ok(first_title(pack) == "a<b" && first_id(pack) == Some(wanted) && again != Some(wanted))
 }
 
 #[test]
 fn a_title_reads_and_the_id_is_of_the_text_as_it_stands(rt: HostRuntime) -> Result<(), Fail> {
-    let alloc = rt.alloc();
-    let pack = pack_of(alloc, &[CREATION])?;
-    let op = pack.ops.as_slice().first().ok_or("an operation")?;
-    let BugOp::Create { title, common, .. } = op else {
-        return Err("a creation".into());
-    };
-    assert_eq!(rt; title.as_str(), "a<b");
-    let wanted = id("66b36241fadce89bf1f6d8f32136295d7deb3b601e26ef97556f9e1bafb23e38")?;
-    assert_eq!(rt; common.place.id, wanted);
-    let written = pack.write(alloc)?;
-    let again = read(alloc, written.as_slice())?;
-    let op = again.ops.as_slice().first().ok_or("an operation")?;
-    assert!(rt; op.common().place.id != common.place.id);
+    let pack = pack_of::<BugOp>(rt.alloc(), &[CREATION])?;
+    let is_whole = is_as_it_stands(rt.alloc(), &pack);
+    assert!(rt; is_whole?);
     Ok(())
+}
+
+/// The author of a text's pack, how many operations it has, and its id.
+fn numbers<K: OpKind>(alloc: Global, text: &[u8]) -> Result<(Id, usize, Id), Fail> {
+    let pack = read::<K>(alloc, text)?;
+    Ok((pack.author, pack.ops.len(), pack.id))
 }
 
 #[test]
 fn operations_that_are_null_are_none(rt: HostRuntime) -> Result<(), Fail> {
-    let alloc = rt.alloc();
     let text = b"{ \"ops\" : null , \"author\":\
           {\"id\":\"0101010101010101010101010101010101010101010101010101010101010101\"} }";
-    let pack = read(alloc, text)?;
-    assert_eq!(rt; (pack.author, pack.ops.len()), (AUTHOR, 0));
     let wanted = id("40167ccc947a422e28c5a89e46414336a4f82f695bcc194f538e98128c92a3d6")?;
-    assert_eq!(rt; pack.id, wanted);
+    assert_eq!(rt; numbers::<BugOp>(rt.alloc(), text)?, (AUTHOR, 0, wanted));
     Ok(())
+}
+
+/// The fault of a text that is no pack.
+fn fault_of<K: OpKind>(alloc: Global, text: &[u8]) -> Option<PackFault> {
+    read::<K>(alloc, text).err()
 }
 
 #[test]
@@ -70,18 +107,14 @@ fn a_bad_operation_of_a_bug_is_told_by_its_index(rt: HostRuntime) -> Result<(), 
     let alloc = rt.alloc();
     let unknown = b"{\"nonce\":\"AAAAAAAAAAAAAAAAAAAAAAAAAAA=\",\"timestamp\":0,\"type\":9}";
     let text = pack_text(alloc, AUTHOR_DIGITS, &[CREATION, unknown])?;
-    assert!(rt;
-        matches!(
-            read(alloc, &text),
-            Err(PackFault::BadOperation(1, OpFault::UnknownType(9)))
-        )
-    );
+    let wanted = PackFault::BadOperation(1, OpFault::UnknownType(9));
+    assert_eq!(rt; fault_of::<BugOp>(alloc, &text), Some(wanted));
     Ok(())
 }
 
-fn two_packs(alloc: Global) -> Result<Vec<Pack<BugOp>>, Fail> {
-    let first = pack_of(alloc, &[CREATION, COMMENT])?;
-    let second = pack_of(alloc, &[COMMENT])?;
+fn two_packs<K: OpKind>(alloc: Global) -> Result<Vec<Pack<K>>, Fail> {
+    let first = pack_of::<K>(alloc, &[CREATION, COMMENT])?;
+    let second = pack_of::<K>(alloc, &[COMMENT])?;
     let mut packs = Vec::new(alloc);
     packs.push(first).ok().ok_or("memory")?;
     packs.push(second).ok().ok_or("memory")?;
@@ -95,7 +128,7 @@ fn comments_of(alloc: Global, packs: &[Pack<BugOp>]) -> Result<u64, Memory> {
 
 #[test]
 fn packs_add_up_to_a_bug(rt: HostRuntime) -> Result<(), Fail> {
-    let packs = two_packs(rt.alloc())?;
+    let packs = two_packs::<BugOp>(rt.alloc())?;
     assert_eq!(rt; comments_of(rt.alloc(), &packs)?, 3);
     Ok(())
 }
@@ -107,24 +140,22 @@ fn comments_of_both(alloc: Global, ops: &[BugOp]) -> Result<(u64, u64), Memory> 
 
 #[test]
 fn a_bug_and_its_row_go_along(rt: HostRuntime) -> Result<(), Fail> {
-    let pack = pack_of(rt.alloc(), &[CREATION, COMMENT])?;
-    assert_eq!(rt; comments_of_both(rt.alloc(), pack.ops.as_slice())?, (2, 2));
+    let pack = pack_of::<BugOp>(rt.alloc(), &[CREATION, COMMENT])?;
+    let comments = comments_of_both(rt.alloc(), pack.ops.as_slice());
+    assert_eq!(rt; comments?, (2, 2));
     Ok(())
 }
 
 #[test]
 fn an_operation_is_carried_to_another_place(rt: HostRuntime) -> Result<(), Fail> {
-    let alloc = rt.alloc();
-    let pack = pack_of(alloc, &[CREATION])?;
-    let op = pack.ops.as_slice().first().ok_or("an operation")?;
+    let pack = pack_of::<BugOp>(rt.alloc(), &[CREATION])?;
     let there = Place {
         id: AUTHOR,
         author: AUTHOR,
         edit: 9,
         create: None,
     };
-    let text = op.write_op(alloc)?;
-    let again = BugOp::read_op(alloc, there, text.as_slice())?;
-    assert_eq!(rt; again.common().place, there);
+    let place = first_at(rt.alloc(), &pack, there);
+    assert_eq!(rt; place?, there);
     Ok(())
 }

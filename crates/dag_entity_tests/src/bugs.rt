@@ -1,8 +1,8 @@
 //! Operations of a bug, and reading bugs.
-use bug_ops::BugOp;
 use dag_entity::{Entity, EntityFault, read_entity};
-use fixtures::{Disk, joined};
+use fixtures::Disk;
 use gb_text::{Id, Name};
+use op_kind::OpKind;
 use std::test::Fail;
 
 /// The author that is known, and its digits.
@@ -15,18 +15,12 @@ pub const BOB: Id = Id { bytes: [0x0b; 32] };
 
 pub const BOB_DIGITS: &[u8] = b"0b0b0b0b0b0b0b0b0b0b0b0b0b0b0b0b0b0b0b0b0b0b0b0b0b0b0b0b0b0b0b0b";
 
-/// The operation with which the bug begins. Its SHA-256 is the bug's id.
-pub const CREATE: &[u8] =
-    b"{\"files\":[],\"message\":\"\",\"nonce\":\"AAAAAAAAAAAAAAAAAAAAAAAAAAA=\",\"timestamp\":0,\"title\":\"a\",\"type\":1}";
-
+/// The bug that begins with `CREATE`: the SHA-256 of that.
 pub const BUG: Id = Id {
     bytes: *b"\x39\x12\xf3\x27\x47\xd1\xe7\xd3\x15\xd8\x9c\xd5\x50\xe6\x1a\x80\x63\x83\x42\xc8\x5e\x80\xfe\xc8\xf8\x44\xc3\x70\x35\x61\x3d\xc8",
 };
 
-/// Another such operation, and its SHA-256.
-pub const OTHER: &[u8] =
-    b"{\"files\":[],\"message\":\"\",\"nonce\":\"AAAAAAAAAAAAAAAAAAAAAAAAAAA=\",\"timestamp\":0,\"title\":\"b\",\"type\":1}";
-
+/// The SHA-256 of `OTHER_CREATE`.
 pub const OTHER_ID: Id = Id {
     bytes: *b"\xf6\xb2\x7d\x2d\x8a\xd5\xbc\x2d\x80\xe6\x2c\x15\x2d\x82\x29\xc2\x09\xa3\xf5\xe8\xc9\xab\x50\x07\x5f\xf4\xfe\x69\x38\xe1\x9d\x39",
 };
@@ -61,8 +55,11 @@ pub struct Told {
     pub create: u64,
 }
 
-/// The bug below one head.
-pub fn read_one(disk: &mut Disk, head: &Name) -> Result<Entity<BugOp>, EntityFault> {
+// What reads an entity is generic over the kind: it is proved from the kind's contract alone, in which the meaning of bugs, a
+// large term, does not stand.
+
+/// The entity below one head, of the id of the bug.
+pub fn read_one<K: OpKind>(disk: &mut Disk, head: &Name) -> Result<Entity<K>, EntityFault> {
     read_entity(
         disk.alloc,
         &mut disk.store,
@@ -73,8 +70,12 @@ pub fn read_one(disk: &mut Disk, head: &Name) -> Result<Entity<BugOp>, EntityFau
     )
 }
 
-/// The bug below two heads.
-pub fn read_two(disk: &mut Disk, one: &Name, two: &Name) -> Result<Entity<BugOp>, EntityFault> {
+/// The entity below two heads.
+pub fn read_two<K: OpKind>(
+    disk: &mut Disk,
+    one: &Name,
+    two: &Name,
+) -> Result<Entity<K>, EntityFault> {
     read_entity(
         disk.alloc,
         &mut disk.store,
@@ -85,10 +86,10 @@ pub fn read_two(disk: &mut Disk, one: &Name, two: &Name) -> Result<Entity<BugOp>
     )
 }
 
-/// What is told of the bug that was read.
-pub fn told_of(
+/// What is told of the entity that was read.
+pub fn told_of<K: OpKind>(
     disk: &Disk,
-    read: Result<Entity<BugOp>, EntityFault>,
+    read: Result<Entity<K>, EntityFault>,
 ) -> Result<Result<Told, EntityFault>, Fail> {
     let entity = match read {
         Ok(entity) => entity,
@@ -104,20 +105,4 @@ pub fn told_of(
         edit: entity.edit,
         create: entity.create,
     }))
-}
-
-/// The text of a pack of these operations.
-pub fn pack_text(disk: &Disk, author: &[u8], ops: &[&[u8]]) -> Result<Vec<u8>, Fail> {
-    let mut text = joined(
-        disk.alloc,
-        &[b"{\"author\":{\"id\":\"", author, b"\"},\"ops\":["],
-    )?;
-    for (place, op) in ops.iter().enumerate() {
-        if place > 0 {
-            text.push(b',')?;
-        }
-        text.extend_from_slice(op)?;
-    }
-    text.extend_from_slice(b"]}")?;
-    Ok(text)
 }

@@ -1,12 +1,13 @@
 //! Small graphs of commits, and what is read of them.
-use crate::bugs::{ANA_DIGITS, BOB_DIGITS, Told, pack_text, read_one, read_two, told_of};
+use crate::bugs::{ANA_DIGITS, BOB_DIGITS, Told, read_one, read_two, told_of};
 use bug_ops::BugOp;
 use dag_entity::{Entity, EntityFault};
-use fixtures::{Disk, EMPTY, joined, push_entry, put_commit, put_object, put_under};
+use fixtures::{Disk, EMPTY, joined, pack_text, push_entry, put_commit, put_object, put_under};
 use gb_store::Store;
 use gb_text::Name;
 use git_object::Kind;
 use object_store::path_of;
+use op_kind::OpKind;
 use std::alloc::Global;
 use std::test::Fail;
 
@@ -131,8 +132,8 @@ fn put_entries(disk: &mut Disk, entries: &[&str], ops: &Name) -> Result<Name, Fa
 // Puts a pack, and answers its name or the one that stands for it.
 fn put_body(disk: &mut Disk, marks: &[Mark], body: Body) -> Result<Name, Fail> {
     let text = match body {
-        Body::Ops(ops) => pack_text(disk, ANA_DIGITS, ops)?,
-        Body::Unknown(ops) => pack_text(disk, BOB_DIGITS, ops)?,
+        Body::Ops(ops) => pack_text(disk.alloc, ANA_DIGITS, ops)?,
+        Body::Unknown(ops) => pack_text(disk.alloc, BOB_DIGITS, ops)?,
         Body::Text(text) => joined(disk.alloc, &[text])?,
         Body::Names(name) => return Ok(name_of(marks, &name)),
         Body::Tree(name) => return Ok(name_of(marks, &name)),
@@ -199,7 +200,11 @@ fn make(disk: &mut Disk, marks: &[Mark], change: Change) -> Result<(), Fail> {
     }
 }
 
-fn read(disk: &mut Disk, marks: &[Mark], heads: Heads) -> Result<Entity<BugOp>, EntityFault> {
+fn read<K: OpKind>(
+    disk: &mut Disk,
+    marks: &[Mark],
+    heads: Heads,
+) -> Result<Entity<K>, EntityFault> {
     match heads {
         Heads::One(head) => read_one(disk, &name_of(marks, &head)),
         Heads::Two(one, two) => read_two(disk, &name_of(marks, &one), &name_of(marks, &two)),
@@ -279,7 +284,7 @@ fn is_read(
     let mut disk = Disk::new(alloc)?;
     let marks = put_all(&mut disk, commits)?;
     make(&mut disk, &marks, change)?;
-    let entity = read(&mut disk, &marks, heads);
+    let entity = read::<BugOp>(&mut disk, &marks, heads);
     let told = told_of(&disk, entity)?;
     Ok(is_answer(&marks, &told, answer) && disk.store.reads() == reads)
 }

@@ -1,10 +1,11 @@
 //! Bugs with one thing wrong, and how many objects are read until that is told.
-use crate::bugs::{BOB, CREATE, ONE, ONE_ID, OTHER, OTHER_ID, THREE, TWO};
+use crate::bugs::{BOB, ONE, ONE_ID, OTHER_ID, THREE, TWO};
 use crate::cases::{
     ABSENT, Answer, Body, C0, C1, C2, C3, C4, Case, Change, Commit, Heads, P0, P1, T0, T1,
     first_other, first_other_above, first_other_change,
 };
 use dag_entity::EntityFault;
+use fixtures::{CREATE, OTHER_CREATE};
 use op_kind::OpFault;
 use std::test::Fail;
 
@@ -255,7 +256,7 @@ const PACKS: &[(Commit, EntityFault, u64)] = &[
         6,
     ),
     (
-        Commit(&[C0], SECOND, Body::Ops(&[ONE, TWO, OTHER])),
+        Commit(&[C0], SECOND, Body::Ops(&[ONE, TWO, OTHER_CREATE])),
         EntityFault::SecondCreate(OTHER_ID),
         6,
     ),
@@ -317,7 +318,7 @@ const ROOTS: &[Case] = &[
         3,
     ),
     Case(
-        &[Commit(&[], FIRST, Body::Ops(&[OTHER]))],
+        &[Commit(&[], FIRST, Body::Ops(&[OTHER_CREATE]))],
         Heads::One(C0),
         Answer::Fault(EntityFault::WrongId(OTHER_ID)),
         3,
@@ -335,7 +336,7 @@ const ROOTS: &[Case] = &[
         3,
     ),
     Case(
-        &[Commit(&[], FIRST, Body::Ops(&[CREATE, OTHER]))],
+        &[Commit(&[], FIRST, Body::Ops(&[CREATE, OTHER_CREATE]))],
         Heads::One(C0),
         Answer::Fault(EntityFault::SecondCreate(OTHER_ID)),
         3,

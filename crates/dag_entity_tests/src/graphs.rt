@@ -1,10 +1,11 @@
 //! Bugs of valid graphs, and the order of their commits.
-use crate::bugs::{CREATE, EIGHT, FIVE, FOUR, ONE, SEVEN, SIX, THREE, TWO, read_one, told_of};
+use crate::bugs::{EIGHT, FIVE, FOUR, ONE, SEVEN, SIX, THREE, TWO, read_one, told_of};
 use crate::cases::{
     Answer, Body, C0, C1, C2, C3, C4, C5, C6, C7, C8, C9, Case, Commit, Heads, first_other,
     put_commits,
 };
-use fixtures::{Disk, name};
+use bug_ops::BugOp;
+use fixtures::{CREATE, Disk, name};
 use gb_text::Name;
 use std::test::Fail;
 
@@ -191,7 +192,7 @@ const CHAIN_NAMES: &[&str] = &[
 fn a_chain_has_the_names_of_git(rt: HostRuntime) -> Result<(), Fail> {
     let mut disk = Disk::new(rt.alloc())?;
     put_commits(&mut disk, CHAIN)?;
-    let read = read_one(
+    let read = read_one::<BugOp>(
         &mut disk,
         &name("97200f8a124cf23722607d17a2616e535db7012e")?,
     );

@@ -1,15 +1,16 @@
 //! Bugs at the limits of sizes.
-use crate::bugs::{ANA_DIGITS, CREATE, pack_text, read_one, read_two};
+use crate::bugs::{ANA_DIGITS, read_one, read_two};
 use bug_ops::BugOp;
 use dag_entity::{Entity, EntityFault};
-use fixtures::{Disk, EMPTY, filled, push_entry, put_commit, put_object};
+use fixtures::{CREATE, Disk, EMPTY, filled, pack_text, push_entry, put_commit, put_object};
 use gb_text::Name;
 use git_object::Kind;
+use op_kind::OpKind;
 use std::alloc::Global;
 use std::test::Fail;
 
 fn put_pack(disk: &mut Disk, ops: &[&[u8]]) -> Result<Name, Fail> {
-    let text = pack_text(disk, ANA_DIGITS, ops)?;
+    let text = pack_text(disk.alloc, ANA_DIGITS, ops)?;
     put_object(disk, Kind::Blob, &text)
 }
 
@@ -49,7 +50,7 @@ fn put_root(disk: &mut Disk) -> Result<Name, Fail> {
 }
 
 // How many commits a bug has, and its edit clock.
-fn numbers(read: Result<Entity<BugOp>, EntityFault>) -> Result<(u64, u64), EntityFault> {
+fn numbers<K: OpKind>(read: Result<Entity<K>, EntityFault>) -> Result<(u64, u64), EntityFault> {
     let entity = read?;
     Ok((entity.commits, entity.edit))
 }
@@ -62,7 +63,7 @@ fn is_one(
     reads: u64,
 ) -> bool {
     let before = disk.store.reads();
-    let found = numbers(read_one(disk, head));
+    let found = numbers(read_one::<BugOp>(disk, head));
     found == wanted && disk.store.reads() == before.saturating_add(reads)
 }
 
@@ -74,7 +75,7 @@ fn is_two(
     reads: u64,
 ) -> bool {
     let before = disk.store.reads();
-    let found = numbers(read_two(disk, &heads.0, &heads.1));
+    let found = numbers(read_two::<BugOp>(disk, &heads.0, &heads.1));
     found == wanted && disk.store.reads() == before.saturating_add(reads)
 }
 
@@ -172,7 +173,7 @@ fn a_pack_has_4096_operations_at_most(rt: HostRuntime) -> Result<(), Fail> {
 
 // Puts a commit above the first, whose pack's text has so many bytes by spaces behind it.
 fn put_wide(disk: &mut Disk, root: &Name, size: usize) -> Result<Name, Fail> {
-    let mut text = pack_text(disk, ANA_DIGITS, &[])?;
+    let mut text = pack_text(disk.alloc, ANA_DIGITS, &[])?;
     let rest = size.saturating_sub(text.len());
     text.extend_from_slice(&filled(disk.alloc, b' ', rest)?)?;
     let ops = put_object(disk, Kind::Blob, &text)?;
