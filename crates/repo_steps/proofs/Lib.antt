@@ -4,6 +4,7 @@ pub mod BugDoneLemmas
 pub mod ClearLemmas
 pub mod DamageLemmas
 pub mod DoneLemmas
+pub mod EffectLemmas
 pub mod HeadLemmas
 pub mod KeptLemmas
 pub mod LossLemmas

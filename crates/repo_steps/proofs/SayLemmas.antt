@@ -1,22 +1,34 @@
 -- What a bug says after an edit of it.
-use Rattle.std.proofs.Common.{◌≡◌, ◌||◌, ◌&&◌, ◌++◌, Bool, true, false, not, ℕ, List, [], ◌∷◌, Result, Ok, refl, sym, ◌∙◌, ap, subst}
-use Rattle.std.specs.Prelude.{filter}
+use Rattle.std.proofs.Common.{◌≡◌, ◌||◌, ◌&&◌, ◌++◌, Bool, true, false, not, ℕ, List, [], ◌∷◌, Option, Some, Result, Ok, refl, sym, ◌∙◌, ap, subst, cond, append_assoc, append-nil}
+use Rattle.std.specs.Prelude.{filter, flat_map, if◌then◌else◌}
+use Rattle.std.specs.BTreeMap.{is_at}
+use Rattle.std.specs.Option.{option_or}
 use Rattle.std.specs.Str.{bytes_eq}
+use Rattle.std.proofs.lemmas.Grind.{flat_map-append}
 use Rattle.std.proofs.lemmas.Map.Views.{any-filter_same}
+use Rattle.std.proofs.lemmas.Slice.Eq.{bytes_eq-Decides}
+use Rattle.gb_text.specs.declared.id.Id.{Id}
+use Rattle.op_kind.specs.declared.place.Common.{Common}
+use Rattle.op_kind.specs.declared.place.Pair.{Pair}
+use Rattle.op_kind.specs.declared.place.Place.{Place}
+use Rattle.bug_ops.specs.BugTable.{common_of_op}
 use Rattle.bug_ops.specs.Kind.{bug_kind}
 use Rattle.bug_ops.specs.Mentions.{is_among}
-use Rattle.bug_ops.specs.Snapshots.{row_after}
+use Rattle.bug_ops.specs.Snapshots.{by_bytes, row_after, same_id}
 use Rattle.bug_ops.specs.declared.op.BugOp.{BugOp}
 use Rattle.bug_ops.specs.declared.op.BugStatus.{BugStatus}
 use Rattle.bug_ops.specs.declared.snapshot.Snapshot.{Snapshot}
 use Rattle.bug_ops.proofs.LabelLaws.{label_change}
-use Rattle.snapshot.specs.LastMention.{IsBugList, IsLater, snapshot_of}
+use Rattle.snapshot.specs.LastMention.{IsBugList, IsLater, first_value, metadata_of, pairs_in, snapshot_of}
 use Rattle.snapshot.proofs.FoundLemmas.{same_text}
 use Rattle.snapshot.proofs.LabelLemmas.{order_has}
+use Rattle.snapshot.proofs.MetadataLemmas.{first_found}
 use Rattle.snapshot.proofs.StepLemmas.{more_is_step}
 use Rattle.repo_state.specs.declared.env.Env.{Env}
 use Rattle.repo_state.specs.declared.refusal.Refusal.{Refusal}
-use Rattle.repo_steps.specs.BugEdits.{edit_op, labels_op, named_off, named_on, same_status, status_op, title_op, unless_same, with_change}
+use Rattle.repo_steps.specs.BugEdits.{comment_op, edit_op, labels_op, metadata_op, named_off, named_on, noop_op, same_status, status_op, title_op, unless_same, with_change}
+use Rattle.repo_steps.specs.Effects.{KeepsAllElse}
+use Rattle.repo_steps.specs.declared.edit.BugEdit.{BugEdit}
 use Rattle.repo_steps.specs.declared.edit.BugEdit.TheVariants as kind
 
 -- ---- the operation that is added
@@ -38,13 +50,13 @@ status_is false made op is = added_is made op is
 -- ---- labels that are named
 
 -- the named labels that are off
-off_has : (on named : List (List ℕ)) (text : List ℕ) → is_among (named_off on named) text ≡ (not (is_among on text) && is_among named text)
+pub off_has : (on named : List (List ℕ)) (text : List ℕ) → is_among (named_off on named) text ≡ (not (is_among on text) && is_among named text)
 off_has on named text =
     order_has (filter (λ label. not (is_among on label)) named) text
     ∙ any-filter_same (λ u. bytes_eq u text) (λ label. not (is_among on label)) (not (is_among on text)) (λ k same. ap (λ (t : List ℕ). not (is_among on t)) (same_text k text same)) named
 
 -- and those that are on
-on_has : (on named : List (List ℕ)) (text : List ℕ) → is_among (named_on on named) text ≡ (is_among named text && is_among on text)
+pub on_has : (on named : List (List ℕ)) (text : List ℕ) → is_among (named_on on named) text ≡ (is_among named text && is_among on text)
 on_has on named text = any-filter_same (λ u. bytes_eq u text) (is_among named) (is_among named text) (λ k same. ap (is_among named) (same_text k text same)) on
 
 put_on : (was named : Bool) → (((not was && named) || was) && not false) ≡ (named || was)
@@ -59,23 +71,62 @@ taken_off true false = refl
 taken_off false true = refl
 taken_off false false = refl
 
+-- ---- metadata
+
+values_behind : (ps qs : List Pair) (key : List ℕ) → first_value (ps ++ qs) key ≡ option_or (first_value ps key) (first_value qs key)
+values_behind [] qs key = refl
+values_behind (p ∷ ps) qs key = by (is_at (by_bytes key) p.key) (values_behind ps qs key)
+  where
+    by : (b : Bool) → first_value (ps ++ qs) key ≡ option_or (first_value ps key) (first_value qs key)
+        → cond b (Some p.value) (first_value (ps ++ qs) key) ≡ option_or (cond b (Some p.value) (first_value ps key)) (first_value qs key)
+    by true rest = refl
+    by false rest = rest
+
+own_id : (id : Id) → same_id id id ≡ true
+own_id id = (bytes_eq-Decides id.bytes id.bytes).1 refl
+
+-- under each key what an operation more sets there, behind what was set
+set_behind : (first : Common) (later : List BugOp) (o : BugOp) (key : List ℕ)
+    → first_value (metadata_of first (later ++ o ∷ [])) key ≡ option_or (first_value (metadata_of first later) key) (first_value (pairs_in first.place.id o) key)
+set_behind first later o key =
+    let set = λ (ops : List BugOp). flat_map (pairs_in first.place.id) ops in
+    first_found (first.metadata ++ set (later ++ o ∷ [])) key
+    ∙ ap (λ (ps : List Pair). first_value (first.metadata ++ ps) key) (flat_map-append (pairs_in first.place.id) later (o ∷ []) ∙ ap (λ (ps : List Pair). set later ++ ps) (append-nil (pairs_in first.place.id o)))
+    ∙ ap (λ (ps : List Pair). first_value ps key) (sym (append_assoc first.metadata (set later) (pairs_in first.place.id o)))
+    ∙ values_behind (first.metadata ++ set later) (pairs_in first.place.id o) key
+    ∙ ap (λ (found : Option (List ℕ)). option_or found (first_value (pairs_in first.place.id o) key)) (sym (first_found (first.metadata ++ set later) key))
+
+-- the same of a bug to whose first operation a pair is set, wherever the operation that sets it stands
+pair_behind : (env : Env) (ops : List BugOp) (place : Place) → IsBugList ops → (key value other : List ℕ)
+    → first_value (snapshot_of (ops ++ bug_kind.placed place (metadata_op env (snapshot_of ops).row.id key value) ∷ [])).row.metadata other
+    ≡ option_or (first_value (snapshot_of ops).row.metadata other) (first_value (record { key = key; value = value } ∷ []) other)
+pair_behind env [] place bug key value other = absurd bug
+pair_behind env (o ∷ later) place bug key value other =
+    let id = (common_of_op o).place.id in
+    set_behind (common_of_op o) later (bug_kind.placed place (metadata_op env id key value)) other
+    ∙ ap (λ (b : Bool). option_or (first_value (metadata_of (common_of_op o) later) other) (first_value (if b then record { key = key; value = value } ∷ [] else []) other)) (own_id id)
+
 -- ---- after an edit
 
-module _ (env : Env) (ops : List BugOp) (op : BugOp) (bug : IsBugList ops) where
+module _ (env : Env) (ops : List BugOp) (op : BugOp) (bug : IsBugList ops) (place : Place) where
   abbrev before : Snapshot
   before = snapshot_of ops
 
+  -- what the bug says by the operation too, wherever that then stands
+  abbrev after : Snapshot
+  after = snapshot_of (ops ++ bug_kind.placed place op ∷ [])
+
   -- what is so of the step that an operation makes is so of what the bug says with it
-  stepped : (P : Snapshot → Type 0) (made : BugOp) → IsLater made → made ≡ op → P (bug_kind.state_after before made) → P (snapshot_of (ops ++ op ∷ []))
-  stepped P made later same h = subst (λ (o : BugOp). P (snapshot_of (ops ++ o ∷ []))) same (subst P (more_is_step ops made bug later) h)
+  stepped : (P : Snapshot → Type 0) (made : BugOp) → IsLater (bug_kind.placed place made) → made ≡ op → P (bug_kind.state_after before (bug_kind.placed place made)) → P after
+  stepped P made later same h = subst (λ (o : BugOp). P (snapshot_of (ops ++ bug_kind.placed place o ∷ []))) same (subst P (more_is_step ops (bug_kind.placed place made) bug later) h)
 
   -- the bug has the title
-  pub title_said : (title : List ℕ) → edit_op env (kind.Title title) before ≡ Ok op → (snapshot_of (ops ++ op ∷ [])).row.title ≡ title
+  pub title_said : (title : List ℕ) → edit_op env (kind.Title title) before ≡ Ok op → after.row.title ≡ title
   unfolding row_after
   title_said title is = let made = title_op env title before.row.title in stepped (λ (s : Snapshot). s.row.title ≡ title) made refl (added_is made op is) refl
 
   -- the status
-  pub status_said : (status : BugStatus) → edit_op env (kind.Status status) before ≡ Ok op → (snapshot_of (ops ++ op ∷ [])).row.status ≡ status
+  pub status_said : (status : BugStatus) → edit_op env (kind.Status status) before ≡ Ok op → after.row.status ≡ status
   unfolding row_after
   status_said status is =
       let made = status_op env status in
@@ -83,7 +134,7 @@ module _ (env : Env) (ops : List BugOp) (op : BugOp) (bug : IsBugList ops) where
 
   -- the labels of before, and those that were named
   pub labels_put_on : (labels : List (List ℕ)) → edit_op env (kind.AddLabels labels) before ≡ Ok op → (label : List ℕ)
-      → is_among (snapshot_of (ops ++ op ∷ [])).row.labels label ≡ (is_among labels label || is_among before.row.labels label)
+      → is_among after.row.labels label ≡ (is_among labels label || is_among before.row.labels label)
   unfolding row_after
   labels_put_on labels is label =
       let on = before.row.labels in
@@ -93,10 +144,47 @@ module _ (env : Env) (ops : List BugOp) (op : BugOp) (bug : IsBugList ops) where
 
   -- the labels of before but for those that were named
   pub labels_taken_off : (labels : List (List ℕ)) → edit_op env (kind.RemoveLabels labels) before ≡ Ok op → (label : List ℕ)
-      → is_among (snapshot_of (ops ++ op ∷ [])).row.labels label ≡ (is_among before.row.labels label && not (is_among labels label))
+      → is_among after.row.labels label ≡ (is_among before.row.labels label && not (is_among labels label))
   unfolding row_after
   labels_taken_off labels is label =
       let on = before.row.labels in
       let made = labels_op env [] (named_on on labels) in
       stepped (λ (s : Snapshot). is_among s.row.labels label ≡ (is_among on label && not (is_among labels label))) made refl (change_is (named_on on labels) made op is)
       (label_change on [] (named_on on labels) label ∙ ap (λ (b : Bool). (false || is_among on label) && not b) (on_has on labels label) ∙ taken_off (is_among on label) (is_among labels label))
+
+  -- the comments of before, and the message behind them
+  pub comment_said : (message : List ℕ) → edit_op env (kind.Comment message) before ≡ Ok op
+      → after.list ≡ before.list ++ record { id = place.id; author = place.author; time = env.now; message = message } ∷ []
+  unfolding row_after
+  comment_said message is =
+      let made = comment_op env message in
+      stepped (λ (s : Snapshot). s.list ≡ before.list ++ record { id = place.id; author = place.author; time = env.now; message = message } ∷ []) made refl (added_is made op is) refl
+
+  -- under each key what stood there, and else what the edit sets
+  pub metadata_said : (key value : List ℕ) → edit_op env (kind.Metadata key value) before ≡ Ok op → (other : List ℕ)
+      → first_value after.row.metadata other ≡ option_or (first_value before.row.metadata other) (first_value (record { key = key; value = value } ∷ []) other)
+  metadata_said key value is other =
+      subst (λ (o : BugOp). first_value (snapshot_of (ops ++ bug_kind.placed place o ∷ [])).row.metadata other
+      ≡ option_or (first_value before.row.metadata other) (first_value (record { key = key; value = value } ∷ []) other))
+      (added_is (metadata_op env before.row.id key value) op is) (pair_behind env ops place bug key value other)
+
+  -- all else is as it was
+  pub else_kept : (edit : BugEdit) → edit_op env edit before ≡ Ok op → KeepsAllElse edit before after
+  unfolding row_after
+  else_kept (kind.Comment message) is = let made = comment_op env message in stepped (KeepsAllElse (kind.Comment message) before) made refl (added_is made op is) refl
+  else_kept kind.Noop is = let made = noop_op env in stepped (KeepsAllElse kind.Noop before) made refl (added_is made op is) refl
+  else_kept (kind.Title title) is = let made = title_op env title before.row.title in stepped (KeepsAllElse (kind.Title title) before) made refl (added_is made op is) refl
+  else_kept (kind.Status status) is =
+      let made = status_op env status in
+      stepped (KeepsAllElse (kind.Status status) before) made refl (status_is (same_status before.row.status status) made op is) refl
+  else_kept (kind.AddLabels labels) is =
+      let changed = named_off before.row.labels labels in
+      let made = labels_op env changed [] in
+      stepped (KeepsAllElse (kind.AddLabels labels) before) made refl (change_is changed made op is) refl
+  else_kept (kind.RemoveLabels labels) is =
+      let changed = named_on before.row.labels labels in
+      let made = labels_op env [] changed in
+      stepped (KeepsAllElse (kind.RemoveLabels labels) before) made refl (change_is changed made op is) refl
+  else_kept (kind.Metadata key value) is =
+      let made = metadata_op env before.row.id key value in
+      stepped (KeepsAllElse (kind.Metadata key value) before) made refl (added_is made op is) refl

@@ -4,6 +4,7 @@ pub mod BugEdits
 pub mod Checks
 pub mod Doing
 pub mod Doings
+pub mod Effects
 pub mod Kept
 pub mod Kinds
 pub mod NewOps

@@ -1,11 +1,17 @@
 //! Laws of the commands that edit, and of the kinds of write, each the contract of a function that
 //! does nothing.
-ghost use Rattle.std.specs.Prelude.{◌≡◌, ◌≤◌, [], ◌∷◌, ◌++◌, ◌||◌, ◌&&◌, false, true, not, List, ℕ, Result, Ok, reverse};
+ghost use Rattle.std.specs.Prelude.{◌≡◌, ◌≤◌, [], ◌∷◌, ◌++◌, ◌||◌, ◌&&◌, false, true, not, List, ℕ, Result, Ok, Err, reverse};
+ghost use Rattle.std.specs.Option.{option_or};
+ghost use Rattle.op_kind.specs.declared.place.Place.{Place as PlaceValue};
+ghost use Rattle.bug_ops.specs.Kind.{bug_kind};
 ghost use Rattle.bug_ops.specs.Mentions.{is_among};
 ghost use Rattle.bug_ops.specs.declared.op.BugOp.{BugOp as OpValue};
 ghost use Rattle.bug_ops.specs.declared.op.BugStatus.{BugStatus as StatusValue};
-ghost use Rattle.snapshot.specs.LastMention.{IsBugList, snapshot_of};
+ghost use Rattle.bug_ops.specs.declared.snapshot.Snapshot.{Snapshot as SnapshotValue};
+ghost use Rattle.snapshot.specs.LastMention.{IsBugList, first_value, snapshot_of};
 ghost use Rattle.repo_steps.specs.BugEdits.{edit_op};
+ghost use Rattle.repo_steps.specs.Effects.{ChangesNothing, KeepsAllElse, no_change};
+ghost use Rattle.repo_steps.specs.declared.edit.BugEdit.{BugEdit as BugEditValue};
 ghost use Rattle.repo_steps.specs.declared.edit.BugEdit.TheVariants as kind;
 ghost use Rattle.gb_text.specs.Digits.{IsId};
 ghost use Rattle.gb_text.specs.Folder.{is_rooted, joined};
@@ -53,26 +59,64 @@ pub fn done_edits_make_their_step()
         → Steps env command (files_of old) (files_of new) id }
 {}
 
-/// After an edit of it a bug says what the words of the edit say: by all of its operations and the one
-/// that the edit adds it has the title, or the status; each label that was on or was named is on, or
-/// each that was on and was not named.
+/// After an edit of it a bug says what the words of the edit say, by all of its operations and the one
+/// that the edit adds, wherever that then stands: the bug has the title, or the status; each label
+/// that was on or was named is on, or each that was on and was not named; the message is its last
+/// comment; or under each key stands what stood there, and under one with nothing what the edit sets.
 pub fn edits_say_what_they_change()
     ensures title { (env : EnvValue) (ops : List OpValue) (op : OpValue) → IsBugList ops
-        → (title : List ℕ) → edit_op env (kind.Title title) (snapshot_of ops) ≡ Ok op
-        → (snapshot_of (ops ++ op ∷ [])).row.title ≡ title }
+        → (place : PlaceValue) (title : List ℕ)
+        → edit_op env (kind.Title title) (snapshot_of ops) ≡ Ok op
+        → (snapshot_of (ops ++ bug_kind.placed place op ∷ [])).row.title ≡ title }
     ensures status { (env : EnvValue) (ops : List OpValue) (op : OpValue) → IsBugList ops
-        → (status : StatusValue) → edit_op env (kind.Status status) (snapshot_of ops) ≡ Ok op
-        → (snapshot_of (ops ++ op ∷ [])).row.status ≡ status }
+        → (place : PlaceValue) (status : StatusValue)
+        → edit_op env (kind.Status status) (snapshot_of ops) ≡ Ok op
+        → (snapshot_of (ops ++ bug_kind.placed place op ∷ [])).row.status ≡ status }
     ensures added { (env : EnvValue) (ops : List OpValue) (op : OpValue) → IsBugList ops
-        → (labels : List (List ℕ))
+        → (place : PlaceValue) (labels : List (List ℕ))
         → edit_op env (kind.AddLabels labels) (snapshot_of ops) ≡ Ok op → (label : List ℕ)
-        → is_among (snapshot_of (ops ++ op ∷ [])).row.labels label
+        → is_among (snapshot_of (ops ++ bug_kind.placed place op ∷ [])).row.labels label
         ≡ (is_among labels label || is_among (snapshot_of ops).row.labels label) }
     ensures removed { (env : EnvValue) (ops : List OpValue) (op : OpValue) → IsBugList ops
-        → (labels : List (List ℕ))
+        → (place : PlaceValue) (labels : List (List ℕ))
         → edit_op env (kind.RemoveLabels labels) (snapshot_of ops) ≡ Ok op → (label : List ℕ)
-        → is_among (snapshot_of (ops ++ op ∷ [])).row.labels label
+        → is_among (snapshot_of (ops ++ bug_kind.placed place op ∷ [])).row.labels label
         ≡ (is_among (snapshot_of ops).row.labels label && not (is_among labels label)) }
+    ensures comment { (env : EnvValue) (ops : List OpValue) (op : OpValue) → IsBugList ops
+        → (place : PlaceValue) (message : List ℕ)
+        → edit_op env (kind.Comment message) (snapshot_of ops) ≡ Ok op
+        → (snapshot_of (ops ++ bug_kind.placed place op ∷ [])).list ≡ (snapshot_of ops).list ++ record {
+          id = place.id;
+          author = place.author;
+          time = env.now;
+          message = message;
+        } ∷ [] }
+    ensures metadata { (env : EnvValue) (ops : List OpValue) (op : OpValue) → IsBugList ops
+        → (place : PlaceValue) (key value : List ℕ)
+        → edit_op env (kind.Metadata key value) (snapshot_of ops) ≡ Ok op → (other : List ℕ)
+        → first_value (snapshot_of (ops ++ bug_kind.placed place op ∷ [])).row.metadata other
+        ≡ option_or (first_value (snapshot_of ops).row.metadata other)
+        (first_value (record { key = key; value = value } ∷ []) other) }
+{}
+
+/// What an edit does not speak of stays as it was: after a title the bug has the labels, the comments
+/// and all else that it had, and so with each edit. Only who acted, and the clock and the time of the
+/// last operation, follow every edit.
+pub fn edits_keep_all_else()
+    ensures { (env : EnvValue) (ops : List OpValue) (op : OpValue) → IsBugList ops
+        → (place : PlaceValue) (edit : BugEditValue) → edit_op env edit (snapshot_of ops) ≡ Ok op
+        → KeepsAllElse edit (snapshot_of ops)
+        (snapshot_of (ops ++ bug_kind.placed place op ∷ [])) }
+{}
+
+/// By what a bug says its edit is refused exactly where it would change nothing: the bug has the
+/// status, each label to put on is on, or no label to take off is.
+pub fn edits_that_change_nothing_are_refused()
+    ensures refused { (env : EnvValue) (edit : BugEditValue) (bug : SnapshotValue)
+        → ChangesNothing edit bug → edit_op env edit bug ≡ Err (no_change edit) }
+    ensures only { (env : EnvValue) (edit : BugEditValue) (bug : SnapshotValue)
+        (refusal : RefusalValue) → edit_op env edit bug ≡ Err refusal
+        → ChangesNothing edit bug × (refusal ≡ no_change edit) }
 {}
 
 /// What is written by kinds keeps each part of a folder sound at each moment, wherever it stops. So it
