@@ -1,6 +1,6 @@
 //! What is copied, and what is refused.
 use crate::sides::Sides;
-use fixtures::{commit_content, put_commit, put_object, put_under};
+use fixtures::{Disk, commit_content, put_commit, put_object, put_under};
 use gb_text::Name;
 use git_object::{Kind, frame_text};
 use remote_copy::CopyFault;
@@ -96,19 +96,27 @@ fn what_the_source_lacks_is_missing(rt: HostRuntime) -> Result<(), Fail> {
     Ok(())
 }
 
+// Puts a text without its last byte under a name.
+fn put_cut(disk: &mut Disk, name: &Name, text: &[u8]) -> Result<(), Fail> {
+    let (_, front) = text.split_last().ok_or("a byte")?;
+    put_under(disk, name, front)
+}
+
+// Puts a commit without parents, but for the last byte of its text, under its name.
+fn cut_commit(disk: &mut Disk, tree: &Name, name: &Name) -> Result<(), Fail> {
+    let content = commit_content(disk.alloc, tree, &[])?;
+    let text = frame_text(disk.alloc, Kind::Commit, &content)?;
+    put_cut(disk, name, text.as_slice())
+}
+
 #[test]
 fn a_head_without_its_last_byte_is_damaged(rt: HostRuntime) -> Result<(), Fail> {
     let mut sides = Sides::new(rt.alloc())?;
     let tree = sides.tree(&[])?;
     let head = put_commit(&mut sides.disk, &tree, &[])?;
-    let content = commit_content(sides.disk.alloc, &tree, &[])?;
-    let text = frame_text(sides.disk.alloc, Kind::Commit, &content)?;
-    let Some((_, front)) = text.as_slice().split_last() else {
-        return Ok(());
-    };
-    put_under(&mut sides.disk, &head, front)?;
+    cut_commit(&mut sides.disk, &tree, &head)?;
     assert_eq!(rt; sides.copy(&head, false), Err(CopyFault::Damaged(head)));
-    put_under(&mut sides.disk, &head, text.as_slice())?;
+    put_commit(&mut sides.disk, &tree, &[])?;
     assert_eq!(rt; sides.copy(&head, false), Ok(2));
     Ok(())
 }

@@ -1,6 +1,5 @@
 //! A source and a target in one store in memory.
-use fixtures::{Disk, push_entry, put_object};
-use gb_store::Store;
+use fixtures::{Disk, push_entry, put_object, remove_object};
 use gb_text::{Folder, Name};
 use git_object::Kind;
 use object_store::path_of;
@@ -53,9 +52,7 @@ impl Sides {
 
     /// Removes what stands under a name in the source.
     pub fn remove(&mut self, name: &Name) -> Result<(), Fail> {
-        let path = path_of(self.disk.alloc, &self.disk.folder, name)?;
-        self.disk.store.remove(self.disk.alloc, path.as_str())?;
-        Ok(())
+        remove_object(&mut self.disk, name)
     }
 
     /// Puts a tree with these entries: mode, name, object.
