@@ -1,6 +1,7 @@
 -- What the writes of a copy keep of the objects of the target.
-use Rattle.std.proofs.Common.{◌≡◌, ◌⊎◌, ◌↔◌, ◌≤◌, inl, inr, length, ℕ, Bool, true, false, cond, List, [], ◌∷◌, ◌++◌, Option, Some, None, refl, sym, ◌∙◌, ap, subst}
+use Rattle.std.proofs.Common.{◌≡◌, ◌⊎◌, ◌↔◌, ◌≤◌, inl, inr, length, ℕ, Bool, true, false, cond, List, [], ◌∷◌, ◌++◌, All, Option, Some, None, refl, sym, ◌∙◌, ap, subst}
 use Rattle.std.specs.Str.{bytes_eq}
+use Rattle.std.proofs.lemmas.List.Elements.{All-append, All-cons, All-head, All-nil, All-tail}
 use Rattle.std.proofs.lemmas.Option.{same_Some}
 use Rattle.std.proofs.lemmas.Slice.Eq.{bytes_eq-Decides}
 use Rattle.gb_text.specs.declared.id.Name.{Name}
@@ -25,7 +26,7 @@ use Rattle.object_store.proofs.GrowthLemmas.{object_stays}
 use Rattle.object_store.proofs.PathLemmas.{path_name}
 use Rattle.object_batch.specs.Needs.{IsHeldAs, IsWhole, Leads, Names, NamesNext, Reference}
 use Rattle.object_batch.proofs.LeadLemmas.{Leads-then}
-use Rattle.remote_copy.specs.Closure.{IsClosed, IsFollowed, IsInClosure, IsLeft, IsReached, StandsAlike, commit_named, first, need, next, then}
+use Rattle.remote_copy.specs.Closure.{HasWholeTrees, IsClosed, IsFollowed, IsInClosure, IsLeft, IsReached, LeadsPast, StandsAlike, commit_named, first, need, next, then}
 use Rattle.remote_copy.specs.Copies.{IsCopied}
 use Rattle.remote_copy.specs.Writes.{PutsCopy}
 use Rattle.remote_copy.proofs.TextLemmas.{names_next, next_names, object_at-of_text, object_at-text, text_at-is, text_at-name, text_at-there}
@@ -130,6 +131,14 @@ module _ (closed : Bool) (source target : List ℕ) (entry : Objects) (head : Na
     ];
   }
 
+  pub keeps_trees : HasWholeTrees old → HasWholeTrees new
+  keeps_trees whole = record {
+    needs = λ name object is tree low kind names. elim (held_now name object is) [
+      | inl before ↦ held_stays low kind (whole.needs name object before tree low kind names)
+      | inr put ↦ held_stays low kind (p.needs low kind (subst (λ (o : Object). Names o low kind) (sym put.1) names))
+    ];
+  }
+
   -- ---- closed folders
 
   module _ (was_closed : IsClosed old) where
@@ -191,6 +200,34 @@ module _ (closed : Bool) (source target : List ℕ) (entry : Objects) (head : Na
           | inl before ↦ led name (record { object = held.object; is = before; is_kind = held.is_kind }) ([], refl)
           | inr new_one ↦ put new_one.0 (ap kind_of new_one.1 ∙ held.is_kind)
         ]
+
+-- ---- the part that is followed
+
+module _ (closed : Bool) (source target : Objects) (head : Name) where
+  abbrev Unleft : Reference → Type 0
+  Unleft on = IsLeft closed target on → ⊥
+
+  pub part_path : (one : Reference) → IsFollowed closed source target head one → LeadsPast closed source target (commit_named head) one
+  part_path one (first e unleft) = record {
+    path = [];
+    leads = sym e;
+    unleft = All-cons Unleft (commit_named head) [] (subst Unleft e unleft) (All-nil Unleft);
+  }
+  part_path one (next {high = high} f names unleft) =
+      let above = part_path high f in
+      record {
+        path = above.path ++ one ∷ [];
+        leads = Leads-then source (commit_named head) above.path high (one ∷ []) one above.leads (names, refl);
+        unleft = All-append Unleft (commit_named head ∷ above.path) (one ∷ []) above.unleft (All-cons Unleft one [] unleft (All-nil Unleft));
+      }
+
+  part_on : (path : List Reference) (from to : Reference) → IsFollowed closed source target head from → Leads source from path to → All Unleft path → IsFollowed closed source target head to
+  part_on [] from to f leads unleft = subst (IsFollowed closed source target head) leads f
+  part_on (on ∷ path) from to f (names, leads) unleft = part_on path on to (next f names (All-head Unleft on path unleft)) leads (All-tail Unleft on path unleft)
+
+  pub path_part : (one : Reference) → LeadsPast closed source target (commit_named head) one → IsFollowed closed source target head one
+  path_part one p =
+      part_on p.path (commit_named head) one (first refl (All-head Unleft (commit_named head) p.path p.unleft)) p.leads (All-tail Unleft (commit_named head) p.path p.unleft)
 
 -- ---- whole copies
 

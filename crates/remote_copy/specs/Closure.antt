@@ -1,12 +1,12 @@
 -- What a copy follows of the closure of a head.
-use Rattle.std.specs.Prelude.{◌≡◌, Bool, IsTrue, ℕ, List, Some}
+use Rattle.std.specs.Prelude.{◌≡◌, Bool, IsTrue, ℕ, List, ◌∷◌, All, Some}
 use Rattle.gb_text.specs.declared.id.Name.{Name}
 use Rattle.git_object.specs.declared.frame.Kind.TheVariants as kinds
 use Rattle.git_object.specs.declared.object.Object.{Object}
 use Rattle.git_object.specs.Grammar.{kind_of}
 use Rattle.git_object.specs.Reading.{object_of}
-use Rattle.object_store.specs.Held.{Objects, text_at}
-use Rattle.object_batch.specs.Needs.{IsHeldAs, LeadsTo, Names, NamesNext, Reference}
+use Rattle.object_store.specs.Held.{Objects, object_at, text_at}
+use Rattle.object_batch.specs.Needs.{AllHeld, IsHeldAs, Leads, LeadsTo, Names, NamesNext, Reference}
 
 -- a name, as that of a commit
 abbrev pub commit_named : Name → Reference
@@ -20,6 +20,10 @@ IsInClosure objects head one = LeadsTo objects (commit_named head) one
 pub record IsClosed (objects : Objects) : Type 0 where
   pub closed : (name : Name) → IsHeldAs objects name kinds.Commit → (one : Reference) → IsInClosure objects name one → IsHeldAs objects one.name one.kind
 
+-- all that each held tree names is held, as of the kinds by which it names it; nothing is said of commits
+pub record HasWholeTrees (objects : Objects) : Type 0 where
+  pub needs : (name : Name) (object : Object) → object_at objects name ≡ Some object → kind_of object ≡ kinds.Tree → AllHeld objects object
+
 -- a commit that is not followed: where the target is said to be closed, one that it holds
 pub record IsLeft (closed : Bool) (target : Objects) (one : Reference) : Type 0 where
   pub is_closed : IsTrue closed
@@ -31,6 +35,12 @@ pub record IsLeft (closed : Bool) (target : Objects) (one : Reference) : Type 0 
 pub data IsFollowed (closed : Bool) (source target : Objects) (head : Name) : Reference → Type 0 where
   first : {one : Reference} → one ≡ commit_named head → (IsLeft closed target one → ⊥) → IsFollowed closed source target head one
   next : {high low : Reference} → IsFollowed closed source target head high → NamesNext source high low → (IsLeft closed target low → ⊥) → IsFollowed closed source target head low
+
+-- one leads to another by a path on which nothing is left, neither end either
+pub record LeadsPast (closed : Bool) (source target : Objects) (one two : Reference) : Type 0 where
+  pub path : List Reference
+  pub leads : Leads source one path two
+  pub unleft : All (λ (on : Reference). IsLeft closed target on → ⊥) (one ∷ path)
 
 -- what a copy asks for: the head, and what an object of the part names
 pub data IsAsked (closed : Bool) (source target : Objects) (head : Name) : Reference → Type 0 where

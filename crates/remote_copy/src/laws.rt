@@ -1,5 +1,5 @@
 //! Laws of copies, each the contract of a function that does nothing.
-ghost use Rattle.std.specs.Prelude.{◌≡◌, ◌↔◌, Bool, true, false, ℕ, List};
+ghost use Rattle.std.specs.Prelude.{◌≡◌, ◌↔◌, ◌^◌, Bool, true, false, ℕ, List};
 ghost use Rattle.gb_text.specs.declared.id.Name.{Name};
 ghost use Rattle.gb_store.specs.Files.{History};
 ghost use Rattle.gb_store.specs.Moments.{AllMoments, Wrote};
@@ -8,9 +8,12 @@ ghost use Rattle.object_store.specs.Growth.{OnlyGrew};
 ghost use Rattle.object_store.specs.Held.{Objects, objects_after, objects_in};
 ghost use Rattle.object_store.specs.Puts.{PutsObject};
 ghost use Rattle.object_batch.specs.Needs.{IsHeldAs, IsWhole, Reference};
-ghost use Rattle.remote_copy.specs.Closure.{IsClosed, IsInClosure, StandsAlike};
+ghost use Rattle.remote_copy.specs.Closure.{HasWholeTrees, IsClosed, IsFollowed, IsInClosure, LeadsPast, StandsAlike, commit_named};
 ghost use Rattle.remote_copy.specs.Copies.{IsCopied};
 ghost use Rattle.remote_copy.specs.Writes.{PutsCopy};
+
+use crate::open::MOST_TREES;
+use crate::work::{MOST_COMMITS, MOST_OTHERS};
 
 /// What a copy writes are objects, each where nothing stands.
 pub fn copies_put_objects()
@@ -26,6 +29,15 @@ pub fn whole_folders_stay_whole()
         (old new : History) → IsWhole (objects_after old target)
         → Wrote (PutsCopy closed source target entry head) old new
         → AllMoments (λ files. IsWhole (objects_in files target)) old new }
+{}
+
+/// Where all that held trees name was held, it is held at each moment of a copy, whatever the copy's
+/// answer, and whatever the target's commits lack.
+pub fn whole_trees_stay_whole()
+    ensures { (closed : Bool) (source target : List ℕ) (entry : Objects) (head : Name)
+        (old new : History) → HasWholeTrees (objects_after old target)
+        → Wrote (PutsCopy closed source target entry head) old new
+        → AllMoments (λ files. HasWholeTrees (objects_in files target)) old new }
 {}
 
 /// Where the closure of each held commit was held, it is held at each moment of a copy, whatever the
@@ -62,4 +74,19 @@ pub fn heads_that_stand_are_not_copied()
     ensures { (source target : List ℕ) (entry : Objects) (head : Name) (old new : History)
         → IsHeldAs entry head Commit → Wrote (PutsCopy true source target entry head) old new
         → new ≡ old }
+{}
+
+/// The part that is followed is what the head leads to by a path on which no commit is left.
+pub fn the_part_is_what_paths_lead_to()
+    ensures { (closed : Bool) (source target : Objects) (head : Name) (one : Reference)
+        → IsFollowed closed source target head one
+        ↔ LeadsPast closed source target (commit_named head) one }
+{}
+
+/// A copy follows at most 2^16 commits and 2^20 other objects, and at most 16 trees below a commit's
+/// tree, one below the other.
+pub fn limits_of_copies_are_known()
+    ensures commits { MOST_COMMITS ≡ 2 ^ 16 }
+    ensures others { MOST_OTHERS ≡ 2 ^ 20 }
+    ensures trees { MOST_TREES ≡ 16 }
 {}
