@@ -1,4 +1,5 @@
 pub mod AnswerLemmas
 pub mod LawLemmas
+pub mod PeopleLemmas
 pub mod ShowLemmas
 pub mod ShownLemmas

@@ -21,12 +21,13 @@ use Rattle.repo_view.specs.Shown.{ShowAnswers}
 use Rattle.repo_state.proofs.BugListLemmas.{entity_is_bug_list}
 
 module _ (files : Files) (folder word : List ℕ) where
-  -- where the people are not told, the bug isn't
-  pub no_people : (s : Stop) → Reads (ArePeople files folder) (HasBadPerson files folder) (Err s) → ShowAnswers files folder word (Err s)
-  no_people stop.Memory told = tt
-  no_people stop.Disk told = tt
-  no_people (stop.Refused (refusal.Damaged path)) told = inr told
-  no_people (stop.Refused _) told = absurd told
+  -- where the people are not told, a bug with which nothing is wrong isn't
+  pub no_people : (bug : HeadEntry) (entity : Entity BugOp) (s : Stop) → FindsBug files folder word bug → IsBug files folder bug entity
+      → Reads (ArePeople files folder) (HasBadPerson files folder) (Err s) → ShowAnswers files folder word (Err s)
+  no_people bug entity stop.Memory finds is told = tt
+  no_people bug entity stop.Disk finds is told = tt
+  no_people bug entity (stop.Refused (refusal.Damaged path)) finds is told = inr (bug, finds, entity, is, told)
+  no_people bug entity (stop.Refused _) finds is told = absurd told
 
   -- the text of the operations of a bug's packs is the bug as text
   pub bug_shown : (bug : HeadEntry) (entity : Entity BugOp) (people : List Person) (text : List ℕ) → FindsBug files folder word bug → IsBug files folder bug entity

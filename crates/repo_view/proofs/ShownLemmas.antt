@@ -1,5 +1,5 @@
 -- What is shown is determined by the operation commits and the names of their authors; and in a sound folder nothing of it is damaged.
-use Rattle.std.proofs.Common.{◌≡◌, ℕ, inl, inr, Bool, true, false, not, List, [], ◌∷◌, ◌++◌, map, filter, flat_map, filter_map, Ok, Err, refl, sym, ◌∙◌, ap, subst, arith}
+use Rattle.std.proofs.Common.{◌≡◌, ℕ, inl, inr, Bool, true, false, not, List, [], ◌∷◌, ◌++◌, map, filter, flat_map, filter_map, Some, None, Ok, Err, refl, sym, ◌∙◌, ap, subst, arith}
 use Rattle.std.specs.Prelude.{codes, if◌then◌else◌}
 use Rattle.std.specs.List.{AllByRecursion}
 use Rattle.gb_text.specs.declared.id.Id.{Id}
@@ -19,16 +19,19 @@ use Rattle.dag_entity.proofs.LawOrders.{one_list}
 use Rattle.snapshot.specs.LastMention.{IsBugList, actors_of, author_of, commenter_in, comments_of, each_once, participants_of, row_of, snapshot_of}
 use Rattle.render.specs.Lines.{name_among, told_line}
 use Rattle.render.specs.Show.{comment_lines, person_line, person_lines, show_text_of}
+use Rattle.render.specs.Users.{users_text_of}
 use Rattle.repo_state.specs.Answers.{HasBadPerson}
 use Rattle.repo_state.specs.Bugs.{AreLocal, FindsBug}
 use Rattle.repo_state.specs.Sound.{IsSound, IsSoundIdentity}
 use Rattle.repo_state.specs.Sound as parts
+use Rattle.repo_state.specs.declared.refusal.Refusal.{Refusal}
 use Rattle.repo_state.specs.declared.refusal.Refusal.TheVariants as refusal
 use Rattle.repo_state.specs.declared.refusal.Stop.TheVariants as stop
 use Rattle.repo_state.specs.declared.side.HeadEntry.{HeadEntry}
-use Rattle.repo_state.proofs.BugLemmas.{bug_no_fault, one_bug}
+use Rattle.repo_state.proofs.BugLemmas.{bug_no_fault, bug_not_damaged, one_bug}
 use Rattle.repo_state.proofs.UndamagedLemmas.{no_bad_found}
 use Rattle.repo_view.specs.Shown.{AgreeOnAuthors, HaveSameCommits, IsShown, ShowAnswers, UsersAnswers}
+use Rattle.repo_view.proofs.PeopleLemmas.{no_bad_among, one_people, one_user, user_not_bad}
 
 -- ---- lists
 
@@ -136,6 +139,61 @@ shown_no_fault files folder word text bug authors fault shown finds locals holds
     let is : IsShown files folder bug text = subst (λ (b : HeadEntry). IsShown files folder b text) (one_bug files folder word shown.0 bug shown.1 finds) shown.2 in
     bug_no_fault files folder bug is.entity is.is_bug (record { authors = authors; locals = locals; fault = fault; holds = holds })
 
+-- a bug that is shown is not refused
+pub show_not_refused : (files : Files) (folder word text : List ℕ) (refused : Refusal) → ShowAnswers files folder word (Ok text) → ShowAnswers files folder word (Err (stop.Refused refused)) → ⊥
+show_not_refused files folder word text refusal.NotFound shown h = let none : Some (shown.0).id ≡ None = sym shown.1.found ∙ h in cc (none)
+show_not_refused files folder word text (refusal.Damaged path) shown (inl h) = bug_not_damaged files folder word shown.0 shown.2.entity h.0 shown.1 shown.2.is_bug h.1 h.3
+show_not_refused files folder word text (refusal.Damaged path) shown (inr (bug, finds, entity, is, bad)) = no_bad_among files folder path shown.2.people shown.2.are_people bad
+show_not_refused files folder word text refusal.NoUser shown h = absurd h
+show_not_refused files folder word text (refusal.BadText place) shown h = absurd h
+show_not_refused files folder word text refusal.NoLabelChange shown h = absurd h
+show_not_refused files folder word text refusal.SameStatus shown h = absurd h
+show_not_refused files folder word text (refusal.ClockFull name) shown h = absurd h
+show_not_refused files folder word text (refusal.RepeatedOperation other) shown h = absurd h
+show_not_refused files folder word text (refusal.EntityExists other) shown h = absurd h
+show_not_refused files folder word text (refusal.NameTaken name) shown h = absurd h
+show_not_refused files folder word text (refusal.TooLarge count) shown h = absurd h
+show_not_refused files folder word text (refusal.SomeRefused count) shown h = absurd h
+show_not_refused files folder word text refusal.BadFolder shown h = absurd h
+
+-- nor are people that are shown
+pub users_not_refused : (files : Files) (folder text : List ℕ) (refused : Refusal) → UsersAnswers files folder (Ok text) → UsersAnswers files folder (Err (stop.Refused refused)) → ⊥
+users_not_refused files folder text (refusal.Damaged path) shown (inl bad) = no_bad_among files folder path shown.0 shown.1 bad
+users_not_refused files folder text (refusal.Damaged path) shown (inr (people, are, bad)) = user_not_bad files folder path shown.2 shown.3 bad
+users_not_refused files folder text refusal.NotFound shown h = absurd h
+users_not_refused files folder text refusal.NoUser shown h = absurd h
+users_not_refused files folder text (refusal.BadText place) shown h = absurd h
+users_not_refused files folder text refusal.NoLabelChange shown h = absurd h
+users_not_refused files folder text refusal.SameStatus shown h = absurd h
+users_not_refused files folder text (refusal.ClockFull name) shown h = absurd h
+users_not_refused files folder text (refusal.RepeatedOperation other) shown h = absurd h
+users_not_refused files folder text (refusal.EntityExists other) shown h = absurd h
+users_not_refused files folder text (refusal.NameTaken name) shown h = absurd h
+users_not_refused files folder text (refusal.TooLarge count) shown h = absurd h
+users_not_refused files folder text (refusal.SomeRefused count) shown h = absurd h
+users_not_refused files folder text refusal.BadFolder shown h = absurd h
+
+-- a word has one text
+pub one_show : (files : Files) (folder word one two : List ℕ) → ShowAnswers files folder word (Ok one) → ShowAnswers files folder word (Ok two) → one ≡ two
+one_show files folder word one two first second =
+    let bugs = one_bug files folder word second.0 first.0 second.1 first.1 in
+    let other : IsShown files folder first.0 two = subst (λ (b : HeadEntry). IsShown files folder b two) bugs second.2 in
+    let objects = objects_in files folder in
+    let heads = (first.0).name ∷ [] in
+    let ops = one_list bug_kind objects objects heads heads first.2.ops other.ops (λ placed. (λ x. x, λ x. x)) first.2.are other.are in
+    let people = one_people files folder first.2.people other.people first.2.are_people other.are_people in
+    first.2.is
+    ∙ ap (λ (list : List BugOp). show_text_of (snapshot_of list) first.2.people) ops
+    ∙ ap (λ (list : List Person). show_text_of (snapshot_of other.ops) list) people
+    ∙ sym other.is
+
+-- and a folder's people have one
+pub one_users : (files : Files) (folder one two : List ℕ) → UsersAnswers files folder (Ok one) → UsersAnswers files folder (Ok two) → one ≡ two
+one_users files folder one two first second =
+    let people = one_people files folder first.0 second.0 first.1 second.1 in
+    let users = one_user files folder first.2 second.2 first.3 second.3 in
+    first.4 ∙ ap (λ (list : List Person). users_text_of list first.2) people ∙ ap (users_text_of second.0) users ∙ sym second.4
+
 -- ---- in a sound folder
 
 -- each identity's ref reads, and its head has a version
@@ -149,9 +207,9 @@ no_bad_person files folder path sound (id, is, at, inr (head, has, fault, none))
 -- so no bug is refused for damage
 pub show_not_damaged : (files : Files) (folder word path : List ℕ) → IsSound folder files → ShowAnswers files folder word (Err (stop.Refused (refusal.Damaged path))) → ⊥
 show_not_damaged files folder word path sound (inl (id, found, at, wrong)) = no_bad_found folder files sound word id found wrong
-show_not_damaged files folder word path sound (inr bad) = no_bad_person files folder path sound bad
+show_not_damaged files folder word path sound (inr (bug, finds, entity, is, bad)) = no_bad_person files folder path sound bad
 
 -- nor are the people
 pub users_not_damaged : (files : Files) (folder path : List ℕ) → IsSound folder files → UsersAnswers files folder (Err (stop.Refused (refusal.Damaged path))) → ⊥
 users_not_damaged files folder path sound (inl bad) = no_bad_person files folder path sound bad
-users_not_damaged files folder path sound (inr bad) = sound parts.User bad.1
+users_not_damaged files folder path sound (inr (people, are, bad)) = sound parts.User bad.1

@@ -50,7 +50,8 @@ abbrev pub HaveSameCommits : Files → List ℕ → HeadEntry → Files → List
 HaveSameCommits files folder bug others place top = (placed : Placed BugOp)
     → IsOperationCommit bug_kind (objects_in files folder) (bug.name ∷ []) placed ↔ IsOperationCommit bug_kind (objects_in others place) (top.name ∷ []) placed
 
--- the answer to `show`: the bug that the word finds as text; or why it is none. Want of memory and faults of the disk have no cause here
+-- the answer to `show`: the bug that the word finds as text; or why it is none: a person is told as damaged only where nothing is wrong with the bug. Want of
+-- memory and faults of the disk have no cause here
 abbrev pub ShowAnswers : Files → List ℕ → List ℕ → Result (List ℕ) Stop → Type 0
 ShowAnswers files folder word (Ok text) = (bug : HeadEntry) × FindsBug files folder word bug × IsShown files folder bug text
 ShowAnswers files folder word (Err stop.Memory) = ⊤
@@ -58,7 +59,7 @@ ShowAnswers files folder word (Err stop.Disk) = ⊤
 ShowAnswers files folder word (Err (stop.Refused refusal.NotFound)) = found_by files folder side.Bugs word ≡ None
 ShowAnswers files folder word (Err (stop.Refused (refusal.Damaged path))) =
     ((id : Id) × (found_by files folder side.Bugs word ≡ Some id) × (path ≡ joined folder (ref_place side.Bugs id)) × IsDamagedBug files folder id)
-    ⊎ HasBadPerson files folder path
+    ⊎ ((bug : HeadEntry) × FindsBug files folder word bug × (entity : Entity BugOp) × IsBug files folder bug entity × HasBadPerson files folder path)
 ShowAnswers files folder word (Err (stop.Refused _)) = ⊥
 
 -- none was read; or at most three objects for each of some commits below the head of the bug that the word finds, and three for each person
@@ -69,10 +70,11 @@ ReadsShow files folder word before after =
 
 -- ---- the people
 
--- the answer to `users`: the people of the folder and its user as text; or the path of a file that is damaged
+-- the answer to `users`: the people of the folder and its user as text; or the path of a file that is damaged: that of the user only where no person is
 abbrev pub UsersAnswers : Files → List ℕ → Result (List ℕ) Stop → Type 0
 UsersAnswers files folder (Ok text) = (people : List Person) × ArePeople files folder people × (user : Option Id) × IsUser files folder user × (text ≡ users_text_of people user)
 UsersAnswers files folder (Err stop.Memory) = ⊤
 UsersAnswers files folder (Err stop.Disk) = ⊤
-UsersAnswers files folder (Err (stop.Refused (refusal.Damaged path))) = HasBadPerson files folder path ⊎ IsBadUser files folder path
+UsersAnswers files folder (Err (stop.Refused (refusal.Damaged path))) =
+    HasBadPerson files folder path ⊎ ((people : List Person) × ArePeople files folder people × IsBadUser files folder path)
 UsersAnswers files folder (Err (stop.Refused _)) = ⊥

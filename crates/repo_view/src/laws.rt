@@ -43,13 +43,34 @@ pub fn sound_folders_have_logs()
 {}
 
 /// Where `show` may answer a text, nothing is wrong with the entity of the bug that the word finds, at
-/// its head and with the local identities as authors.
+/// its head and with the local identities as authors; and no refusal has a cause. So `show` answers a
+/// refusal exactly where its cause holds.
 pub fn a_shown_bug_has_no_fault()
-    ensures { (files : Files) (folder word text : List ℕ) (bug : HeadEntry)
+    ensures fault { (files : Files) (folder word text : List ℕ) (bug : HeadEntry)
         (authors : List Id) (fault : EntityFault) → ShowAnswers files folder word (Ok text)
         → FindsBug files folder word bug → AreLocal files folder authors
         → EntityFaultHolds bug_kind (objects_in files folder) bug.id (bug.name ∷ []) authors fault
         → ⊥ }
+    ensures refusal { (files : Files) (folder word text : List ℕ) (refusal : Refusal)
+        → ShowAnswers files folder word (Ok text)
+        → ShowAnswers files folder word (Err (stop.Refused refusal)) → ⊥ }
+{}
+
+/// Where `users` may answer a text, no refusal has a cause.
+pub fn shown_people_are_not_damaged()
+    ensures { (files : Files) (folder text : List ℕ) (refusal : Refusal)
+        → UsersAnswers files folder (Ok text)
+        → UsersAnswers files folder (Err (stop.Refused refusal)) → ⊥ }
+{}
+
+/// `show` may answer one text at most for the same files, folder and word, and `users` one for the
+/// same files and folder.
+pub fn shown_texts_are_determined()
+    ensures show { (files : Files) (folder word one two : List ℕ)
+        → ShowAnswers files folder word (Ok one) → ShowAnswers files folder word (Ok two)
+        → one ≡ two }
+    ensures users { (files : Files) (folder one two : List ℕ)
+        → UsersAnswers files folder (Ok one) → UsersAnswers files folder (Ok two) → one ≡ two }
 {}
 
 /// Bugs with the same operation commits are shown as the same text, in whatever folders they stand,

@@ -15,13 +15,19 @@ use Rattle.repo_view.proofs.bug_text.show.Goals as goal
 
 pub returns-in_err-people-clause-answers : goal.returns-in_err-people-clause-answers
 returns-in_err-people-clause-answers g c = λ tells.
-    let files = files_of (g.S.Store.history c.args.disk.now) in
+    let old = g.S.Store.history c.args.disk.now in
     let folder = c.args.folder.now in
-    let same = c.in_ok-entity.ensures.unwritten tells ∙ c.in_ok-bug.ensures.unwritten tells in
+    let bug = c.in_ok-bug.bug in
+    let entity = c.in_ok-entity.entity in
+    let found = c.in_ok-bug.ensures.answers tells in
+    let first = c.in_ok-bug.ensures.unwritten tells in
+    let same = c.in_ok-entity.ensures.unwritten tells ∙ first in
+    let finds : FindsBug (files_of old) folder c.args.word.now bug = record { found = found.0; head = found.1 } in
+    let is_bug : IsBug (files_of old) folder bug entity = subst (λ (h : History). IsBug (files_of h) folder bug entity) first (c.in_ok-entity.ensures.answers tells) in
     let answer : Result (List ℕ) Stop = Err c.in_err-people.field-0.0 in
     let is : c.from_residual-in_err-people.result ≡ answer = search rules in
-    subst (ShowAnswers files folder c.args.word.now) (sym is)
-    (no_people files folder c.args.word.now c.in_err-people.field-0.0
+    subst (ShowAnswers (files_of old) folder c.args.word.now) (sym is)
+    (no_people (files_of old) folder c.args.word.now bug entity c.in_err-people.field-0.0 finds is_bug
     (subst (λ (h : History). Reads {T = List Person} (ArePeople (files_of h) folder) (HasBadPerson (files_of h) folder) (Err c.in_err-people.field-0.0)) same (c.in_err-people.ensures.answers tells)))
 
 -- what was read of the bug and of the people
