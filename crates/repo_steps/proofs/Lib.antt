@@ -5,6 +5,7 @@ pub mod ClearLemmas
 pub mod DamageLemmas
 pub mod DoneLemmas
 pub mod EffectLemmas
+pub mod GrownLemmas
 pub mod HeadLemmas
 pub mod KeptLemmas
 pub mod LossLemmas

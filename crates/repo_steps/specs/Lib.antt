@@ -5,6 +5,7 @@ pub mod Checks
 pub mod Doing
 pub mod Doings
 pub mod Effects
+pub mod Grown
 pub mod Kept
 pub mod Kinds
 pub mod NewOps

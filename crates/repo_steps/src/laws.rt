@@ -41,7 +41,13 @@ ghost use Rattle.repo_state.specs.declared.side.Side.TheVariants as side;
 ghost use Rattle.repo_steps.specs.Doings.{Done, EditAnswers, MayStep, Refused};
 ghost use Rattle.repo_steps.specs.Kept.{LosesNothing};
 ghost use Rattle.repo_steps.specs.Kinds.{IsPlace, IsWrite, is_dotless};
-ghost use Rattle.repo_steps.specs.Steps.{Steps};
+ghost use Rattle.repo_steps.specs.Steps.{BugBegins, BugGrows, Steps};
+ghost use Rattle.repo_steps.specs.BugDoings.{HasBug};
+ghost use Rattle.repo_steps.specs.Grown.{BeginsSaying, EndsWithTheEdit};
+ghost use Rattle.repo_steps.specs.NewOps.{create_op};
+ghost use Rattle.repo_state.specs.Bugs.{IsBug};
+ghost use Rattle.repo_state.specs.declared.side.HeadEntry.{HeadEntry as HeadEntryValue};
+ghost use Rattle.dag_entity.specs.declared.entity.Entity.{Entity as EntityValue};
 ghost use Rattle.repo_steps.specs.declared.edit.Edit.{Edit as EditValue};
 
 /// Whatever a command answers, each of its writes is of a kind at its moment.
@@ -117,6 +123,20 @@ pub fn edits_that_change_nothing_are_refused()
     ensures only { (env : EnvValue) (edit : BugEditValue) (bug : SnapshotValue)
         (refusal : RefusalValue) → edit_op env edit bug ≡ Err refusal
         → ChangesNothing edit bug × (refusal ≡ no_change edit) }
+{}
+
+/// Read anew from the files after the step of an edit, the bug that its word finds says what it said
+/// before with the edit's operation behind all others. A new bug says its title and its message.
+pub fn written_bugs_are_read_so()
+    ensures grown { (env : EnvValue) (edit : BugEditValue) (word : List ℕ) (old new : Files)
+        (told : Id) (step : BugGrows env edit word old new told)
+        (now : HasBug env.folder new word) → EndsWithTheEdit env edit word old new told step now }
+    ensures begun { (env : EnvValue) (title message : List ℕ) (old new : Files) (told : Id)
+        (step : BugBegins env (create_op env title message) old new told) (bug : HeadEntryValue)
+        (entity : EntityValue OpValue) → bug.id ≡ told
+        → head_at new env.folder side.Bugs told ≡ Head bug.name
+        → IsBug new env.folder bug entity
+        → BeginsSaying env title message step.user told entity }
 {}
 
 /// What is written by kinds keeps each part of a folder sound at each moment, wherever it stops. So it

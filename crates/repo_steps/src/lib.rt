@@ -10,5 +10,5 @@ pub use laws::{
     edits_say_what_they_change, edits_that_change_nothing_are_refused, edits_write_by_kinds,
     folders_apart_stay_sound, refusals_are_determined, sound_folders_are_not_damaged,
     steps_are_determined, writes_keep_folders_sound, writes_lose_nothing,
-    writes_stay_below_their_folder,
+    writes_stay_below_their_folder, written_bugs_are_read_so,
 };

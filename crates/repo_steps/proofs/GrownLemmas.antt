@@ -1,0 +1,91 @@
+-- What a bug says, read anew from the files, once a command has written to it.
+use Rattle.std.proofs.Common.{◌≡◌, ◌++◌, ℕ, List, [], ◌∷◌, Some, refl, sym, ◌∙◌, ap, subst}
+use Rattle.std.proofs.lemmas.Grind.{flat_map-append}
+use Rattle.std.proofs.lemmas.Option.{same_Some}
+use Rattle.gb_text.specs.declared.id.Id.{Id}
+use Rattle.gb_store.specs.Files.{Files}
+use Rattle.ref_store.specs.Refs.{Head}
+use Rattle.lamport.specs.Clock.{root_time_of}
+use Rattle.op_kind.specs.declared.place.Place.{Place}
+use Rattle.op_pack.specs.Packs.{place_of}
+use Rattle.bug_ops.specs.Kind.{bug_kind}
+use Rattle.bug_ops.specs.declared.op.BugOp.{BugOp}
+use Rattle.bug_ops.specs.declared.op.BugStatus.TheVariants.{Opened}
+use Rattle.snapshot.specs.LastMention.{snapshot_of}
+use Rattle.dag_entity.specs.Appending.{appended_head, appended_node}
+use Rattle.dag_entity.specs.Entities.{ops_in}
+use Rattle.dag_entity.specs.Extending.{extended}
+use Rattle.dag_entity.specs.declared.entity.Entity.{Entity}
+use Rattle.dag_entity.specs.declared.entity.Loaded.{Loaded}
+use Rattle.dag_entity.specs.declared.entity.Placed.{Placed}
+use Rattle.repo_state.specs.Bugs.{IsBug}
+use Rattle.repo_state.specs.Clocks.{clock_at}
+use Rattle.repo_state.specs.Sides.{head_at}
+use Rattle.repo_state.specs.declared.clocks.ClockFile.TheVariants as file
+use Rattle.repo_state.specs.declared.env.Env.{Env}
+use Rattle.repo_state.specs.declared.side.HeadEntry.{HeadEntry}
+use Rattle.repo_state.specs.declared.side.Side.TheVariants as side
+use Rattle.repo_state.proofs.BugLemmas.{one_entity}
+use Rattle.repo_state.proofs.FoundLemmas.{found_is}
+use Rattle.repo_steps.specs.BugDoings.{HasBug, addition_head, bug_says, later_addition, root_addition}
+use Rattle.repo_steps.specs.Grown.{BeginsSaying, EndsWithTheEdit, made_comment}
+use Rattle.repo_steps.specs.NewOps.{create_op, op_id}
+use Rattle.repo_steps.specs.Steps.{BugBegins, BugGrows, begun_entity}
+use Rattle.repo_steps.specs.declared.edit.Addition.{Addition}
+use Rattle.repo_steps.specs.declared.edit.BugEdit.{BugEdit}
+
+-- ---- a bug with one operation more
+
+module _ (env : Env) (edit : BugEdit) (word : List ℕ) (old new : Files) (told : Id) (step : BugGrows env edit word old new told) (now : HasBug env.folder new word) where
+  abbrev added : Addition
+  added = later_addition env.folder old step.op step.user step.bug.bug step.bug.entity.edit
+
+  abbrev node : Loaded BugOp
+  node = appended_node bug_kind (step.bug.bug.name ∷ []) added.pack env.now
+
+  -- where the operation stands
+  abbrev place : Place
+  place = place_of (appended_head bug_kind added.pack) step.user (bug_kind.written step.op)
+
+  abbrev later_bug : HeadEntry
+  later_bug = record { id = step.bug.bug.id; name = addition_head env.now added }
+
+  ids : now.bug.id ≡ step.bug.bug.id
+  ids =
+      let here = (found_is new env.folder side.Bugs word now.bug.id now.finds.found).0 in
+      let there = (found_is old env.folder side.Bugs word step.bug.bug.id step.bug.finds.found).0 in
+      same_Some now.bug.id step.bug.bug.id (sym here ∙ there)
+
+  names : now.bug.name ≡ later_bug.name
+  names =
+      let heads : Head now.bug.name ≡ Head later_bug.name = sym now.finds.head ∙ ap (head_at new env.folder side.Bugs) ids ∙ step.head in
+      cc (heads)
+
+  bugs : now.bug ≡ later_bug
+  bugs = λ i. record { id = ids i; name = names i }
+
+  entities : now.entity ≡ extended step.bug.entity node
+  entities = one_entity new env.folder later_bug now.entity (extended step.bug.entity node) (subst (λ (b : HeadEntry). IsBug new env.folder b now.entity) bugs now.is) step.is
+
+  -- it says what its operations of before say with the one that was added, at its place
+  pub ends : EndsWithTheEdit env edit word old new told step now
+  ends = record {
+    place = place;
+    is_told = sym step.is_told;
+    by_user = refl;
+    says = ap bug_says entities ∙ ap snapshot_of (flat_map-append (λ (p : Placed BugOp). p.pack.ops) step.bug.entity.packs (node.placed ∷ []));
+  }
+
+-- ---- a new bug
+
+pub begins_saying : (env : Env) (title message : List ℕ) (old new : Files) (told : Id) (step : BugBegins env (create_op env title message) old new told) (bug : HeadEntry) (entity : Entity BugOp)
+    → bug.id ≡ told → head_at new env.folder side.Bugs told ≡ Head bug.name → IsBug new env.folder bug entity → BeginsSaying env title message step.user told entity
+begins_saying env title message old new told step bug entity same at is =
+    let added : Addition = root_addition env.folder old (create_op env title message) step.user in
+    let first : Entity BugOp = begun_entity env added (root_time_of (clock_at old env.folder file.BugsCreate)) in
+    let names : Head bug.name ≡ Head (addition_head env.now added) = sym at ∙ step.head in
+    let name : bug.name ≡ addition_head env.now added = cc (names) in
+    let bugs : bug ≡ record { id = told; name = addition_head env.now added } = λ i. record { id = same i; name = name i } in
+    let entities : entity ≡ first = one_entity new env.folder (record { id = told; name = addition_head env.now added }) entity first (subst (λ (b : HeadEntry). IsBug new env.folder b entity) bugs is) step.is in
+    subst (BeginsSaying env title message step.user told) (sym entities)
+    (record { has_title = refl; status = refl; labels = refl; comments = ap (λ (id : Id). made_comment env step.user id message ∷ []) (sym step.is_told) })
