@@ -1,15 +1,17 @@
 //! Laws of the commands that edit, and of the kinds of write, each the contract of a function that
 //! does nothing.
 ghost use Rattle.std.specs.Prelude.{◌≡◌, ◌≤◌, [], ◌∷◌, ◌++◌, ◌||◌, ◌&&◌, false, true, not, List, ℕ, Result, Ok, Err, reverse};
+ghost use Rattle.std.specs.List.Sorted.{IsStrictlySortedBy};
 ghost use Rattle.std.specs.Option.{option_or};
 ghost use Rattle.op_kind.specs.declared.place.Place.{Place as PlaceValue};
 ghost use Rattle.bug_ops.specs.Kind.{bug_kind};
 ghost use Rattle.bug_ops.specs.Mentions.{is_among};
+ghost use Rattle.bug_ops.specs.Snapshots.{by_bytes};
 ghost use Rattle.bug_ops.specs.declared.op.BugOp.{BugOp as OpValue};
 ghost use Rattle.bug_ops.specs.declared.op.BugStatus.{BugStatus as StatusValue};
 ghost use Rattle.bug_ops.specs.declared.snapshot.Snapshot.{Snapshot as SnapshotValue};
 ghost use Rattle.snapshot.specs.LastMention.{IsBugList, first_value, snapshot_of};
-ghost use Rattle.repo_steps.specs.BugEdits.{edit_op};
+ghost use Rattle.repo_steps.specs.BugEdits.{edit_op, named_off, named_on};
 ghost use Rattle.repo_steps.specs.Effects.{ChangesNothing, KeepsAllElse, no_change};
 ghost use Rattle.repo_steps.specs.declared.edit.BugEdit.{BugEdit as BugEditValue};
 ghost use Rattle.repo_steps.specs.declared.edit.BugEdit.TheVariants as kind;
@@ -123,6 +125,15 @@ pub fn edits_that_change_nothing_are_refused()
     ensures only { (env : EnvValue) (edit : BugEditValue) (bug : SnapshotValue)
         (refusal : RefusalValue) → edit_op env edit bug ≡ Err refusal
         → ChangesNothing edit bug × (refusal ≡ no_change edit) }
+{}
+
+/// Labels that are put on ascend in byte order, each once, however they were named; and those that are
+/// taken off where those of the bug do.
+pub fn changed_labels_ascend()
+    ensures put_on { (on named : List (List ℕ))
+        → IsStrictlySortedBy by_bytes (named_off on named) }
+    ensures taken_off { (on named : List (List ℕ)) → IsStrictlySortedBy by_bytes on
+        → IsStrictlySortedBy by_bytes (named_on on named) }
 {}
 
 /// Read anew from the files after the step of an edit, the bug that its word finds says what it said

@@ -6,7 +6,7 @@ mod laws;
 
 pub use edit::{Addition, BugEdit, Edit, Plan};
 pub use laws::{
-    calls_lose_nothing, done_edits_make_their_step, edits_keep_all_else,
+    calls_lose_nothing, changed_labels_ascend, done_edits_make_their_step, edits_keep_all_else,
     edits_say_what_they_change, edits_that_change_nothing_are_refused, edits_write_by_kinds,
     folders_apart_stay_sound, refusals_are_determined, sound_folders_are_not_damaged,
     steps_are_determined, writes_keep_folders_sound, writes_lose_nothing,
