@@ -462,6 +462,12 @@ const FORKS: &[Case] = &[
     ),
     Case(
         &[ROOT, LEFT, RIGHT, Commit(&[C1, C2], LAST, NONE)],
+        Heads::Two(C1, C3),
+        Answer::Entity(&[C0, C1, C2, C3], 9_223_372_036_854_775_807, 1),
+        12,
+    ),
+    Case(
+        &[ROOT, LEFT, RIGHT, Commit(&[C1, C2], LAST, NONE)],
         Heads::Two(C3, C1),
         Answer::Entity(&[C0, C1, C2, C3], 9_223_372_036_854_775_807, 1),
         12,
