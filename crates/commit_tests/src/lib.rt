@@ -1,7 +1,9 @@
-//! Tests of `commit_chain` and `commit_walk`. They stand apart, so that the proofs of these are made once.
+//! Tests of `commit_chain`, `commit_walk` and `dag_graph`. They stand apart, so that the proofs of these are made once.
 #![tactic(auto)]
 
 #[cfg(test)]
 mod chains;
+#[cfg(test)]
+mod graphs;
 #[cfg(test)]
 mod walks;

@@ -18,6 +18,3 @@ pub use laws::{
     orders_are_determined, parents_stand_before_children,
 };
 pub use node::{Node, Rank};
-
-#[cfg(test)]
-mod tests;

@@ -37,6 +37,3 @@ pub use sink::{Sink, write_whole};
 pub use store::{Change, Content, Store};
 pub use write_sink::WriteSink;
 pub use writes::write_all;
-
-#[cfg(test)]
-mod tests;

@@ -26,6 +26,3 @@ pub use memory::Memory;
 pub use owned::{Bytes, Text};
 pub use rules::{is_line, is_message, is_title};
 pub use writer::{push_ascii, push_id, push_line_end, push_name, push_number};
-
-#[cfg(test)]
-mod tests;

@@ -75,6 +75,3 @@ impl Span {
         &text[self.at..self.at + self.len]
     }
 }
-
-#[cfg(test)]
-mod tests;

@@ -48,7 +48,8 @@ use Rattle.repo_steps.specs.declared.edit.Addition.{Addition}
 use Rattle.repo_steps.specs.declared.edit.BugEdit.{BugEdit}
 use Rattle.repo_steps.specs.declared.edit.Plan.{Plan}
 use Rattle.repo_edit.specs.Additions.{AddsCommit}
-use Rattle.repo_edit.specs.Growing.{AuthorAnswers, EditPlans, GrowingAnswers, GrownPlans, Grows, OpAnswers, RoomAnswers, grown_checks, grown_objects, growing_checks, has_id}
+use Rattle.edit_ops.specs.Answers.{OpAnswers}
+use Rattle.repo_edit.specs.Growing.{AuthorAnswers, EditPlans, GrowingAnswers, GrownPlans, Grows, RoomAnswers, grown_checks, grown_objects, growing_checks, has_id}
 use Rattle.repo_edit.specs.declared.growing.Growing.{Growing}
 use Rattle.repo_edit.proofs.RepeatLemmas.{repeats}
 
@@ -65,7 +66,7 @@ module _ (env : Env) (g : Growing) (edit : ℕ) (op : BugOp) (old : History) whe
   pack = one_op_pack g.author edit None op
 
   module _ (plan : CommitPlan) (plans : AppendPlanAnswers bug_kind (g.head.name ∷ []) pack env.now (Ok plan)) (id : Id) (is : id ≡ op_id op)
-      (b : Bool) (has : b ≡ list_any (has_id id) g.ops) where
+      (b : Bool) (has : b ≡ list_any (has_id bug_kind id) g.ops) where
     -- the bug has the operation
     pub grown_repeated : b ≡ true → GrownPlans env g edit op old (Err (stop.Refused (refusal.RepeatedOperation id)))
     grown_repeated stands = inr (plans.1, inl (subst (Contains (op_ids g.ops)) is ((repeats id g.ops b has).0 stands), ap refusal.RepeatedOperation is))

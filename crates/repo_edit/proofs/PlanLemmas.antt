@@ -35,6 +35,7 @@ use Rattle.repo_steps.specs.Answers.{DoingAnswers, Plans}
 use Rattle.repo_steps.specs.Doing.{Doing, nonce_from}
 use Rattle.repo_steps.specs.PeopleDoings.{HasUser, MayWrite, bad_person, edited_user, first_user_write, new_made, new_objects, new_text, new_user, user_writes, version_writes}
 use Rattle.repo_steps.specs.declared.edit.Plan.{Plan}
+use Rattle.edit_ops.proofs.WordLemmas.{both_good, is_nonce}
 use Rattle.repo_edit.specs.Carrying.{Carries}
 use Rattle.repo_edit.specs.Adding.{AddsVersion, first_write}
 use Rattle.repo_edit.specs.Room.{HasRoom}
@@ -59,18 +60,6 @@ carried doing plan old mid new (Err stop.Disk) same plans made =
 carried doing plan old mid new (Err (stop.Refused r)) same plans made = absurd made
 
 -- ---- words
-
--- the nonce of a seed is one
-pub is_nonce : (seed : List ℕ) → IsNonce (nonce_from seed)
-is_nonce seed =
-    let sized = length-sha256 (seed ++ 0 ∷ []) in
-    record { least = omega (arith, sized); most = omega (arith, sized); bytes = sha256-bytes (seed ++ 0 ∷ []) }
-
--- where the first of two words that breaks its rule is none, both keep theirs
-pub both_good : (a b : Bool) → cond {A = Option ℕ} a (cond b None (Some 2)) (Some 1) ≡ None → (a ≡ true) × (b ≡ true)
-both_good true true e = (refl, refl)
-both_good true false e = absurd (cc)
-both_good false b e = absurd (cc)
 
 -- a name and an email that break no rule
 person_words : (name email : List ℕ) → bad_person name email ≡ None → IsTrue (is_title_text name) × IsTrue (is_line_text email)

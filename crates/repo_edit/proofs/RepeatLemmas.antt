@@ -25,21 +25,21 @@ module _ (id : Id) where
   or_true false = refl
 
   -- among operations
-  ops_have : (ops : List BugOp) → list_any (has_id id) ops ≡ true → Contains (op_ids ops) id
+  ops_have : (ops : List BugOp) → list_any (has_id bug_kind id) ops ≡ true → Contains (op_ids ops) id
   ops_have [] e = absurd (cc)
-  ops_have (op ∷ ops) e = by (has_id id op) refl e (ops_have ops)
+  ops_have (op ∷ ops) e = by (has_id bug_kind id op) refl e (ops_have ops)
     where
-      by : (b : Bool) → has_id id op ≡ b → (b || list_any (has_id id) ops) ≡ true → (list_any (has_id id) ops ≡ true → Contains (op_ids ops) id) → Contains (id_in op ∷ op_ids ops) id
+      by : (b : Bool) → has_id bug_kind id op ≡ b → (b || list_any (has_id bug_kind id) ops) ≡ true → (list_any (has_id bug_kind id) ops ≡ true → Contains (op_ids ops) id) → Contains (id_in op ∷ op_ids ops) id
       by true is e later = (0, omega arith, id_is (id_in op) is)
       by false is e later = Contains-later (id_in op) (op_ids ops) id (later e)
 
-  ops_found : (ops : List BugOp) → Contains (op_ids ops) id → list_any (has_id id) ops ≡ true
+  ops_found : (ops : List BugOp) → Contains (op_ids ops) id → list_any (has_id bug_kind id) ops ≡ true
   ops_found [] has = absurd (omega (arith, has.1))
   ops_found (op ∷ ops) has = elim (Contains-cons_cases (id_in op) (op_ids ops) id has) [
-    | inl is ↦ ap (λ (b : Bool). b || list_any (has_id id) ops) (id_found (id_in op) is)
-    | inr later ↦ ap (λ (b : Bool). has_id id op || b) (ops_found ops later) ∙ or_true (has_id id op)
+    | inl is ↦ ap (λ (b : Bool). b || list_any (has_id bug_kind id) ops) (id_found (id_in op) is)
+    | inr later ↦ ap (λ (b : Bool). has_id bug_kind id op || b) (ops_found ops later) ∙ or_true (has_id bug_kind id op)
   ]
 
   -- an operation has the id exactly where the test says so
-  pub repeats : (ops : List BugOp) (b : Bool) → b ≡ list_any (has_id id) ops → (b ≡ true) ↔ Contains (op_ids ops) id
+  pub repeats : (ops : List BugOp) (b : Bool) → b ≡ list_any (has_id bug_kind id) ops → (b ≡ true) ↔ Contains (op_ids ops) id
   repeats ops b is = ((λ e. ops_have ops (sym is ∙ e)), (λ has. is ∙ ops_found ops has))

@@ -11,9 +11,9 @@ use Rattle.object_batch.specs.Batches.{missing_writes}
 use Rattle.ref_store.specs.Setting.{ref_write}
 use Rattle.commit_walk.specs.declared.below.TheConstants.{MOST_COMMITS}
 use Rattle.lamport.specs.Clock.{edit_time_of}
+use Rattle.op_kind.specs.Meaning.{Meaning}
 use Rattle.bug_ops.specs.Kind.{bug_kind}
 use Rattle.bug_ops.specs.declared.op.BugOp.{BugOp}
-use Rattle.bug_ops.specs.declared.snapshot.Snapshot.{Snapshot}
 use Rattle.snapshot.specs.LastMention.{IsBugList}
 use Rattle.dag_entity.specs.Appending.{appended_name, appended_objects}
 use Rattle.dag_entity.specs.Entities.{ops_in}
@@ -30,7 +30,6 @@ use Rattle.repo_state.specs.declared.side.HeadEntry.{HeadEntry}
 use Rattle.repo_state.specs.declared.side.Side.TheVariants as side
 use Rattle.repo_steps.specs.Answers.{Plans}
 use Rattle.repo_steps.specs.BugDoings.{HasBug, bug_reads, longer_bug, op_ids}
-use Rattle.repo_steps.specs.BugEdits.{edit_op}
 use Rattle.repo_steps.specs.Checks.{AllPass, Check, FirstFails}
 use Rattle.repo_steps.specs.Doing.{found, names, sizes, some_user, user_file}
 use Rattle.repo_steps.specs.NewOps.{one_op_pack, op_id}
@@ -99,13 +98,6 @@ ReadsGrowing files folder word before after (Ok g) = FindsBug files folder word 
 ReadsGrowing files folder word before after (Err s) =
     (after ≡ before) ⊎ ((bug : HeadEntry) × FindsBug files folder word bug × ReadsBelow files folder bug before after)
 
--- the operation that an edit adds to a bug that says this, or why it adds none
-abbrev pub OpAnswers : Env → BugEdit → Snapshot → Result BugOp Stop → Type 0
-OpAnswers env edit bug (Ok op) = edit_op env edit bug ≡ Ok op
-OpAnswers env edit bug (Err stop.Memory) = ⊤
-OpAnswers env edit bug (Err stop.Disk) = ⊥
-OpAnswers env edit bug (Err (stop.Refused r)) = edit_op env edit bug ≡ Err r
-
 -- the objects of the commit that adds an operation to a bug, with an edit clock
 abbrev pub grown_objects : Env → Growing → ℕ → BugOp → List (List ℕ)
 grown_objects env g edit op = appended_objects bug_kind (g.head.name ∷ []) (one_op_pack g.author edit None op) env.now
@@ -139,6 +131,6 @@ GrownPlans env g edit op old (Err (stop.Refused r)) = FirstFails (grown_checks e
 abbrev pub EditPlans : Env → BugEdit → List ℕ → History → Result Plan Stop → Type 0
 EditPlans env edit word old result = (op : BugOp) × Plans (longer_bug env edit word op old) result
 
--- an operation has this id
-abbrev pub has_id : Id → BugOp → Bool
-has_id id op = bytes_eq (bug_kind.common_of op).place.id.bytes id.bytes
+-- an operation of a kind has this id
+abbrev pub has_id : {Op State Row : Type 0} → Meaning Op State Row → Id → Op → Bool
+has_id kind id op = bytes_eq (kind.common_of op).place.id.bytes id.bytes

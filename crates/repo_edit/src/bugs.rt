@@ -9,11 +9,10 @@ ghost use Rattle.repo_steps.specs.Doings.{BugEditAnswers};
 ghost use Rattle.repo_steps.specs.NewOps.{MayWriteOp};
 ghost use Rattle.repo_edit.specs.Reads.{ReadsEdit};
 
-use crate::bug_edit::bad_edit;
 use crate::carry::carry_out;
-use crate::operation::{bad_bug, create_op};
 use crate::plan_bug::{plan_begun, plan_edit};
 use bug_ops::BugOp;
+use edit_ops::{bad_bug, bad_edit, create_op};
 use gb_store::Store;
 use gb_text::{Id, LIMIT};
 use repo_state::{Env, Refusal, Stop};

@@ -9,8 +9,8 @@ ghost use Rattle.repo_steps.specs.declared.edit.BugEdit.TheVariants as kind;
 ghost use Rattle.repo_edit.specs.Reads.{ReadsEdit};
 
 use crate::bugs::edit_bug;
-use crate::labels::first_no_title;
 use bug_ops::BugStatus;
+use edit_ops::first_no_title;
 use gb_store::Store;
 use gb_text::{Id, LIMIT, List, Memory, Text, is_message, is_title};
 use repo_state::{Env, Refusal, Stop};

@@ -133,9 +133,9 @@ fn later_clock(clock: Clock, head: u64) -> Option<u64>
     }
 }
 
-/// Whether one of these operations has an id.
-pub fn has_operation(ops: &[BugOp], id: &Id) -> bool
-    ensures { result ≡ list_any (has_id id.now) ops.now }
+/// Whether one of these operations has an id. It is proved for each kind, which costs far less than for that of bugs.
+pub fn has_operation<K: OpKind>(ops: &[K], id: &Id) -> bool
+    ensures { result ≡ list_any (has_id K.meaning id.now) ops.now }
 {
     ops.iter().any(|op| op.common().place.id == *id)
 }

@@ -2,14 +2,11 @@
 #![tactic(auto)]
 
 mod addition;
-mod bug_edit;
 mod bugs;
 mod calls;
 mod carry;
 mod command;
 mod growing;
-mod labels;
-mod operation;
 mod people;
 mod plan_bug;
 mod room;

@@ -6,7 +6,8 @@ ghost use Rattle.repo_steps.specs.PeopleDoings.{bad_person, edited_user, new_use
 
 use crate::carry::carry_out;
 use crate::room::check_room;
-use crate::version::{bad_person, nonce_from, version_writes, with_first_user};
+use crate::version::{bad_person, version_writes, with_first_user};
+use edit_ops::nonce_from;
 use gb_store::Store;
 use gb_text::{Id, LIMIT, List};
 use identity::plan_version;

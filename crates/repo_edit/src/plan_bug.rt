@@ -11,10 +11,9 @@ ghost use Rattle.repo_edit.specs.Growing.{Begins, EditPlans, GrownPlans};
 ghost use Rattle.repo_edit.specs.Reads.{ReadsEdit};
 
 use crate::addition::{commit_writes, plan_commit, with_clock, with_root_clocks};
-use crate::bug_edit::edit_op;
 use crate::growing::{Beginning, Growing, growing_bug, has_operation, room, root_of};
-use crate::operation::op_id;
 use bug_ops::BugOp;
+use edit_ops::{edit_op, op_id};
 use gb_store::Store;
 use gb_text::{Id, LIMIT, List};
 use repo_state::{ClockFile, Env, Refusal, Side, Stop, stands};

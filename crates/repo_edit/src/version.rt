@@ -3,7 +3,6 @@ ghost use Rattle.std.specs.Prelude.{◌≡◌, ◌++◌, None, IsTrue, IfOk, IsE
 ghost use Rattle.gb_store.specs.Faults.{KeepsFaults};
 ghost use Rattle.repo_state.specs.Users.{user_write};
 ghost use Rattle.repo_steps.specs.Answers.{KeepsToWords};
-ghost use Rattle.repo_steps.specs.Doing.{nonce_from};
 ghost use Rattle.repo_steps.specs.PeopleDoings.{bad_person};
 ghost use Rattle.repo_edit.specs.Adding.{AddsVersion, first_write};
 
@@ -12,7 +11,6 @@ use gb_text::{Folder, Id, Memory, is_line, is_title};
 use identity::VersionPlan;
 use object_batch::plan_all;
 use repo_state::{Side, Stop, head_change, user_change};
-use sha2::{Digest, Sha256};
 use std::alloc::Global;
 
 /// The place, counted from 1, of the first of a name, which is to be a title, and an email, which is
@@ -27,16 +25,6 @@ pub fn bad_person(name: &str, email: &str) -> Option<u64>
         return Some(2);
     }
     None
-}
-
-/// The nonce of what a command makes: the SHA-256 of its seed and one zero byte.
-pub fn nonce_from(seed: &[u8; 32]) -> [u8; 32]
-    ensures { result ≡ nonce_from seed.now }
-{
-    let mut hasher = Sha256::new();
-    hasher.update(seed.as_slice());
-    hasher.update(b"\0".as_slice());
-    hasher.finalize()
 }
 
 /// The writes that add a planned version to an identity: its objects that don't stand yet, and then

@@ -1,4 +1,4 @@
-//! Tests of `object_store`, `object_batch` and `ref_store`. They stand apart, so that the proofs of these are made once.
+//! Tests of `gb_store`, `object_store`, `object_batch` and `ref_store`. They stand apart, so that the proofs of these are made once.
 #![tactic(auto)]
 
 #[cfg(test)]
@@ -9,3 +9,7 @@ mod callers;
 mod objects;
 #[cfg(test)]
 mod refs;
+#[cfg(test)]
+mod store_callers;
+#[cfg(test)]
+mod stores;

@@ -4,7 +4,8 @@ use Rattle.bug_ops.specs.declared.op.BugOp.{BugOp}
 use Rattle.repo_state.specs.declared.refusal.Stop.{Stop}
 use Rattle.snapshot.specs.LastMention.{IsBugList, snapshot_of}
 use Rattle.repo_steps.specs.declared.edit.Plan.{Plan}
-use Rattle.repo_edit.specs.Growing.{EditPlans, GrownPlans, OpAnswers}
+use Rattle.edit_ops.specs.Answers.{OpAnswers}
+use Rattle.repo_edit.specs.Growing.{EditPlans, GrownPlans}
 use Rattle.repo_edit.proofs.PlanBugLemmas.{edit_barred, edit_full, edit_planned, edit_unmade}
 use Rattle.repo_edit.proofs.plan_bug.plan_edit.Goals as goal
 

@@ -1,0 +1,3 @@
+pub mod LabelLemmas
+pub mod OperationLemmas
+pub mod WordLemmas
