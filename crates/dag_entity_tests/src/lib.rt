@@ -1,4 +1,5 @@
-//! Tests of `dag_entity`.
+//! Copies as those who read entities see them, a law that stands where the crates of both meet, and
+//! tests of `dag_entity`.
 #![tactic(auto)]
 
 #[cfg(test)]
@@ -13,3 +14,6 @@ mod faults;
 mod graphs;
 #[cfg(test)]
 mod large;
+mod laws;
+
+pub use laws::whole_copies_have_the_same_entity;

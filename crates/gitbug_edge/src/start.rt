@@ -1,10 +1,8 @@
 //! What `main` does.
-use crate::again::again;
-use crate::claim::claims_of;
-use crate::folder_store::FolderStore;
-use crate::lock::Locking;
+use crate::words::claims_of;
 use crate::writer::SteadyWriter;
 use bug_run::{Status, run};
+use folder_store::{FolderStore, Locking, again};
 use gb_store::{Sink, WriteSink};
 use std::rt::{Clock, Env, Runtime};
 use std::time::{SystemTime, UNIX_EPOCH};

@@ -1,5 +1,5 @@
 //! A writer that signals do not stop.
-use crate::again::MOST_SIGNALS;
+use folder_store::MOST_SIGNALS;
 use std::io;
 use std::io::{ErrorKind, Write};
 

@@ -5,9 +5,10 @@ use crate::system::{
     remove, store_over, write,
 };
 use bug_run::Status;
+use folder_store::FolderStore;
 use gb_store::MemSink;
 use gb_text::List;
-use gitbug_edge::{FolderStore, exit_code, run_over_folders};
+use gitbug_edge::{exit_code, run_over_folders};
 use repo_state::Refusal;
 use std::process::ExitCode;
 use std::test::Fail;

@@ -1,4 +1,4 @@
-//! Tests of `gitbug_edge` over real folders. They stand apart, so that its proofs are made once.
+//! Tests of `folder_store` and `gitbug_edge` over real folders. They stand apart, so that the proofs of these are made once.
 #![tactic(auto)]
 
 #[cfg(test)]

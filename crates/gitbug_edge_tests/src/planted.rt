@@ -3,7 +3,7 @@ use crate::system::{
     Testing, count, has_bytes, holds, is_absent, is_free, link, list_fails, make_dir, put,
     put_fails, read_fails, write,
 };
-use gitbug_edge::FolderStore;
+use folder_store::FolderStore;
 use std::fs;
 use std::io::Read;
 use std::os::unix::fs::PermissionsExt;

@@ -1,5 +1,5 @@
-use Rattle.gitbug_edge.proofs.OrderLemmas.{rising_once, same_names}
-use Rattle.gitbug_edge.proofs.disk.in_order.Goals as goal
+use Rattle.folder_store.proofs.OrderLemmas.{rising_once, same_names}
+use Rattle.folder_store.proofs.disk.in_order.Goals as goal
 
 pub returns-clause-rising : goal.returns-clause-rising
 returns-clause-rising c =

@@ -2,7 +2,7 @@ use Rattle.std.proofs.Common.{sym, subst}
 use Rattle.std.specs.Cmp.Lexicographic.{slice_cmp}
 use Rattle.std.specs.List.Sorted.{IsStrictlySortedBy}
 use Rattle.std.specs.Ordering.{nat_cmp}
-use Rattle.gitbug_edge.proofs.folders.Folders.list.Goals as goal
+use Rattle.folder_store.proofs.folders.Folders.list.Goals as goal
 
 pub returns-then-not-branch : goal.returns-then-not-branch
 unfolding IsStrictlySortedBy

@@ -26,7 +26,7 @@ pub struct FolderStore<R: Locking + AllocGlobal + Clone + Drop> {
 }
 
 impl<R: Locking + AllocGlobal + Clone + Drop> Model for FolderStore<R> {
-    ghost use Rattle.gitbug_edge.specs.FolderState.{FolderState};
+    ghost use Rattle.folder_store.specs.FolderState.{FolderState};
 
     ghost Value = { FolderState };
 
@@ -35,7 +35,7 @@ impl<R: Locking + AllocGlobal + Clone + Drop> Model for FolderStore<R> {
 
 impl<R: Locking + AllocGlobal + Clone + Drop> FolderStore<R> {
     ghost use Rattle.std.specs.Prelude.{false};
-    ghost use Rattle.gitbug_edge.specs.FolderState.{fault_count};
+    ghost use Rattle.folder_store.specs.FolderState.{fault_count};
 
     /// The store over the folders that are claimed, which has failed and read 0 times. Takes no memory.
     pub fn new(rt: R, claims: Vec<Claim>) -> FolderStore<R>

@@ -1,8 +1,8 @@
 use Rattle.std.proofs.Common.{[], ◌∷◌}
 use Rattle.dag_entity.proofs.AgreeFaults.{entity_over, fault_over, operations_over}
 use Rattle.dag_entity.proofs.AgreeLemmas.{agree_back}
-use Rattle.remote_copy_tests.proofs.NeededLemmas.{same_needed}
-use Rattle.remote_copy_tests.proofs.laws.whole_copies_have_the_same_entity.Goals as goal
+use Rattle.dag_entity_tests.proofs.NeededLemmas.{same_needed}
+use Rattle.dag_entity_tests.proofs.laws.whole_copies_have_the_same_entity.Goals as goal
 
 pub returns-clause-needed : goal.returns-clause-needed
 returns-clause-needed g c = λ source entry target head copied. same_needed source entry target head copied
