@@ -5,7 +5,7 @@ ghost use Rattle.std.specs.List.Sorted.{IsStrictlySortedBy};
 ghost use Rattle.std.specs.Ordering.{nat_cmp};
 ghost use Rattle.gb_store.specs.Files.{IsWithin};
 
-use crate::again::{MOST_SIGNALS, again};
+use crate::signals::{MOST_SIGNALS, again};
 use crate::temporary::{is_temporary, temporary_path};
 use gb_store::Content;
 use gb_text::{Bytes, Text};

@@ -2,19 +2,19 @@
 //! name each other.
 #![tactic(auto)]
 
-mod again;
 mod claim;
 mod disk;
-mod folder_store;
 mod folders;
 mod lock;
 mod place;
 mod settled;
+mod signals;
+mod store;
 mod temporary;
 mod unsynced;
 mod ways;
 
-pub use again::{MOST_SIGNALS, again};
 pub use claim::{Claim, Purpose};
-pub use folder_store::FolderStore;
 pub use lock::Locking;
+pub use signals::{MOST_SIGNALS, again};
+pub use store::FolderStore;

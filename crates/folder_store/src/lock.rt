@@ -1,5 +1,5 @@
 //! The locks of a run on the folders that its words name.
-use crate::again::again;
+use crate::signals::again;
 use crate::claim::{Claim, Purpose};
 use crate::disk;
 use crate::ways::front_at;

@@ -1,5 +1,5 @@
 //! The names of temporary files.
-use crate::again::again;
+use crate::signals::again;
 use std::alloc::Global;
 use std::io;
 use std::random::RandomSource;
