@@ -9,3 +9,5 @@ mod callers;
 mod objects;
 #[cfg(test)]
 mod refs;
+#[cfg(test)]
+mod views;
