@@ -1,8 +1,14 @@
 //! Bugs in packs: what holds of every kind of operations, proved of bugs by the laws alone, and
-//! tests. They stand apart, where the crates of both meet.
+//! tests, of packs of any kind too. They stand apart, where the crates of both meet.
 #![tactic(auto)]
 
+#[cfg(test)]
+mod any_packs;
 mod callers;
+#[cfg(test)]
+mod heads;
+#[cfg(test)]
+mod kinds;
 #[cfg(test)]
 mod tests;
 

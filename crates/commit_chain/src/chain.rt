@@ -8,7 +8,7 @@ ghost use Rattle.commit_chain.specs.Answers.{StepAnswers, WalkAnswers};
 use crate::fault::{ChainFault, ChainStop};
 use gb_store::Store;
 use gb_text::{Folder, Name};
-use object_store::get_commit;
+use object_store::{commit_in, get_text};
 use std::alloc::Global;
 
 /// The most commits that a chain may have.
@@ -69,7 +69,8 @@ fn step<S: Store>(
     ensures caused { KeepsFaults S.never_fails S.faults (IsErrOf result ChainStop.Disk)
         disk.old disk.new }
 {
-    let commit = get_commit(alloc, disk, folder, name)?;
+    let text = get_text(alloc, disk, folder, name)?;
+    let commit = commit_in(alloc, name, text.as_slice())?;
     let met = Met {
         name: *name,
         tree: commit.tree,

@@ -1,6 +1,6 @@
 //! What may be wrong with the commits of a walk, and why the walk stopped.
 use gb_text::{Memory, Name};
-use object_store::KindFault;
+use object_store::{KindFault, ObjFault};
 use std::alloc::{AllocError, AllocFailed};
 
 /// What is wrong with the commits of a walk.
@@ -43,6 +43,18 @@ impl From<KindFault> for ChainStop {
             KindFault::Large(name) => ChainStop::Fault(ChainFault::Large(name)),
             KindFault::OtherKind(name) => ChainStop::Fault(ChainFault::NotCommit(name)),
         }
+    }
+}
+
+impl From<ObjFault> for ChainStop {
+    ghost use Rattle.std.specs.Prelude.{◌≡◌};
+    ghost use Rattle.object_store.specs.Faults.{kind_fault};
+    ghost use Rattle.commit_chain.specs.Stops.{stop_of};
+
+    ghost from_gives = { λ fault e. e ≡ stop_of (kind_fault fault) };
+
+    fn from(fault: ObjFault) -> Self {
+        KindFault::from(fault).into()
     }
 }
 

@@ -3,14 +3,12 @@ use Rattle.std.proofs.Common.{◌≡◌, ◌≢◌, inl, inr, ℕ, List, Option,
 use Rattle.std.specs.Prelude.{⊤}
 use Rattle.gb_text.specs.declared.id.Id.{Id}
 use Rattle.gb_text.specs.declared.id.Name.{Name}
-use Rattle.git_object.specs.declared.tree.Tree.{Tree}
 use Rattle.object_store.specs.Held.{Objects}
-use Rattle.object_store.specs.Typed.{AnswersAs, as_blob, as_tree, blob_at, tree_at}
+use Rattle.object_store.specs.Typed.{AnswersAs, as_blob, blob_at}
 use Rattle.object_store.specs.declared.fault.KindFault.{KindFault}
 use Rattle.object_store.specs.declared.fault.KindFault.TheVariants as kind
 use Rattle.op_kind.specs.Meaning.{Meaning}
 use Rattle.op_kind.specs.declared.place.TheConstants.{VERSION}
-use Rattle.op_pack.specs.Heads.{HeadFault}
 use Rattle.op_pack.specs.Packs.{PackTextFault, PartsFault, pack_at}
 use Rattle.op_pack.specs.Texts.{parts_at}
 use Rattle.op_pack.specs.declared.fault.PackFault.{PackFault}
@@ -18,7 +16,7 @@ use Rattle.op_pack.specs.declared.fault.PackFault.TheVariants as pack
 use Rattle.op_pack.specs.declared.head.TreeHead.{TreeHead}
 use Rattle.op_pack.proofs.HeadLaws.{head_parts}
 use Rattle.commit_pack.specs.Answers.{HeadAnswers, PackAnswers, SaysHead}
-use Rattle.commit_pack.specs.Faults.{ops_fault, pack_fault, tree_fault}
+use Rattle.commit_pack.specs.Faults.{ops_fault, pack_fault}
 use Rattle.commit_pack.specs.Packs.{NamesOps, pack_in, pack_of_head, pack_under}
 use Rattle.commit_pack.specs.declared.fault.CommitPackFault.{CommitPackFault}
 use Rattle.commit_pack.specs.declared.fault.CommitPackFault.TheVariants as fault

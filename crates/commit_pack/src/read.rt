@@ -8,7 +8,7 @@ ghost use Rattle.commit_pack.specs.Answers.{HeadAnswers, PackAnswers};
 use crate::fault::CommitPackFault;
 use gb_store::Store;
 use gb_text::{Folder, Name};
-use object_store::{get_blob, get_tree};
+use object_store::{KindFault, get_blob, get_text, tree_in};
 use op_kind::OpKind;
 use op_pack::{Pack, TreeHead, read_head};
 use std::alloc::Global;
@@ -51,7 +51,11 @@ fn tree_head<S: Store>(
     ensures caused { KeepsFaults S.never_fails S.faults (IsErrOf result CommitPackFault.Disk)
         disk.old disk.new }
 {
-    match get_tree(alloc, disk, folder, tree) {
+    let text = match get_text(alloc, disk, folder, tree) {
+        Ok(text) => text,
+        Err(fault) => return Err(CommitPackFault::of_tree(KindFault::from(fault))),
+    };
+    match tree_in(alloc, tree, text.as_slice()) {
         Ok(tree) => Ok(read_head(&tree)?),
         Err(fault) => Err(CommitPackFault::of_tree(fault)),
     }

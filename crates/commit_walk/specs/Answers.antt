@@ -1,10 +1,9 @@
 -- The answers to the parts of the walk, each with what is so of the objects.
-use Rattle.std.specs.Prelude.{◌≡◌, ◌≤◌, ◌+◌, ⊤, ℕ, List, length, Contains, Vec, Some, Result, Ok, Err}
+use Rattle.std.specs.Prelude.{◌≤◌, ◌+◌, ⊤, ℕ, List, length, Contains, Vec, Result, Ok, Err}
 use Rattle.std.specs.declared.alloc.Global.{Global}
 use Rattle.gb_text.specs.declared.id.Name.{Name}
-use Rattle.git_object.specs.declared.commit.Commit.{Commit}
 use Rattle.object_store.specs.Held.{Objects}
-use Rattle.object_store.specs.Typed.{CannotReadAs, as_commit, commit_at}
+use Rattle.object_store.specs.Typed.{CannotReadAs, as_commit}
 use Rattle.object_store.specs.declared.fault.KindFault.TheVariants as kind
 use Rattle.commit_walk.specs.Below.{IsBelow, IsCommit, AreBelow, FaultHolds}
 use Rattle.commit_walk.specs.Distinct.{AreDistinct}
@@ -28,10 +27,6 @@ abbrev pub CommitRefused : Objects → Name → WalkStop → Type 0
 CommitRefused objects name stop.Memory = ⊤
 CommitRefused objects name stop.Disk = ⊤
 CommitRefused objects name (stop.Fault f) = IsNoCommit objects name f
-
-abbrev pub CommitAnswers : Objects → Name → Result Commit WalkStop → Type 0
-CommitAnswers objects name (Ok commit) = commit_at objects name ≡ Some commit
-CommitAnswers objects name (Err s) = CommitRefused objects name s
 
 abbrev pub StepAnswers : Objects → Name → Result Met WalkStop → Type 0
 StepAnswers objects name (Ok met) = IsCommit objects met

@@ -2,7 +2,7 @@
 ghost use Rattle.std.specs.Prelude.{◌≡◌, ◌≤◌, ◌+◌, IsTrue, IfOk, IsErrOf, OnOk, length};
 ghost use Rattle.gb_store.specs.Faults.{KeepsFaults};
 ghost use Rattle.object_store.specs.Held.{objects_after};
-ghost use Rattle.commit_walk.specs.Answers.{CommitAnswers, ReadsBelow, StepAnswers, WalkAnswers};
+ghost use Rattle.commit_walk.specs.Answers.{ReadsBelow, StepAnswers, WalkAnswers};
 ghost use Rattle.commit_walk.specs.Below.{IsClosed};
 ghost use Rattle.commit_walk.specs.Queues.{Adds, IsQueue};
 
@@ -10,8 +10,7 @@ use crate::fault::{WalkFault, WalkStop};
 use crate::queue::Queue;
 use gb_store::Store;
 use gb_text::{Folder, List, Name};
-use git_object::Commit;
-use object_store::get_commit;
+use object_store::{commit_in, get_text};
 use std::alloc::Global;
 
 /// The most commits that may lie below the heads.
@@ -60,7 +59,7 @@ pub fn walk<S: Store>(
     let Some(name) = queue.get(MOST_COMMITS) else {
         return Ok(walk);
     };
-    commit_of(alloc, disk, folder, &name)?;
+    meet(alloc, disk, folder, &name)?;
     Err(WalkStop::Fault(WalkFault::TooMany))
 }
 
@@ -84,28 +83,31 @@ fn step<S: Store>(
     ensures caused { KeepsFaults S.never_fails S.faults (IsErrOf result WalkStop.Disk)
         disk.old disk.new }
 {
-    let commit = commit_of(alloc, disk, folder, name)?;
-    queue.add(commit.parents.as_slice())?;
-    Ok(Met {
-        name: *name,
-        tree: commit.tree,
-        parents: commit.parents,
-    })
+    let met = meet(alloc, disk, folder, name)?;
+    queue.add(met.parents.as_slice())?;
+    Ok(met)
 }
 
-// The commit that a name holds.
-fn commit_of<S: Store>(
+// The commit that a name holds. It borrows from its text, so that of the text nothing is copied.
+fn meet<S: Store>(
     alloc: Global,
     disk: &mut S,
     folder: &Folder,
     name: &Name,
-) -> Result<Commit, WalkStop>
+) -> Result<Met, WalkStop>
     ensures answers { IsTrue S.tells
-        → CommitAnswers (objects_after (S.history disk.old) folder.now) name.now result }
+        → StepAnswers (objects_after (S.history disk.old) folder.now) name.now result }
+    ensures named { IfOk result (λ met. met.name ≡ name.now) }
     ensures unwritten { IsTrue S.tells → S.history disk.new ≡ S.history disk.old }
     ensures reads { S.object_reads disk.new ≤ S.object_reads disk.old + 1 }
     ensures caused { KeepsFaults S.never_fails S.faults (IsErrOf result WalkStop.Disk)
         disk.old disk.new }
 {
-    Ok(get_commit(alloc, disk, folder, name)?)
+    let text = get_text(alloc, disk, folder, name)?;
+    let commit = commit_in(alloc, name, text.as_slice())?;
+    Ok(Met {
+        name: *name,
+        tree: commit.tree,
+        parents: commit.parents,
+    })
 }

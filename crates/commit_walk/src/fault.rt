@@ -1,6 +1,6 @@
 //! What may be wrong with the commits below some heads, and why a walk stopped.
 use gb_text::Name;
-use object_store::KindFault;
+use object_store::{KindFault, ObjFault};
 use std::alloc::AllocFailed;
 
 /// What is wrong with the commits below some heads.
@@ -42,6 +42,18 @@ impl From<KindFault> for WalkStop {
             KindFault::Large(name) => WalkStop::Fault(WalkFault::Large(name)),
             KindFault::OtherKind(name) => WalkStop::Fault(WalkFault::NotCommit(name)),
         }
+    }
+}
+
+impl From<ObjFault> for WalkStop {
+    ghost use Rattle.std.specs.Prelude.{◌≡◌};
+    ghost use Rattle.object_store.specs.Faults.{kind_fault};
+    ghost use Rattle.commit_walk.specs.Stops.{stop_of};
+
+    ghost from_gives = { λ fault e. e ≡ stop_of (kind_fault fault) };
+
+    fn from(fault: ObjFault) -> Self {
+        KindFault::from(fault).into()
     }
 }
 

@@ -1,17 +1,14 @@
 //! The entries of a tree: mode, name and object.
 ghost use Rattle.std.specs.Prelude.{◌≡◌, ◌++◌, ◌+◌, ◌<◌, ◌^◌, OnOk, IfSome, Some, length, slice_get};
-ghost use Rattle.std.specs.Option.{option_map};
 ghost use Rattle.std.specs.Ordering.{nat_cmp};
 ghost use Rattle.std.specs.Cmp.Lexicographic.{slice_cmp};
 ghost use Rattle.hex.specs.Hex.{IsBytes};
 ghost use Rattle.gb_text.specs.Digits.{IsName};
 ghost use Rattle.git_object.specs.Grammar.{mode_text, entry_text, sort_key};
-ghost use Rattle.git_object.specs.Reading.{Gives, is_entry_name, has_entry_name, mode_of, name_at, entry_at, entry_step};
+ghost use Rattle.git_object.specs.Reading.{is_entry_name, has_entry_name};
 
-use crate::cut::cut;
-use crate::frame::name_with;
-use gb_text::{Bytes, Memory, Name};
-use std::alloc::{AllocError, Global};
+use gb_text::{Bytes, Name};
+use std::alloc::AllocError;
 use std::cmp::Ordering;
 
 /// What an entry is, in Git's modes `100644`, `100755`, `120000`, `40000` and `160000`.
@@ -33,53 +30,8 @@ pub struct Entry {
     pub object: Name,
 }
 
-/// The entry at the front of a content and what follows it, or no entry at the content's end.
-#[tactic(auto, unfolding(crate::specs::Reading::entry_step))]
-pub(crate) fn next_entry(
-    alloc: Global,
-    bytes: &[u8],
-) -> Result<Option<(Option<Entry>, &[u8])>, Memory>
-    ensures { Gives (λ step. (step.0, step.1.now)) result (entry_step bytes.now) }
-{
-    if bytes.is_empty() {
-        return Ok(Some((None, bytes)));
-    }
-    match first_entry(alloc, bytes) {
-        Ok(Some((entry, rest))) => Ok(Some((Some(entry), rest))),
-        Ok(None) => Ok(None),
-        Err(e) => Err(e),
-    }
-}
-
-fn first_entry(alloc: Global, bytes: &[u8]) -> Result<Option<(Entry, &[u8])>, Memory>
-    ensures { Gives (λ step. (step.0, step.1.now)) result (entry_at bytes.now) }
-{
-    let Some((mode, name, object, rest)) = split_entry(bytes) else {
-        return Ok(None);
-    };
-    match Bytes::from_slice(alloc, name) {
-        Ok(name) => Ok(Some((Entry { mode, name, object }, rest))),
-        Err(e) => Err(e),
-    }
-}
-
-// The parts of the first entry, and what follows it.
-#[tactic(auto, unfolding(crate::specs::Reading::entry_at))]
-fn split_entry(bytes: &[u8]) -> Option<(Mode, &[u8], Name, &[u8])>
-    ensures { option_map (λ x. (record { mode = x.0; name = x.1.now; object = x.2 }, x.3.now))
-        result ≡ entry_at bytes.now }
-{
-    let (digits, rest) = cut(bytes, b' ')?;
-    let mode = mode_of(digits)?;
-    let (name, rest) = cut(rest, 0)?;
-    let (object, rest) = split_name(rest)?;
-    if !is_entry_name(name) {
-        return None;
-    }
-    Some((mode, name, object, rest))
-}
-
-fn is_entry_name(name: &[u8]) -> bool
+/// Whether a name that ended at its first zero byte is an entry's.
+pub(crate) fn is_entry_name(name: &[u8]) -> bool
     ensures { result ≡ is_entry_name name.now }
 {
     !name.is_empty() && !name.contains(&b'/')
@@ -91,35 +43,6 @@ pub(crate) fn has_entry_name(entry: &Entry) -> bool
 {
     let name = entry.name.as_slice();
     is_entry_name(name) && !name.contains(&0)
-}
-
-#[tactic(auto, unfolding(crate::specs::Reading::name_at))]
-fn split_name(bytes: &[u8]) -> Option<(Name, &[u8])>
-    ensures { option_map (λ x. (x.0, x.1.now)) result ≡ name_at bytes.now }
-{
-    if bytes.len() < 20 {
-        return None;
-    }
-    let (name, rest) = bytes.split_at(20);
-    Some((name_with(name), rest))
-}
-
-fn mode_of(digits: &[u8]) -> Option<Mode>
-    ensures { result ≡ mode_of digits.now }
-{
-    if digits == b"100644".as_slice() {
-        Some(Mode::Plain)
-    } else if digits == b"100755".as_slice() {
-        Some(Mode::Exec)
-    } else if digits == b"120000".as_slice() {
-        Some(Mode::Link)
-    } else if digits == b"40000".as_slice() {
-        Some(Mode::Folder)
-    } else if digits == b"160000".as_slice() {
-        Some(Mode::Module)
-    } else {
-        None
-    }
 }
 
 fn mode_digits(mode: Mode) -> &'static [u8]

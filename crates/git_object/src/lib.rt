@@ -2,14 +2,18 @@
 #![tactic(auto)]
 
 mod commit;
+mod commit_view;
 mod cut;
 mod entry;
 mod frame;
 mod laws;
 mod object;
+mod object_view;
 mod tree;
+mod tree_view;
 
 pub use commit::Commit;
+pub use commit_view::CommitView;
 pub use entry::{Entry, Mode};
 pub use frame::{Frame, Kind, frame_text, name_of, name_of_text};
 pub use laws::{
@@ -17,4 +21,6 @@ pub use laws::{
     values_are_exact,
 };
 pub use object::Object;
+pub use object_view::ObjectView;
 pub use tree::Tree;
+pub use tree_view::{EntryView, TreeView};

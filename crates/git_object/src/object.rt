@@ -4,7 +4,8 @@ ghost use Rattle.git_object.specs.Grammar.{IsObjectText, IsContent, kind_of};
 ghost use Rattle.git_object.specs.Reading.{Gives, object_with, object_of};
 
 use crate::commit::Commit;
-use crate::frame::{Frame, Kind};
+use crate::frame::Kind;
+use crate::object_view::ObjectView;
 use crate::tree::Tree;
 use gb_text::{Bytes, Memory};
 use std::alloc::Global;
@@ -31,14 +32,13 @@ impl Object {
         Object::parse(alloc, text)
     }
 
-    #[tactic(auto, unfolding(crate::specs::Reading::object_of))]
     fn parse(alloc: Global, text: &[u8]) -> Result<Option<Object>, Memory>
         ensures { Gives (λ object. object) result (object_of text.now) }
     {
-        let Some(frame) = Frame::read(text) else {
-            return Ok(None);
-        };
-        Object::of(alloc, frame.kind, frame.content)
+        match ObjectView::read(alloc, text)? {
+            Some(view) => Ok(Some(view.into_object(alloc)?)),
+            None => Ok(None),
+        }
     }
 
     /// The object of this kind that has this content, which is copied at most once. None exactly
@@ -56,16 +56,9 @@ impl Object {
     fn parse_content(alloc: Global, kind: Kind, content: &[u8]) -> Result<Option<Object>, Memory>
         ensures { Gives (λ object. object) result (object_with kind content.now) }
     {
-        match kind {
-            Kind::Blob => Ok(Some(Object::Blob(Bytes::from_slice(alloc, content)?))),
-            Kind::Tree => match Tree::read(alloc, content)? {
-                Some(tree) => Ok(Some(Object::Tree(tree))),
-                None => Ok(None),
-            },
-            Kind::Commit => match Commit::read(alloc, content)? {
-                Some(commit) => Ok(Some(Object::Commit(commit))),
-                None => Ok(None),
-            },
+        match ObjectView::of(alloc, kind, content)? {
+            Some(view) => Ok(Some(view.into_object(alloc)?)),
+            None => Ok(None),
         }
     }
 }

@@ -1,13 +1,15 @@
 //! Trees: lists of entries with distinct names.
-ghost use Rattle.std.specs.Prelude.{◌≡◌, ◌≢◌, ◌↔◌, ◌++◌, IsTrue, IfOk, OnOk, IfSome, Some, All, length, map, IsPermutation, IsSortedByKey};
+ghost use Rattle.std.specs.Prelude.{◌≡◌, ◌≢◌, ◌↔◌, ◌++◌, List, IsTrue, IfOk, OnOk, IfSome, Some, All, length, map, IsPermutation, IsSortedByKey};
 ghost use Rattle.std.specs.List.{AllAdjacentBelow, flat_map, list_all};
 ghost use Rattle.std.specs.Ordering.{nat_cmp};
 ghost use Rattle.std.specs.Cmp.Lexicographic.{slice_cmp};
 ghost use Rattle.gb_text.specs.Digits.{IsName};
+ghost use Rattle.git_object.specs.declared.entry.Entry.{Entry as EntryValue};
 ghost use Rattle.git_object.specs.Grammar.{IsTreeText, HasGoodNames, IsSortedForm, entry_text, sort_key};
-ghost use Rattle.git_object.specs.Reading.{Gives, has_entry_name, entries_at, are_distinct, tree_of};
+ghost use Rattle.git_object.specs.Reading.{Gives, has_entry_name, are_distinct, tree_of};
 
-use crate::entry::{Entry, append_entry, has_entry_name, key_order, next_entry};
+use crate::entry::{Entry, append_entry, has_entry_name, key_order};
+use crate::tree_view::TreeView;
 use gb_text::{Bytes, List, Memory};
 use std::alloc::{AllocError, Global};
 
@@ -56,51 +58,27 @@ impl Tree {
         if !have_entry_names(self.entries.as_slice()) {
             return Ok(false);
         }
-        Ok(are_distinct(alloc, self.entries.as_slice())?)
+        let names = names_of(alloc, self.entries.as_slice())?;
+        Ok(are_distinct(names)?)
     }
 
-    #[tactic(auto, unfolding(crate::specs::Reading::tree_of))]
     fn parse(alloc: Global, content: &[u8]) -> Result<Option<Tree>, Memory>
         ensures { Gives (λ tree. tree) result (tree_of content.now) }
     {
-        let Some(entries) = read_entries(alloc, content)? else {
-            return Ok(None);
-        };
-        if are_distinct(alloc, entries.as_slice())? {
-            Ok(Some(Tree { entries }))
-        } else {
-            Ok(None)
+        match TreeView::read(alloc, content)? {
+            Some(view) => Ok(Some(view.into_tree(alloc)?)),
+            None => Ok(None),
         }
     }
 }
 
-fn read_entries(alloc: Global, content: &[u8]) -> Result<Option<List<Entry>>, Memory>
-    ensures { Gives (λ entries. entries) result (entries_at content.now) }
+/// Whether no two entries with these names have one name. Names that are equal stand side by side
+/// once they are sorted, so that 150,000 of them cost no quadratic time.
+pub(crate) fn are_distinct(mut names: Vec<&[u8]>) -> Result<bool, AllocError>
+    ensures { (entries : List EntryValue)
+        → map (λ name. name.now) names.entry.items ≡ map (λ e. e.name) entries
+        → IfOk result (λ distinct. distinct ≡ are_distinct entries) }
 {
-    let mut entries = Vec::new(alloc);
-    let mut rest = content;
-    loop {
-        let (entry, next) = match next_entry(alloc, rest) {
-            Ok(Some(step)) => step,
-            Ok(None) => return Ok(None),
-            Err(e) => return Err(e),
-        };
-        let Some(entry) = entry else {
-            return Ok(Some(List::from_vec(entries)));
-        };
-        match entries.push(entry) {
-            Ok(()) => rest = next,
-            Err(_) => return Err(Memory),
-        }
-    }
-}
-
-// Whether no two entries have one name. Names that are equal stand side by side once they are
-// sorted, so that 150,000 of them cost no quadratic time.
-fn are_distinct(alloc: Global, entries: &[Entry]) -> Result<bool, AllocError>
-    ensures { IfOk result (λ distinct. distinct ≡ are_distinct entries.now) }
-{
-    let mut names = names_of(alloc, entries)?;
     names.sort()?;
     Ok(neighbours_differ(&names))
 }

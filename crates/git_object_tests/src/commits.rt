@@ -1,7 +1,7 @@
 //! Commits that the program `git` wrote, those that are made by hand, and contents that are no commits.
 use fixtures::{joined, name};
 use gb_text::{Bytes, List, Name};
-use git_object::{Commit, Kind, name_of};
+use git_object::{Commit, CommitView, Kind, name_of};
 use std::alloc::Global;
 use std::test::Fail;
 
@@ -84,6 +84,28 @@ fn commits_are_read_and_written_again(rt: HostRuntime) -> Result<(), Fail> {
         assert!(rt; is_by_both(&commit, more, message), "row {row}");
         assert!(rt;
             is_written_as(rt.alloc(), &commit, text.as_bytes())?,
+            "row {row}"
+        );
+    }
+    Ok(())
+}
+
+// Whether the view of a content has these persons, these further lines and this message.
+fn is_seen(alloc: Global, content: &[u8], more: &str, message: &str) -> Result<bool, Fail> {
+    let view = CommitView::read(alloc, content)?.ok_or("a commit")?;
+    Ok(
+        view.author == AUTHOR
+            && view.committer == COMMITTER
+            && view.more == more.as_bytes()
+            && view.message == message.as_bytes(),
+    )
+}
+
+#[test]
+fn views_have_the_texts_of_their_content(rt: HostRuntime) -> Result<(), Fail> {
+    for (row, (text, _, more, message)) in READ.iter().enumerate() {
+        assert!(rt;
+            is_seen(rt.alloc(), text.as_bytes(), more, message)?,
             "row {row}"
         );
     }

@@ -1,7 +1,7 @@
 //! Trees in the order of Git, contents that are no trees, and large ones.
 use fixtures::{joined, name};
 use gb_text::{Bytes, List};
-use git_object::{Entry, Kind, Mode, Tree, name_of};
+use git_object::{Entry, Kind, Mode, Tree, TreeView, name_of};
 use std::alloc::Global;
 use std::test::Fail;
 
@@ -48,6 +48,26 @@ const MODULE: Row = (
 );
 
 const SORTED: &[Row] = &[DOTTED, FOLDER, PLAIN, LINK, MODULE];
+
+// The names of the view of a tree, one after the other.
+fn seen_names(alloc: Global, content: &[u8]) -> Result<Vec<u8>, Fail> {
+    let view = TreeView::read(alloc, content)?.ok_or("a tree")?;
+    let mut names = Vec::new(alloc);
+    for entry in view.entries.as_slice() {
+        names.extend_from_slice(entry.name)?;
+    }
+    Ok(names)
+}
+
+#[test]
+fn views_have_the_names_of_their_content(rt: HostRuntime) -> Result<(), Fail> {
+    let alloc = rt.alloc();
+    let names = seen_names(alloc, &content_of(alloc, SORTED)?)?;
+    assert_eq!(rt; names.as_slice(), b"a.baa0linkmodule".as_slice());
+    let twice = content_of(alloc, &[DOTTED, FOLDER, DOTTED])?;
+    assert!(rt; TreeView::read(alloc, &twice)?.is_none());
+    Ok(())
+}
 
 // Whether a tree begins with a module and ends with a file of this name.
 fn is_turned(tree: &Tree, last_name: &[u8]) -> bool {

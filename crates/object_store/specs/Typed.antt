@@ -69,6 +69,11 @@ AnswersAs read objects name (Err fault.Memory) = ⊤
 AnswersAs read objects name (Err fault.Disk) = ⊤
 AnswersAs read objects name (Err e) = CannotReadAs read objects name e
 
+-- an answer that is a view, as one of the value that the view shows
+abbrev pub shown : {V T E : Type 0} → (V → T) → Result V E → Result T E
+shown see (Ok view) = Ok (see view)
+shown see (Err e) = Err e
+
 -- the answer is for this name: the object that was read has it, or the fault carries it
 abbrev pub IsForAs : {T : Type 0} → (T → Object) → Name → Result T KindFault → Type 0
 IsForAs object name (Ok value) = IsObjectOf name (object value)

@@ -7,6 +7,7 @@ mod object_text;
 mod path;
 mod read;
 mod typed;
+mod view;
 mod write;
 
 pub use fault::{KindFault, ObjFault, PutFault};
@@ -17,6 +18,7 @@ pub use laws::{
 };
 pub use object_text::ObjectText;
 pub use path::path_of;
-pub use read::{MOST_BYTES, Raw, get, get_raw, judge, judge_raw};
+pub use read::{MOST_BYTES, Raw, get, get_raw, get_text, judge, judge_raw};
 pub use typed::{get_blob, get_commit, get_tree};
+pub use view::{commit_in, tree_in};
 pub use write::{put, put_text, stands};

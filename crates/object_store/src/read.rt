@@ -65,6 +65,28 @@ pub fn get_raw<S: Store>(
     judge_raw(alloc, name, read)
 }
 
+/// The text under the name in the folder: the file at the name's path, where it has at most
+/// 4,194,304 bytes and the SHA-1 that the name says. Whether it is an object's isn't looked at. One
+/// object read, whatever the answer.
+pub fn get_text<S: Store>(
+    alloc: Global,
+    disk: &mut S,
+    folder: &Folder,
+    name: &Name,
+) -> Result<Bytes, ObjFault>
+    ensures answers { IsTrue S.tells
+        → AnswersText (objects_after (S.history disk.old) folder.now) name.now result }
+    ensures asked { IsFor (IsNamedBy name.now) name.now result }
+    ensures unwritten { IsTrue S.tells → S.history disk.new ≡ S.history disk.old }
+    ensures reads { ReadsOne (IsErrOf result ObjFault.Memory)
+        (S.object_reads disk.old) (S.object_reads disk.new) }
+    ensures caused { KeepsFaults S.never_fails S.faults (IsErrOf result ObjFault.Disk)
+        disk.old disk.new }
+{
+    let read = read_file(alloc, disk, folder, name)?;
+    text_in(name, read)
+}
+
 /// What a name holds in each folder where this was read at its path, asked for as many bytes as an
 /// object may have: the answer of `get`, without the read.
 pub fn judge(alloc: Global, name: &Name, read: Content) -> Result<Object, ObjFault>

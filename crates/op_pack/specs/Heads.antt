@@ -1,5 +1,5 @@
 -- What a commit's tree says of its pack, and what may be wrong with the tree.
-use Rattle.std.specs.Prelude.{◌≡◌, ◌≤◌, ◌⊎◌, ℕ, ◌&&◌, ◌==◌, nat_le, Bool, true, false, if◌then◌else◌, List, [], ◌∷◌, ◌++◌, length, take, drop, codes, decimal, Option, Some, None}
+use Rattle.std.specs.Prelude.{◌≡◌, ◌≤◌, ◌⊎◌, ℕ, ◌&&◌, ◌==◌, nat_le, Bool, true, false, if◌then◌else◌, List, [], ◌∷◌, ◌++◌, length, map, take, drop, codes, decimal, Option, Some, None}
 use Rattle.std.specs.Option.{ForSome, option_map}
 use Rattle.std.specs.List.{filter_map, find, AllByRecursion}
 use Rattle.std.specs.Str.{bytes_eq}
@@ -12,6 +12,8 @@ use Rattle.git_object.specs.declared.entry.Mode.{Mode}
 use Rattle.git_object.specs.declared.entry.Mode.TheVariants.{Plain, Exec, Link, Folder, Module}
 use Rattle.git_object.specs.declared.frame.Kind.TheVariants.{Blob}
 use Rattle.git_object.specs.declared.tree.Tree.{Tree}
+use Rattle.git_object.specs.declared.tree_view.EntryView.{EntryView}
+use Rattle.git_object.specs.Views.{entry_seen}
 use Rattle.op_kind.specs.Members.{IsRepeated, Breaks, Lacks, only_value, value_or}
 use Rattle.op_pack.specs.declared.fault.PackFault.{PackFault}
 use Rattle.op_pack.specs.declared.fault.PackFault.TheVariants.{Memory, UnknownVersion, NoOps, BadClock, BadPack, BadOperation, TooLarge}
@@ -27,6 +29,10 @@ rest_after front e = if bytes_eq (take (length front) e.name) front then Some (d
 -- what follows a front in each of the names that begin so
 abbrev pub rests_after : List ℕ → List Entry → List (List ℕ)
 rests_after front entries = filter_map (rest_after front) entries
+
+-- the same of entries that borrow from a tree's text
+abbrev pub rests_seen : List ℕ → List EntryView → List (List ℕ)
+rests_seen front entries = rests_after front (map entry_seen entries)
 
 -- what follows `version-` in the names of a tree's entries
 abbrev pub versions : Tree → List (List ℕ)

@@ -3,13 +3,14 @@ ghost use Rattle.std.specs.Prelude.{◌≡◌, [], ◌∷◌, IfOk, IfErr, IfSom
 ghost use Rattle.std.specs.Option.{ForSome, option_copied};
 ghost use Rattle.op_kind.specs.Members.{IsRepeated};
 ghost use Rattle.git_object.specs.Grammar.{HasGoodNames};
-ghost use Rattle.op_pack.specs.Heads.{IsClock, IsHeadInRange, rest_after, rests_after, clock_at, version_at, version_of, edit_clock_of, create_clock_of, is_ops, ops_of, head_of, HeadFault, IsTold, plain_entry, number_entry, tree_with};
+ghost use Rattle.git_object.specs.Views.{entry_seen, tree_seen};
+ghost use Rattle.op_pack.specs.Heads.{IsClock, IsHeadInRange, rest_after, rests_seen, clock_at, version_at, version_of, edit_clock_of, create_clock_of, is_ops, ops_of, head_of, HeadFault, IsTold, plain_entry, number_entry, tree_with};
 ghost use Rattle.op_pack.specs.Answers.{Answers};
 ghost use Rattle.op_pack.specs.declared.fault.PackFault.{PackFault as FaultValue};
 
 use crate::PackFault;
 use gb_text::{Bytes, LIMIT, List, Memory, Name, read_decimal};
-use git_object::{Entry, Kind, Mode, Tree, name_of};
+use git_object::{Entry, EntryView, Kind, Mode, Tree, TreeView, name_of};
 use op_kind::VERSION;
 use std::alloc::Global;
 
@@ -24,20 +25,20 @@ pub struct TreeHead {
 }
 
 // What follows a front in an entry's name, if the name begins so.
-fn rest_after<'a>(front: &[u8], entry: &'a Entry) -> Option<&'a [u8]>
-    ensures { option_copied result ≡ rest_after front.now entry.now }
+fn rest_after<'a>(front: &[u8], entry: &EntryView<'a>) -> Option<&'a [u8]>
+    ensures { option_copied result ≡ rest_after front.now (entry_seen entry.now) }
 {
-    entry.name.as_slice().strip_prefix(front)
+    entry.name.strip_prefix(front)
 }
 
 // What follows a front in the name of the entry whose name begins so, if there is one. None where
 // there are several.
 #[tactic(auto, using(crate::proofs::RestLemmas::rests_drop))]
-fn find_rest<'a>(front: &[u8], entries: &'a [Entry]) -> Option<Option<&'a [u8]>>
-    ensures repeated { IfNone result (IsRepeated (rests_after front.now entries.now)) }
-    ensures absent { IfSome result (λ o. IfNone o (rests_after front.now entries.now ≡ [])) }
+fn find_rest<'a>(front: &[u8], entries: &[EntryView<'a>]) -> Option<Option<&'a [u8]>>
+    ensures repeated { IfNone result (IsRepeated (rests_seen front.now entries.now)) }
+    ensures absent { IfSome result (λ o. IfNone o (rests_seen front.now entries.now ≡ [])) }
     ensures once { IfSome result (λ o. IfSome o
-        (λ rest. rests_after front.now entries.now ≡ rest.now ∷ [])) }
+        (λ rest. rests_seen front.now entries.now ≡ rest.now ∷ [])) }
 {
     let mut found = None;
     for entry in entries {
@@ -53,8 +54,8 @@ fn find_rest<'a>(front: &[u8], entries: &'a [Entry]) -> Option<Option<&'a [u8]>>
 }
 
 // The first number that follows a front as a plain decimal, or 0.
-fn told_number(front: &[u8], entries: &[Entry]) -> u64
-    ensures { IsTold result (rests_after front.now entries.now) }
+fn told_number(front: &[u8], entries: &[EntryView<'_>]) -> u64
+    ensures { IsTold result (rests_seen front.now entries.now) }
 {
     for entry in entries {
         let Some(rest) = rest_after(front, entry) else {
@@ -74,8 +75,8 @@ fn read_version(text: &[u8]) -> Option<u64>
     read_decimal(text).filter(|version| *version == VERSION)
 }
 
-fn version_in(tree: &Tree) -> Result<u64, PackFault>
-    ensures { Answers (version_of tree.now) (HeadFault tree.now) result }
+fn version_in(tree: &TreeView<'_>) -> Result<u64, PackFault>
+    ensures { Answers (version_of (tree_seen tree.now)) (HeadFault (tree_seen tree.now)) result }
 {
     let entries = tree.entries.as_slice();
     let version = match find_rest(b"version-", entries) {
@@ -95,8 +96,8 @@ fn read_clock(text: &[u8]) -> Option<u64>
     read_decimal(text).filter(|clock| 1 <= *clock && *clock <= LIMIT)
 }
 
-fn edit_clock_in(tree: &Tree) -> Result<u64, PackFault>
-    ensures { Answers (edit_clock_of tree.now) (HeadFault tree.now) result }
+fn edit_clock_in(tree: &TreeView<'_>) -> Result<u64, PackFault>
+    ensures { Answers (edit_clock_of (tree_seen tree.now)) (HeadFault (tree_seen tree.now)) result }
 {
     match find_rest(b"edit-clock-", tree.entries.as_slice()) {
         None => Err(PackFault::BadClock),
@@ -105,8 +106,8 @@ fn edit_clock_in(tree: &Tree) -> Result<u64, PackFault>
     }
 }
 
-fn create_clock_in(tree: &Tree) -> Result<Option<u64>, PackFault>
-    ensures { Answers (create_clock_of tree.now) (HeadFault tree.now) result }
+fn create_clock_in(tree: &TreeView<'_>) -> Result<Option<u64>, PackFault>
+    ensures { Answers (create_clock_of (tree_seen tree.now)) (HeadFault (tree_seen tree.now)) result }
 {
     match find_rest(b"create-clock-", tree.entries.as_slice()) {
         None => Err(PackFault::BadClock),
@@ -118,14 +119,14 @@ fn create_clock_in(tree: &Tree) -> Result<Option<u64>, PackFault>
     }
 }
 
-fn is_ops(entry: &Entry) -> bool
-    ensures { result ≡ is_ops entry.now }
+fn is_ops(entry: &EntryView<'_>) -> bool
+    ensures { result ≡ is_ops (entry_seen entry.now) }
 {
-    entry.name.as_slice() == b"ops".as_slice() && matches!(entry.mode, Mode::Plain | Mode::Exec)
+    entry.name == b"ops".as_slice() && matches!(entry.mode, Mode::Plain | Mode::Exec)
 }
 
-fn ops_in(tree: &Tree) -> Result<Name, PackFault>
-    ensures { Answers (ops_of tree.now) (HeadFault tree.now) result }
+fn ops_in(tree: &TreeView<'_>) -> Result<Name, PackFault>
+    ensures { Answers (ops_of (tree_seen tree.now)) (HeadFault (tree_seen tree.now)) result }
 {
     for entry in tree.entries.as_slice() {
         if is_ops(entry) {
@@ -140,9 +141,9 @@ fn ops_in(tree: &Tree) -> Result<Name, PackFault>
 /// with `edit-clock-`, at most one that begins with `create-clock-`, and in each of these a plain
 /// decimal of 1 to 2^63 - 1 follows; and an entry `ops` of mode 100644 or 100755. Other entries are
 /// ignored, and so are the modes and the objects of versions and clocks. Takes no memory.
-pub fn read_head(tree: &Tree) -> Result<TreeHead, PackFault>
-    ensures answer { Answers (head_of tree.now) (HeadFault tree.now) result }
-    ensures sound { IfOk result (λ _. (fault : FaultValue) → HeadFault tree.now fault → ⊥) }
+pub fn read_head(tree: &TreeView<'_>) -> Result<TreeHead, PackFault>
+    ensures answer { Answers (head_of (tree_seen tree.now)) (HeadFault (tree_seen tree.now)) result }
+    ensures sound { IfOk result (λ _. (fault : FaultValue) → HeadFault (tree_seen tree.now) fault → ⊥) }
     ensures in_range { IfOk result IsHeadInRange }
 {
     let version = version_in(tree)?;

@@ -14,6 +14,3 @@ pub use laws::{
     parts_are_exact, written_packs_read_back,
 };
 pub use pack::{MOST_OPERATIONS, Pack};
-
-#[cfg(test)]
-mod tests;

@@ -13,3 +13,5 @@ mod refs;
 mod store_callers;
 #[cfg(test)]
 mod stores;
+#[cfg(test)]
+mod views;

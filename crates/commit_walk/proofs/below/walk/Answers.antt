@@ -5,8 +5,9 @@ use Rattle.gb_text.specs.declared.id.Name.{Name}
 use Rattle.gb_store.specs.Files.{History}
 use Rattle.gb_store.proofs.FaultLemmas.{KeepsFaults_then}
 use Rattle.object_store.specs.Held.{objects_after}
+use Rattle.object_store.specs.Typed.{commit_at}
 use Rattle.commit_walk.specs.Queues.{Adds}
-use Rattle.commit_walk.specs.Answers.{CommitAnswers, CommitRefused, StepAnswers, WalkAnswers}
+use Rattle.commit_walk.specs.Answers.{CommitRefused, StepAnswers, WalkAnswers}
 use Rattle.commit_walk.specs.declared.below.Met.{Met}
 use Rattle.commit_walk.specs.declared.fault.WalkStop.{WalkStop}
 use Rattle.commit_walk.proofs.FrontierLemmas.{Front, Front-start, Front-step, Front-closed, Frontier, Frontier-start, Frontier-step, Frontier-whole, Frontier-read_next, Frontier-too_many, Frontier-refused}
@@ -117,25 +118,25 @@ returns-in_err-push-clause-each g c = λ tells.
     (g.S.Store.object_reads c.args.disk.now) (g.S.Store.object_reads c.loop-place.disk) (g.S.Store.object_reads c.step.new.disk) c.loop-place.place c.in-Some.name
     before.queue.once (before.frontier tells) (sym c.get.ensures ∙ c.in-Some.is) before.reads c.in_ok-met.ensures.reads
 
-pub returns-in_err-commit_of-clause-answers : goal.returns-in_err-commit_of-clause-answers
-returns-in_err-commit_of-clause-answers g c = λ tells.
+pub returns-in_err-meet-clause-answers : goal.returns-in_err-meet-clause-answers
+returns-in_err-meet-clause-answers g c = λ tells.
     let objects = objects_after (g.S.Store.history c.args.disk.now) c.args.folder.now in
     let names = c.loop-place.queue.names.items in
     let before = c.loop-place.invariant in
     let name = c.in-Some-get.name in
-    let stop = c.in_err-commit_of.field-0.0 in
-    let is : c.from_residual-in_err-commit_of.result ≡ Err stop = search rules in
-    let refused : CommitRefused objects name stop = subst (λ (h : History). CommitRefused (objects_after h c.args.folder.now) name stop) (before.unwritten tells) (c.in_err-commit_of.ensures.answers tells) in
+    let stop = c.in_err-meet.field-0.0 in
+    let is : c.from_residual-in_err-meet.result ≡ Err stop = search rules in
+    let refused : CommitRefused objects name stop = subst (λ (h : History). CommitRefused (objects_after h c.args.folder.now) name stop) (before.unwritten tells) (c.in_err-meet.ensures.answers tells) in
     subst (λ (r : Result (Vec Met Global) WalkStop). WalkAnswers objects c.args.heads.now r) (sym is)
     (Frontier-refused objects c.args.heads.now names c.loop-place.walk.items 65536 name stop (before.frontier tells) (sym c.get-2.ensures ∙ c.in-Some-get.is) refused)
 
-pub returns-in_err-commit_of-clause-each : goal.returns-in_err-commit_of-clause-each
-returns-in_err-commit_of-clause-each g c = λ tells.
+pub returns-in_err-meet-clause-each : goal.returns-in_err-meet-clause-each
+returns-in_err-meet-clause-each g c = λ tells.
     let before = c.loop-place.invariant in
     let few : g.S.Store.object_reads c.loop-place.disk ≤ g.S.Store.object_reads c.args.disk.now + 65536 = omega (arith, before.reads, c.loop-place.auto.place-end) in
     Frontier-read_next (objects_after (g.S.Store.history c.args.disk.now) c.args.folder.now) c.args.heads.now c.loop-place.queue.names.items c.loop-place.walk.items
-    (g.S.Store.object_reads c.args.disk.now) (g.S.Store.object_reads c.loop-place.disk) (g.S.Store.object_reads c.commit_of.new.disk) 65536 c.in-Some-get.name
-    before.queue.once (before.frontier tells) (sym c.get-2.ensures ∙ c.in-Some-get.is) few c.in_err-commit_of.ensures.reads
+    (g.S.Store.object_reads c.args.disk.now) (g.S.Store.object_reads c.loop-place.disk) (g.S.Store.object_reads c.meet.new.disk) 65536 c.in-Some-get.name
+    before.queue.once (before.frontier tells) (sym c.get-2.ensures ∙ c.in-Some-get.is) few c.in_err-meet.ensures.reads
 
 pub returns-clause-answers : goal.returns-clause-answers
 returns-clause-answers g c = λ tells.
@@ -143,16 +144,17 @@ returns-clause-answers g c = λ tells.
     let names = c.loop-place.queue.names.items in
     let before = c.loop-place.invariant in
     let name = c.in-Some-get.name in
-    let commit = c.in_ok-commit_of.field-0 in
+    let met = c.in_ok-meet.field-0 in
     let far : length c.loop-place.walk.items ≡ 65536 = omega (arith, before.count, c.loop-place.auto.place-end, c.loop-place-test.false) in
     let at : slice_get names (length c.loop-place.walk.items) ≡ Some name = ap (slice_get names) far ∙ sym c.get-2.ensures ∙ c.in-Some-get.is in
-    let held : CommitAnswers objects name (Ok commit) = subst (λ (h : History). CommitAnswers (objects_after h c.args.folder.now) name (Ok commit)) (before.unwritten tells) (c.in_ok-commit_of.ensures.answers tells) in
-    Frontier-too_many objects c.args.heads.now names c.loop-place.walk.items name commit before.queue.once (before.frontier tells) at far held
+    let step : StepAnswers objects name (Ok met) = subst (λ (h : History). StepAnswers (objects_after h c.args.folder.now) name (Ok met)) (before.unwritten tells) (c.in_ok-meet.ensures.answers tells) in
+    let held : commit_at objects name ≡ Some step.commit = ap (commit_at objects) (sym c.in_ok-meet.ensures.named) ∙ step.held in
+    Frontier-too_many objects c.args.heads.now names c.loop-place.walk.items name step.commit before.queue.once (before.frontier tells) at far held
 
 pub returns-clause-each : goal.returns-clause-each
 returns-clause-each g c = λ tells.
     let before = c.loop-place.invariant in
     let few : g.S.Store.object_reads c.loop-place.disk ≤ g.S.Store.object_reads c.args.disk.now + 65536 = omega (arith, before.reads, c.loop-place.auto.place-end) in
     Frontier-read_next (objects_after (g.S.Store.history c.args.disk.now) c.args.folder.now) c.args.heads.now c.loop-place.queue.names.items c.loop-place.walk.items
-    (g.S.Store.object_reads c.args.disk.now) (g.S.Store.object_reads c.loop-place.disk) (g.S.Store.object_reads c.commit_of.new.disk) 65536 c.in-Some-get.name
-    before.queue.once (before.frontier tells) (sym c.get-2.ensures ∙ c.in-Some-get.is) few c.in_ok-commit_of.ensures.reads
+    (g.S.Store.object_reads c.args.disk.now) (g.S.Store.object_reads c.loop-place.disk) (g.S.Store.object_reads c.meet.new.disk) 65536 c.in-Some-get.name
+    before.queue.once (before.frontier tells) (sym c.get-2.ensures ∙ c.in-Some-get.is) few c.in_ok-meet.ensures.reads

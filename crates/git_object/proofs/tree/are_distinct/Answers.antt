@@ -5,5 +5,5 @@ use Rattle.git_object.proofs.DistinctLaws.{decided}
 use Rattle.git_object.proofs.tree.are_distinct.Goals as goal
 
 pub returns : goal.returns
-returns c = decided c.args.entries.now c.in_ok-names.names.items c.sort.new.self.items c.neighbours_differ.result c.in_ok-names.ensures c.in_ok-sort.ensures.permutation c.in_ok-sort.ensures.sorted
+returns c = λ entries are. decided entries c.args.names.items c.sort.new.self.items c.neighbours_differ.result are c.in_ok-sort.ensures.permutation c.in_ok-sort.ensures.sorted
     (subst (λ (rs : List (Bor (List ℕ))). IsTrue c.neighbours_differ.result ↔ AllAdjacentBelow (λ x y. x.now ≢ y.now) rs (length rs)) c.deref.ensures.value c.neighbours_differ.ensures)

@@ -1,7 +1,7 @@
 use Rattle.std.proofs.Common.{◌≡◌, drop}
 use Rattle.std.specs.List.{flat_map}
 use Rattle.op_kind.specs.Fold.{state_from}
-use Rattle.op_pack.proofs.tests.callers.fold_packs.Given as goal
+use Rattle.bug_pack_tests.proofs.kinds.fold_packs.Given as goal
 
 abbrev pub invariant-loop-pack : goal.invariant-loop-pack
 invariant-loop-pack g l =

@@ -3,9 +3,9 @@ ghost use Rattle.std.specs.Prelude.{◌≡◌, IfOk};
 ghost use Rattle.std.specs.List.{flat_map};
 ghost use Rattle.op_kind.specs.Fold.{state_from};
 
-use crate::Pack;
 use gb_text::{Id, List, Memory};
 use op_kind::{AnyOp, OpKind, Place, folds_append};
+use op_pack::Pack;
 use std::alloc::Global;
 use std::test::Fail;
 

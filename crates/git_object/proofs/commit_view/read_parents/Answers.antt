@@ -3,7 +3,7 @@ use Rattle.gb_text.specs.declared.id.Name.{Name}
 use Rattle.git_object.specs.Reading.{parent_at, all_at}
 use Rattle.git_object.proofs.RepeatLaws.{so_far_next, so_far_end, so_far_fails}
 use Rattle.git_object.proofs.CommitLaws.{parent_takes_some}
-use Rattle.git_object.proofs.commit.read_parents.Goals as goal
+use Rattle.git_object.proofs.commit_view.read_parents.Goals as goal
 
 pub returns-in_default : goal.returns-in_default
 returns-in_default c = so_far_fails parent_at c.loop-parent.parents.items c.loop-parent.rest.now (all_at parent_at c.args.bytes.now) (sym c.in_default.ensures) c.loop-parent.invariant

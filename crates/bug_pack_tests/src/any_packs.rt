@@ -1,10 +1,7 @@
-//! What no clause says: worked trees and texts, and that calls succeed.
-mod callers;
-
-use crate::{Pack, PackFault, TreeHead, read_head, tree_for};
-use gb_text::{Bytes, Id, List, Memory, Name};
-use git_object::{Entry, Mode, Tree};
+//! Packs of operations of any type: worked texts, and that calls succeed.
+use gb_text::{Id, List, Memory, Name};
 use op_kind::{AnyOp, OpFault, OpKind};
+use op_pack::{Pack, PackFault, TreeHead};
 use std::alloc::Global;
 use std::test::Fail;
 
@@ -27,120 +24,6 @@ const BACK: &[u8] = b"]}";
 
 const OPERATION: &[u8] =
     b"{ \"nonce\":\"AAAAAAAAAAAAAAAAAAAAAAAAAAA=\",\"timestamp\":0,\"title\":\"a\\u003cb\",\"type\":1}";
-
-/// A tree of plain files with these names.
-fn files(alloc: Global, names: &[&str]) -> Result<Tree, Memory> {
-    let mut entries = Vec::new(alloc);
-    for name in names {
-        let name = Bytes::from_slice(alloc, name.as_bytes())?;
-        entries.push(Entry {
-            mode: Mode::Plain,
-            name,
-            object: OPS,
-        })?;
-    }
-    Ok(Tree {
-        entries: List::from_vec(entries),
-    })
-}
-
-#[test]
-fn trees_that_are_made_read_back(rt: HostRuntime) -> Result<(), Fail> {
-    let alloc = rt.alloc();
-    let tree = tree_for(alloc, 2, None, &OPS)?;
-    let head = TreeHead {
-        version: 4,
-        edit: 2,
-        create: None,
-        ops: OPS,
-    };
-    assert_eq!(rt; read_head(&tree), Ok(head));
-    let empty = tree.entries.as_slice()[1].object;
-    assert_eq!(rt;
-        empty.text().as_slice(),
-        b"e69de29bb2d1d6434b8b29ae775ad8c2e48c5391".as_slice()
-    );
-    let tree = tree_for(alloc, 9223372036854775807, Some(1), &OPS)?;
-    let head = TreeHead {
-        edit: 9223372036854775807,
-        create: Some(1),
-        ..head
-    };
-    assert_eq!(rt; read_head(&tree), Ok(head));
-    assert!(rt; tree.has_good_names(alloc)?);
-    Ok(())
-}
-
-#[test]
-fn each_fault_of_a_tree_is_named(rt: HostRuntime) -> Result<(), Fail> {
-    let alloc = rt.alloc();
-    let rows: [(&[&str], PackFault); 12] = [
-        (
-            &["ops", "version-5", "edit-clock-1"],
-            PackFault::UnknownVersion(5),
-        ),
-        (
-            &["ops", "version-", "edit-clock-1"],
-            PackFault::UnknownVersion(0),
-        ),
-        (
-            &["ops", "version-04", "edit-clock-1"],
-            PackFault::UnknownVersion(0),
-        ),
-        (
-            &["ops", "version-x", "version-4", "edit-clock-1"],
-            PackFault::UnknownVersion(4),
-        ),
-        (&["version-4", "edit-clock-1"], PackFault::NoOps),
-        (&["ops", "version-4"], PackFault::BadClock),
-        (&["ops", "version-4", "edit-clock-0"], PackFault::BadClock),
-        (&["ops", "version-4", "edit-clock-01"], PackFault::BadClock),
-        (&["ops", "version-4", "edit-clock-"], PackFault::BadClock),
-        (
-            &["ops", "version-4", "edit-clock-9223372036854775808"],
-            PackFault::BadClock,
-        ),
-        (
-            &["ops", "version-4", "edit-clock-1", "edit-clock-2"],
-            PackFault::BadClock,
-        ),
-        (
-            &[
-                "ops",
-                "version-4",
-                "edit-clock-1",
-                "create-clock-1",
-                "create-clock-2",
-            ],
-            PackFault::BadClock,
-        ),
-    ];
-    for (names, fault) in rows {
-        assert_eq!(rt; read_head(&files(alloc, names)?), Err(fault));
-    }
-    assert!(rt; read_head(&files(alloc, &[])?).is_err());
-    Ok(())
-}
-
-#[test]
-fn the_operations_stand_in_a_file(rt: HostRuntime) -> Result<(), Fail> {
-    let alloc = rt.alloc();
-    let modes = [Mode::Exec, Mode::Link, Mode::Folder, Mode::Module];
-    for mode in modes {
-        let tree = files(alloc, &["version-4", "edit-clock-1", "x"])?;
-        let mut entries = tree.entries.into_vec();
-        entries.push(Entry {
-            mode,
-            name: Bytes::from_slice(alloc, b"ops")?,
-            object: OPS,
-        })?;
-        let tree = Tree {
-            entries: List::from_vec(entries),
-        };
-        assert_eq!(rt; read_head(&tree).is_ok(), mode == Mode::Exec);
-    }
-    Ok(())
-}
 
 /// The texts one after the other.
 fn joined(alloc: Global, texts: &[&[u8]]) -> Result<Vec<u8>, Memory> {
