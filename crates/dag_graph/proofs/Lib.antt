@@ -7,4 +7,3 @@ pub mod NodeLemmas
 pub mod OrderLaws
 pub mod OrderLemmas
 pub mod SearchLemmas
-pub mod TestLemmas

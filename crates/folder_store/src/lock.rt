@@ -1,7 +1,7 @@
 //! The locks of a run on the folders that its words name.
-use crate::signals::again;
 use crate::claim::{Claim, Purpose};
 use crate::disk;
+use crate::signals::again;
 use crate::ways::front_at;
 use std::alloc::Global;
 use std::fs::{File, Metadata, TryLockError};

@@ -1,7 +1,7 @@
 //! Single calls on the system and on a store over real folders, so that a test sees of each no more than whether it succeeded.
+use folder_store::{Claim, FolderStore, Locking, Purpose};
 use gb_store::{Content, Store, StoreFault};
 use gb_text::Folder;
-use folder_store::{Claim, FolderStore, Locking, Purpose};
 use std::fs;
 use std::os::unix::fs::symlink;
 use std::process::Abort;

@@ -7,7 +7,7 @@ use Rattle.dag_graph.specs.Nodes.{no_node, node_at}
 use Rattle.dag_graph.specs.declared.node.Node.{Node}
 use Rattle.dag_graph.proofs.ListLemmas.{read_at}
 use Rattle.dag_graph.proofs.NodeLemmas.{position_of}
-use Rattle.dag_graph.proofs.TestLemmas.{nodes_of_index}
+use Rattle.commit_tests.proofs.GraphLemmas.{nodes_of_index}
 use Rattle.commit_tests.proofs.graphs.are_nodes.Goals as goal
 
 pub loop-node-preserved : goal.loop-node-preserved

@@ -5,7 +5,7 @@ use Rattle.dag_graph.specs.Order.{name_cmp}
 use Rattle.dag_graph.specs.declared.node.Node.{Node}
 use Rattle.dag_graph.proofs.IndexLemmas.{IsIndex-all, IsIndexOf-more}
 use Rattle.dag_graph.proofs.ListLemmas.{read_at}
-use Rattle.dag_graph.proofs.TestLemmas.{none_is}
+use Rattle.commit_tests.proofs.GraphLemmas.{none_is}
 use Rattle.commit_tests.proofs.graphs.index_of.Goals as goal
 
 pub loop-place-preserved : goal.loop-place-preserved
