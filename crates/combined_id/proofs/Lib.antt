@@ -1,2 +1,3 @@
 pub mod CombinedLemmas
+pub mod FrontLemmas
 mod Examples

@@ -1,5 +1,5 @@
 -- The id of a comment, by its 64 places, counted from 0: each is the next digit of the primary id or of the secondary.
-use Rattle.std.specs.Prelude.{ℕ, zero, suc, ◌%◌, ◌==◌, ◌&&◌, ◌||◌, nat_le, Bool, List, [], ◌++◌, take, drop, if◌then◌else◌}
+use Rattle.std.specs.Prelude.{ℕ, zero, suc, ◌%◌, ◌==◌, ◌&&◌, ◌||◌, nat_le, Bool, List, [], ◌∷◌, ◌++◌, take, drop, if◌then◌else◌}
 
 -- the place is the secondary's: 1, 3, 5, 9, and from 10 on each that leaves 4 when it is divided by 5
 abbrev pub is_second : ℕ → Bool
@@ -15,3 +15,10 @@ combined_from (suc count) place primary secondary =
 -- the 64 digits of two ids' digits
 abbrev pub combined_of : List ℕ → List ℕ → List ℕ
 combined_of primary secondary = combined_from 64 0 primary secondary
+
+-- the digits at the places that a predicate takes, the first of the digits at `place`
+abbrev pub digits_at : (ℕ → Bool) → ℕ → List ℕ → List ℕ
+digits_at takes place [] = []
+digits_at takes place (digit ∷ digits) =
+    if takes place then digit ∷ digits_at takes (suc place) digits
+    else digits_at takes (suc place) digits

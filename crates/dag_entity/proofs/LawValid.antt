@@ -172,7 +172,7 @@ module _ {Op State Row : Type 0} (k : Meaning Op State Row) (objects : Objects) 
       }))
 
   -- packs at two places are those of two commits
-  apart : (i j : ℕ) (one two : Placed Op) → slice_get entity.packs i ≡ Some one → slice_get entity.packs j ≡ Some two → i ≢ j → one.commit ≢ two.commit
+  pub apart : (i j : ℕ) (one two : Placed Op) → slice_get entity.packs i ≡ Some one → slice_get entity.packs j ≡ Some two → i ≢ j → one.commit ≢ two.commit
   apart i j one two at_one at_two differ same =
       let has_one = was.packs.each one (Contains-at entity.packs i one at_one) in
       let has_two = was.packs.each two (Contains-at entity.packs j two at_two) in

@@ -11,6 +11,7 @@ pub mod JudgeSets
 pub mod LawExtending
 pub mod LawFirst
 pub mod LawOrders
+pub mod LawRules
 pub mod LawTexts
 pub mod LawValid
 pub mod LoadLemmas

@@ -1,17 +1,20 @@
 //! Laws of entities, each the contract of a function that does nothing.
-ghost use Rattle.std.specs.Prelude.{◌≡◌, ◌↔◌, ◌⊎◌, ℕ, List, [], ◌∷◌, ◌++◌, map, Some};
+ghost use Rattle.std.specs.Prelude.{◌≡◌, ◌≢◌, ◌≤◌, ◌<◌, ◌+◌, ◌↔◌, ◌⊎◌, ℕ, true, List, [], ◌∷◌, ◌++◌, map, length, slice_get, Contains, Some};
+ghost use Rattle.gb_text.specs.declared.decimal.TheConstants.{LIMIT};
 ghost use Rattle.gb_text.specs.declared.id.Id.{Id as IdValue};
 ghost use Rattle.gb_text.specs.declared.id.Name.{Name as NameValue};
 ghost use Rattle.git_object.specs.declared.commit.Commit.{Commit as CommitValue};
+ghost use Rattle.lamport.specs.declared.clock.TheConstants.{JUMP};
 ghost use Rattle.object_store.specs.Held.{Objects};
 ghost use Rattle.commit_walk.specs.Below.{IsBelow, IsParent};
 ghost use Rattle.commit_walk.specs.Distinct.{AreDistinct};
+ghost use Rattle.commit_walk.specs.declared.below.TheConstants.{MOST_COMMITS};
 ghost use Rattle.commit_pack.specs.declared.fault.CommitPackFault.{CommitPackFault as FaultValue};
 ghost use Rattle.op_pack.specs.declared.pack.Pack.{Pack as PackValue};
 ghost use Rattle.dag_entity.specs.Entities.{AreAllInOrder, AreOperationCommits, IsEntity, IsOperationCommit, IsOperationList, ops_in, with_operations};
 ghost use Rattle.dag_entity.specs.Extending.{Begins, BeginsOnce, ClockRises, Extends, HasPackText, begun, extended};
-ghost use Rattle.dag_entity.specs.Faults.{IsValid};
-ghost use Rattle.dag_entity.specs.Nodes.{HasPackFault, IsCommitBelow, pack_at};
+ghost use Rattle.dag_entity.specs.Faults.{AreApart, IsValid};
+ghost use Rattle.dag_entity.specs.Nodes.{HasPackFault, IsCommitBelow, IsNodeBelow, edit_at, pack_at};
 ghost use Rattle.dag_entity.specs.declared.entity.Entity.{Entity as EntityValue};
 ghost use Rattle.dag_entity.specs.declared.entity.Loaded.{Loaded as LoadedValue};
 ghost use Rattle.dag_entity.specs.declared.entity.Placed.{Placed as PlacedValue};
@@ -79,6 +82,47 @@ pub fn valid_entities_are_well_formed<K: OpKind>()
         → ClockRises objects high low }
 {}
 
+/// In a valid entity the edit clock of a commit with one parent lies near the parent's, merge commits
+/// have no operation, each operation but the first of a root may follow others, and each author is
+/// among the authors. Where neither of two heads lies below the other, there is room for the merge
+/// commit that they need: among the commits, and above the clock of each head.
+pub fn valid_entities_keep_the_rules<K: OpKind>()
+    ensures near { (objects : Objects) (id : IdValue) (heads : List NameValue)
+        (authors : List IdValue) (high low : NameValue) (commit : CommitValue)
+        (above beneath : ℕ) → IsValid K.meaning objects id heads authors
+        → IsCommitBelow objects heads high commit → commit.parents ≡ low ∷ []
+        → edit_at objects high ≡ Some above → edit_at objects low ≡ Some beneath
+        → above ≤ beneath + JUMP }
+    ensures merges { (objects : Objects) (id : IdValue) (heads : List NameValue)
+        (authors : List IdValue) (node : LoadedValue K)
+        → IsValid K.meaning objects id heads authors → IsNodeBelow K.meaning objects heads node
+        → 2 ≤ length node.parents → node.placed.pack.ops ≡ [] }
+    ensures follow { (objects : Objects) (id : IdValue) (heads : List NameValue)
+        (authors : List IdValue) (node : LoadedValue K) (place : ℕ) (op : K)
+        → IsValid K.meaning objects id heads authors → IsNodeBelow K.meaning objects heads node
+        → slice_get node.placed.pack.ops place ≡ Some op
+        → (node.parents ≡ [] → place ≡ 0 → ⊥) → K.meaning.is_following op ≡ true }
+    ensures known { (objects : Objects) (id : IdValue) (heads : List NameValue)
+        (authors : List IdValue) (node : LoadedValue K)
+        → IsValid K.meaning objects id heads authors → IsNodeBelow K.meaning objects heads node
+        → Contains authors node.placed.pack.author }
+    ensures room { (objects : Objects) (id : IdValue) (authors : List IdValue)
+        (one two : NameValue) (entity : EntityValue K)
+        → IsEntity K.meaning objects id (one ∷ two ∷ []) authors entity
+        → (IsBelow objects (two ∷ []) one → ⊥) → (IsBelow objects (one ∷ []) two → ⊥)
+        → entity.commits < MOST_COMMITS }
+    ensures clock { (objects : Objects) (id : IdValue) (authors : List IdValue)
+        (one two head : NameValue) → IsValid K.meaning objects id (one ∷ two ∷ []) authors
+        → (IsBelow objects (two ∷ []) one → ⊥) → (IsBelow objects (one ∷ []) two → ⊥)
+        → Contains (one ∷ two ∷ []) head → edit_at objects head ≢ Some LIMIT }
+{}
+
+/// Two heads that are apart are so in the other order too.
+pub fn heads_are_apart_in_either_order()
+    ensures { (objects : Objects) (heads : List NameValue) (one two : NameValue)
+        → AreApart objects heads one two → AreApart objects (two ∷ one ∷ []) two one }
+{}
+
 /// A commit below the heads has a pack or a fault, and never both.
 pub fn commits_have_a_pack_or_a_fault<K: OpKind>()
     ensures either { (objects : Objects) (heads : List NameValue) (name : NameValue)
@@ -100,9 +144,11 @@ pub fn a_first_commit_is_valid<K: OpKind>()
         (begun id node create) }
 {}
 
-/// A commit over the heads of an entity with clocks above theirs, operations that may follow and are
-/// new, and an author among the authors, makes an entity again: nothing is wrong with it, all packs
-/// keep their places, and the new operations come at the end.
+/// A commit over the heads of an entity makes an entity again: nothing is wrong with it, all packs
+/// keep their places, and the new operations come at the end. Its edit clock is above those of the
+/// heads, and near that of a single one; over two heads it has no operation; its operations may follow
+/// others, and none of them comes twice or is one of the entity's; its author is among the authors;
+/// and the entity has fewer commits than it may have.
 pub fn a_later_commit_is_valid<K: OpKind>()
     ensures valid { (objects : Objects) (id : IdValue) (heads : List NameValue)
         (authors : List IdValue) (entity : EntityValue K) (node : LoadedValue K)

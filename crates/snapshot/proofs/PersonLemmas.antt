@@ -82,6 +82,14 @@ pub once_more : (ids : List Id) (y : Id) → each_once (ids ++ y ∷ []) ≡ wit
 once_more [] y = refl
 once_more (x ∷ ids) y = ap (λ zs. x ∷ filter (is_other x) zs) (once_more ids y) ∙ in_front x (each_once ids) y
 
+-- A person who was not seen comes last.
+pub new_comes_last : (ids : List Id) (y : Id) → is_seen ids y ≡ false → each_once (ids ++ y ∷ []) ≡ each_once ids ++ y ∷ []
+new_comes_last ids y new = once_more ids y ∙ ap (λ b. if b then each_once ids else each_once ids ++ y ∷ []) (same_persons ids y ∙ new)
+
+-- One who was seen is not added.
+pub seen_stays : (ids : List Id) (y : Id) → is_seen ids y ≡ true → each_once (ids ++ y ∷ []) ≡ each_once ids
+seen_stays ids y seen = once_more ids y ∙ ap (λ b. if b then each_once ids else each_once ids ++ y ∷ []) (same_persons ids y ∙ seen)
+
 -- The actors one operation further.
 pub actors_more : (ops : List BugOp) (o : BugOp) → with_person (actors_of ops) (author_of o) ≡ actors_of (ops ++ o ∷ [])
 actors_more ops o = sym (ap each_once (map-append author_of ops (o ∷ [])) ∙ once_more (map author_of ops) (author_of o))

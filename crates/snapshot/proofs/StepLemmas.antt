@@ -1,7 +1,8 @@
 -- One operation more is one step of the fold, and so the fold gives what the whole list says.
-use Rattle.std.proofs.Common.{◌≡◌, ◌∙◌, ◌++◌, ◌<◌, ◌^◌, length, refl, sym, ap, subst, List, [], ◌∷◌, ℕ, append_assoc, append-nil}
+use Rattle.std.proofs.Common.{◌≡◌, ◌∙◌, ◌++◌, ◌<◌, ◌^◌, length, refl, sym, ap, subst, List, [], ◌∷◌, ℕ, Option, None, Some, append_assoc, append-nil}
 use Rattle.std.specs.Prelude.{true}
 use Rattle.std.specs.List.{AllByRecursion}
+use Rattle.std.specs.Option.{unwrap_or}
 use Rattle.gb_text.specs.declared.id.Id.{Id}
 use Rattle.op_kind.specs.Fold.{state_from}
 use Rattle.op_kind.specs.declared.place.Common.{Common}
@@ -73,7 +74,7 @@ step_is o ops p later =
         author = author_stays (common_of_op o).place.author p later i;
         actors = actors_more (o ∷ ops) p i;
         participants = participants_more (o ∷ ops) p i;
-        create = create_stays (clock_or_zero (common_of_op o).place.create) p later i;
+        create = create_stays (unwrap_or (common_of_op o).place.create 0) p later i;
         edit = (common_of_op (last i)).place.edit;
         first = first_stays (common_of_op o).time p later i;
         last = (common_of_op (last i)).time;
@@ -83,13 +84,19 @@ step_is o ops p later =
       list = list_more (o ∷ ops) p i;
     }
 
+-- the clock of a creation, and 0 where it has none
+clock_is : (clock : Option ℕ) → clock_or_zero clock ≡ unwrap_or clock 0
+clock_is None = refl
+clock_is (Some n) = refl
+
 -- the first operation's step
 first_is : (o : BugOp) (later : List BugOp) → IsBug o later → snapshot_after empty_snapshot o ≡ snapshot_of (o ∷ [])
 unfolding row_after
 first_is (Create c title message files) later bug =
     let pairs = ordered_are_first c.metadata bug.metadata in
     let all = ap (λ ps. first_of_each ps) (append-nil c.metadata) ∙ pairs in
-    λ i. record { row = record (snapshot_of (Create c title message files ∷ [])).row { metadata = sym all i }; list = comments_of (Create c title message files ∷ []) }
+    let made = snapshot_of (Create c title message files ∷ []) in
+    λ i. record { row = record made.row { create = clock_is c.place.create i; metadata = sym all i }; list = comments_of (Create c title message files ∷ []) }
 first_is (SetTitle c title was) later bug = let h = bug.first in absurd (cc (h))
 first_is (AddComment c message files) later bug = let h = bug.first in absurd (cc (h))
 first_is (SetStatus c status) later bug = let h = bug.first in absurd (cc (h))

@@ -12,7 +12,7 @@ use Rattle.op_kind.specs.declared.place.Pair.{Pair}
 use Rattle.bug_ops.specs.BugTable.{common_of_op}
 use Rattle.bug_ops.specs.Kind.{bug_kind}
 use Rattle.bug_ops.specs.Mentions.{is_among}
-use Rattle.bug_ops.specs.Snapshots.{same_id, by_bytes, with_texts, texts_of, clock_or_zero, comment_of, empty_snapshot}
+use Rattle.bug_ops.specs.Snapshots.{same_id, by_bytes, with_texts, texts_of, empty_snapshot}
 use Rattle.bug_ops.specs.declared.op.BugOp.{BugOp}
 use Rattle.bug_ops.specs.declared.op.BugOp.TheVariants.{Create, SetTitle, AddComment, SetStatus, LabelChange, EditComment, SetMetadata}
 use Rattle.bug_ops.specs.declared.op.BugStatus.{BugStatus}
@@ -92,7 +92,12 @@ message_in id _ = None
 
 -- the comment that an operation with a message makes: its message is that of the last later edit of it, and else its own
 abbrev pub comment_by_now : Common → List ℕ → List BugOp → Comment
-comment_by_now c message later = comment_of c (unwrap_or (last_found (message_in c.place.id) later) message)
+comment_by_now c message later = record {
+  id = c.place.id;
+  author = c.place.author;
+  time = c.time;
+  message = unwrap_or (last_found (message_in c.place.id) later) message;
+}
 
 -- the comment of an operation, if it makes one
 abbrev pub comment_in : BugOp → List BugOp → List Comment
@@ -160,7 +165,7 @@ row_of o later = record {
   author = author_of o;
   actors = actors_of (o ∷ later);
   participants = participants_of (o ∷ later);
-  create = clock_or_zero (common_of_op o).place.create;
+  create = unwrap_or (common_of_op o).place.create 0;
   edit = (common_of_op (last_item o later)).place.edit;
   first = (common_of_op o).time;
   last = (common_of_op (last_item o later)).time;

@@ -20,8 +20,9 @@ fn folded(alloc: Global, ops: &[BugOp]) -> Result<Fold, Memory>
     Ok(fold)
 }
 
-/// The bug of some operations. They are gone over once. Of lists that are none of a bug, whose first
-/// operation is no creation, or of which a later one is, nothing is said.
+/// The bug of some operations. They are gone over once. Of lists that are none of a bug nothing is
+/// said: those whose first operation is no creation or has metadata that don't stand in byte order of
+/// their keys, and those of which a later operation is a creation.
 #[tactic(auto, using(crate::proofs::StepLemmas::fold_is))]
 pub fn compile(alloc: Global, ops: &[BugOp]) -> Result<Snapshot, Memory>
     ensures { IsBugList ops.now → IfOk result (λ s. s ≡ snapshot_of ops.now) }

@@ -1,5 +1,5 @@
 //! Laws of what a bug is. No call of them does anything.
-ghost use Rattle.std.specs.Prelude.{◌≡◌, ◌<◌, ◌^◌, ℕ, length, true, List, [], ◌∷◌, ◌++◌};
+ghost use Rattle.std.specs.Prelude.{◌≡◌, ◌<◌, ◌^◌, ℕ, length, true, false, List, [], ◌∷◌, ◌++◌};
 ghost use Rattle.std.specs.List.{AllByRecursion};
 ghost use Rattle.std.specs.List.Sorted.{IsStrictlySortedBy};
 ghost use Rattle.gb_text.specs.declared.id.Id.{Id as IdValue};
@@ -71,11 +71,16 @@ pub fn metadata_have_the_first_value_of_each_key()
         → first_value (first_of_each pairs) key ≡ first_value pairs key }
 {}
 
-/// Each person stands once, and just those stand there whose list it is.
+/// Each person stands once, in the order of first appearance, and just those stand there whose list
+/// it is.
 pub fn persons_stand_once()
     ensures once { (ids : List IdValue) → StandOnce (each_once ids) }
     ensures same { (ids : List IdValue) (id : IdValue)
         → is_seen (each_once ids) id ≡ is_seen ids id }
+    ensures last { (ids : List IdValue) (id : IdValue) → is_seen ids id ≡ false
+        → each_once (ids ++ id ∷ []) ≡ each_once ids ++ id ∷ [] }
+    ensures again { (ids : List IdValue) (id : IdValue) → is_seen ids id ≡ true
+        → each_once (ids ++ id ∷ []) ≡ each_once ids }
 {}
 
 /// The comments of fewer than 2^64 operations are counted exactly.

@@ -3,8 +3,6 @@
 
 mod bug;
 mod laws;
-#[cfg(test)]
-mod tests;
 
 pub use bug::{compile, excerpt_of};
 pub use laws::{
