@@ -14,7 +14,6 @@ use Rattle.bug_ops.specs.Kind.{bug_kind}
 use Rattle.bug_ops.specs.declared.op.BugOp.{BugOp}
 use Rattle.dag_entity.specs.Entities.{AreAllInOrder, IsGreatestEdit, IsRootClock}
 use Rattle.dag_entity.specs.Extending.{BeginsOnce}
-use Rattle.dag_entity.specs.Faults.{EntityFaultHolds}
 use Rattle.dag_entity.specs.Nodes.{edit_at, pack_at}
 use Rattle.dag_entity.specs.declared.entity.Entity.{Entity}
 use Rattle.dag_entity.specs.declared.entity.Placed.{Placed}

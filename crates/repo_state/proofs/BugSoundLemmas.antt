@@ -1,5 +1,5 @@
 -- A bug that was read is sound, and stays the same where its folder's objects and identities do.
-use Rattle.std.proofs.Common.{◌≡◌, ℕ, Bool, true, false, List, [], ◌∷◌, Contains, IsTrue, inl, inr, refl, sym, ◌∙◌, ap, subst, arith}
+use Rattle.std.proofs.Common.{◌≡◌, ℕ, Bool, true, false, List, [], ◌∷◌, Contains, inl, inr, refl, sym, ◌∙◌, ap, subst, arith}
 use Rattle.std.specs.Str.{bytes_eq}
 use Rattle.std.proofs.lemmas.Slice.Eq.{bytes_eq-Decides}
 use Rattle.gb_text.specs.declared.id.Id.{Id}
@@ -9,7 +9,7 @@ use Rattle.object_batch.proofs.ClashLemmas.{Contains-cons_cases, Contains-first,
 use Rattle.bug_ops.specs.Kind.{bug_kind}
 use Rattle.bug_ops.specs.declared.op.BugOp.{BugOp}
 use Rattle.dag_entity.specs.Entities.{IsEntity}
-use Rattle.dag_entity.specs.Faults.{EntityFaultHolds, IsValid}
+use Rattle.dag_entity.specs.Faults.{EntityFaultHolds}
 use Rattle.dag_entity.specs.declared.entity.Entity.{Entity}
 use Rattle.dag_entity.specs.declared.fault.EntityFault.TheVariants.{AuthorUnknown}
 use Rattle.dag_entity.proofs.AgreeGrowth.{other_fault}

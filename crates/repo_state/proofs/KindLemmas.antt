@@ -148,10 +148,9 @@ user_at-put files folder path bytes other sound =
     (λ id stands. stands-put files path bytes (joined folder (ref_place side.Identities id)) stands) sound
 
 -- so does a head that is set
-pub user_at-ref_write : (files : Files) (folder : List ℕ) (of : Side) (id user : Id) (head : Name) → user_at files folder ≡ User user
-    → user_at (written files (ref_write folder (ref_place of id) head)) folder ≡ User user
-user_at-ref_write files folder of id user head is =
-    user_at-put files folder (joined folder (ref_place of id)) (encode_lower head.bytes ++ 10 ∷ []) (ref-not_user folder of id) (λ bad. cc (sym bad ∙ is)) ∙ is
+pub user_at-ref_write : (files : Files) (folder : List ℕ) (of : Side) (id : Id) (head : Name) → (user_at files folder ≡ BadUser → ⊥)
+    → user_at (written files (ref_write folder (ref_place of id) head)) folder ≡ user_at files folder
+user_at-ref_write files folder of id head = user_at-put files folder (joined folder (ref_place of id)) (encode_lower head.bytes ++ 10 ∷ []) (ref-not_user folder of id)
 
 -- the user that was set is the user, where its ref stands
 pub user_at-set : (files : Files) (folder : List ℕ) (id : Id) → IsId id → IsTrue (has_ref files folder side.Identities id) → user_at (written files (user_write folder id)) folder ≡ User id

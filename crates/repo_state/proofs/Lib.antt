@@ -6,6 +6,7 @@ pub mod FoundLemmas
 pub mod HeadIdLemmas
 pub mod IdLemmas
 pub mod KindLemmas
+pub mod LedLemmas
 pub mod ListingLemmas
 pub mod PeopleLemmas
 pub mod PlaceLemmas

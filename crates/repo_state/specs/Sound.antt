@@ -10,7 +10,7 @@ use Rattle.gb_store.specs.Moments.{AllMoments}
 use Rattle.git_object.specs.declared.commit.Commit.{Commit}
 use Rattle.git_object.specs.declared.object.Object.{Object}
 use Rattle.object_store.specs.Held.{Objects as Held, object_at, objects_in}
-use Rattle.object_batch.specs.Needs.{AllHeld}
+use Rattle.object_batch.specs.Needs.{IsWhole}
 use Rattle.object_store.specs.Typed.{commit_at}
 use Rattle.ref_store.specs.Refs.{Ref, Absent, Head, Bad}
 use Rattle.bug_ops.specs.Kind.{bug_kind}
@@ -31,7 +31,7 @@ use Rattle.repo_state.specs.declared.side.Side.TheVariants as side
 -- the kinds by which it is named; so all that a held commit leads to is held
 pub record AreWhole (objects : Held) : Type 0 where
   pub held : (name : Name) (text : List ℕ) → IsName name → objects name ≡ Some text → (object : Object) × (object_at objects name ≡ Some object)
-  pub needs : (name : Name) (object : Object) → object_at objects name ≡ Some object → AllHeld objects object
+  pub whole : IsWhole objects
 
 -- an identity's ref: one that stands reads, and the chain from its head has no fault
 abbrev pub IsSoundIdentity : Held → Id → Ref → Type 0

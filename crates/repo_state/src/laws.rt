@@ -4,13 +4,16 @@ ghost use Rattle.gb_text.specs.Digits.{IsId, IsName};
 ghost use Rattle.gb_text.specs.declared.id.Id.{Id};
 ghost use Rattle.gb_text.specs.declared.id.Name.{Name};
 ghost use Rattle.gb_store.specs.Files.{Files, files_of, written};
+ghost use Rattle.git_object.specs.declared.frame.Kind.TheVariants as kinds;
+ghost use Rattle.object_store.specs.Held.{objects_in};
+ghost use Rattle.object_batch.specs.Needs.{IsHeldAs, LeadsTo, Reference};
 ghost use Rattle.ref_store.specs.Refs.{Head};
 ghost use Rattle.ref_store.specs.Setting.{ref_write};
 ghost use Rattle.lamport.specs.declared.clock.TheConstants.{CAP};
 ghost use Rattle.repo_state.specs.Clocks.{clock_at, clock_write};
 ghost use Rattle.repo_state.specs.Sides.{AllRead, AreHeads, AreIds, has_ref, head_at, ref_place};
 ghost use Rattle.repo_state.specs.Sound.{IsNamedSide, IsSound};
-ghost use Rattle.repo_state.specs.Users.{User, user_at, user_write};
+ghost use Rattle.repo_state.specs.Users.{BadUser, User, user_at, user_write};
 ghost use Rattle.repo_state.specs.declared.clocks.ClockFile.{ClockFile};
 ghost use Rattle.repo_state.specs.declared.side.HeadEntry.{HeadEntry};
 ghost use Rattle.repo_state.specs.declared.side.Side.{Side as SideValue};
@@ -19,6 +22,16 @@ ghost use Rattle.repo_state.specs.declared.side.Side.TheVariants as side;
 /// An empty folder is sound.
 pub fn an_empty_folder_is_sound()
     ensures { (folder : List ℕ) → IsSound folder (files_of []) }
+{}
+
+/// In a sound folder the head of each ref, of a remote's too, is a commit that is held, and so is all
+/// that it leads to by what objects name, each as of its kind.
+pub fn sound_folders_hold_what_heads_lead_to()
+    ensures { (folder : List ℕ) (files : Files) (of : SideValue) (id : Id) (head : Name)
+        (one : Reference) → IsSound folder files → IsNamedSide of → IsId id
+        → head_at files folder of id ≡ Head head
+        → LeadsTo (objects_in files folder) (record { name = head; kind = kinds.Commit }) one
+        → IsHeldAs (objects_in files folder) one.name one.kind }
 {}
 
 /// Where `heads` answers, `ids` answers the ids of those heads, in the same order. There are heads to
@@ -32,7 +45,8 @@ pub fn ids_are_those_of_the_heads()
         → ((heads : List HeadEntry) × AreHeads files folder of heads) ↔ AllRead files folder of }
 {}
 
-/// A head that was set reads as it was set, and every other head, the user and the clocks as before.
+/// A head that was set reads as it was set, and every other head, the user and the clocks as before;
+/// but a user file that named no local identity may name one then.
 /// The user that was set reads as it was set where its ref stands, and every head and the clocks as
 /// before. A clock that was set to at most 2^62 reads as it was set, and every head, the user and the
 /// other clock as before.
@@ -49,9 +63,10 @@ pub fn heads_and_user_are_a_map()
         (head : Name) → IsNamedSide of → IsNamedSide on → of ≢ on
         → head_at (written files (ref_write folder (ref_place of id) head)) folder on other
         ≡ head_at files folder on other }
-    ensures user { (files : Files) (folder : List ℕ) (of : SideValue) (id user : Id)
-        (head : Name) → user_at files folder ≡ User user
-        → user_at (written files (ref_write folder (ref_place of id) head)) folder ≡ User user }
+    ensures user { (files : Files) (folder : List ℕ) (of : SideValue) (id : Id) (head : Name)
+        → (user_at files folder ≡ BadUser → ⊥)
+        → user_at (written files (ref_write folder (ref_place of id) head)) folder
+        ≡ user_at files folder }
     ensures set_user { (files : Files) (folder : List ℕ) (id : Id) → IsId id
         → IsTrue (has_ref files folder side.Identities id)
         → user_at (written files (user_write folder id)) folder ≡ User id }

@@ -15,7 +15,10 @@ mod user_file;
 pub use bugs::{bug_at, read_bug};
 pub use clocks::{ClockFile, clock, clock_changes, see};
 pub use env::Env;
-pub use laws::{an_empty_folder_is_sound, heads_and_user_are_a_map, ids_are_those_of_the_heads};
+pub use laws::{
+    an_empty_folder_is_sound, heads_and_user_are_a_map, ids_are_those_of_the_heads,
+    sound_folders_hold_what_heads_lead_to,
+};
 pub use operations::ops_of;
 pub use people::names;
 pub use refs::{

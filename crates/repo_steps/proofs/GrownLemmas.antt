@@ -1,5 +1,5 @@
 -- What a bug says, read anew from the files, once a command has written to it.
-use Rattle.std.proofs.Common.{◌≡◌, ◌++◌, ℕ, List, [], ◌∷◌, Some, refl, sym, ◌∙◌, ap, subst}
+use Rattle.std.proofs.Common.{◌≡◌, ℕ, List, [], ◌∷◌, refl, sym, ◌∙◌, ap, subst}
 use Rattle.std.proofs.lemmas.Grind.{flat_map-append}
 use Rattle.std.proofs.lemmas.Option.{same_Some}
 use Rattle.gb_text.specs.declared.id.Id.{Id}
@@ -10,10 +10,8 @@ use Rattle.op_kind.specs.declared.place.Place.{Place}
 use Rattle.op_pack.specs.Packs.{place_of}
 use Rattle.bug_ops.specs.Kind.{bug_kind}
 use Rattle.bug_ops.specs.declared.op.BugOp.{BugOp}
-use Rattle.bug_ops.specs.declared.op.BugStatus.TheVariants.{Opened}
 use Rattle.snapshot.specs.LastMention.{snapshot_of}
 use Rattle.dag_entity.specs.Appending.{appended_head, appended_node}
-use Rattle.dag_entity.specs.Entities.{ops_in}
 use Rattle.dag_entity.specs.Extending.{extended}
 use Rattle.dag_entity.specs.declared.entity.Entity.{Entity}
 use Rattle.dag_entity.specs.declared.entity.Loaded.{Loaded}
@@ -28,8 +26,8 @@ use Rattle.repo_state.specs.declared.side.Side.TheVariants as side
 use Rattle.repo_state.proofs.BugLemmas.{one_entity}
 use Rattle.repo_state.proofs.FoundLemmas.{found_is}
 use Rattle.repo_steps.specs.BugDoings.{HasBug, addition_head, bug_says, later_addition, root_addition}
-use Rattle.repo_steps.specs.Grown.{BeginsSaying, EndsWithTheEdit, made_comment}
-use Rattle.repo_steps.specs.NewOps.{create_op, op_id}
+use Rattle.repo_steps.specs.Grown.{EndsWithTheEdit, begun_says}
+use Rattle.repo_steps.specs.NewOps.{create_op}
 use Rattle.repo_steps.specs.Steps.{BugBegins, BugGrows, begun_entity}
 use Rattle.repo_steps.specs.declared.edit.Addition.{Addition}
 use Rattle.repo_steps.specs.declared.edit.BugEdit.{BugEdit}
@@ -73,13 +71,14 @@ module _ (env : Env) (edit : BugEdit) (word : List ℕ) (old new : Files) (told 
     place = place;
     is_told = sym step.is_told;
     by_user = refl;
+    clock = refl;
     says = ap bug_says entities ∙ ap snapshot_of (flat_map-append (λ (p : Placed BugOp). p.pack.ops) step.bug.entity.packs (node.placed ∷ []));
   }
 
 -- ---- a new bug
 
 pub begins_saying : (env : Env) (title message : List ℕ) (old new : Files) (told : Id) (step : BugBegins env (create_op env title message) old new told) (bug : HeadEntry) (entity : Entity BugOp)
-    → bug.id ≡ told → head_at new env.folder side.Bugs told ≡ Head bug.name → IsBug new env.folder bug entity → BeginsSaying env title message step.user told entity
+    → bug.id ≡ told → head_at new env.folder side.Bugs told ≡ Head bug.name → IsBug new env.folder bug entity → bug_says entity ≡ begun_says env old title message step.user told
 begins_saying env title message old new told step bug entity same at is =
     let added : Addition = root_addition env.folder old (create_op env title message) step.user in
     let first : Entity BugOp = begun_entity env added (root_time_of (clock_at old env.folder file.BugsCreate)) in
@@ -87,5 +86,4 @@ begins_saying env title message old new told step bug entity same at is =
     let name : bug.name ≡ addition_head env.now added = cc (names) in
     let bugs : bug ≡ record { id = told; name = addition_head env.now added } = λ i. record { id = same i; name = name i } in
     let entities : entity ≡ first = one_entity new env.folder (record { id = told; name = addition_head env.now added }) entity first (subst (λ (b : HeadEntry). IsBug new env.folder b entity) bugs is) step.is in
-    subst (BeginsSaying env title message step.user told) (sym entities)
-    (record { has_title = refl; status = refl; labels = refl; comments = ap (λ (id : Id). made_comment env step.user id message ∷ []) (sym step.is_told) })
+    ap bug_says entities ∙ ap (begun_says env old title message step.user) (sym step.is_told)

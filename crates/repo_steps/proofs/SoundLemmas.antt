@@ -84,7 +84,7 @@ put-other files folder text name is = elim (same_or_other (joined folder (object
 -- whole objects are whole with one more, put after all that it names
 put-whole : (files : Files) (folder : List ℕ) (texts : List (List ℕ)) (change : Change) → (put : PutsAfterNeeds folder texts files change)
     → HasWholeObjects folder files → HasWholeObjects folder (written files (object_write folder put.text))
-put-whole files folder texts change put whole = record { held = held; needs = needs }
+put-whole files folder texts change put whole = record { held = held; whole = record { needs = needs } }
   where
     old : Objects
     old = objects_in files folder
@@ -116,7 +116,7 @@ put-whole files folder texts change put whole = record { held = held; needs = ne
             subst (AllHeld new) same (AllHeld-grew old new grew put.object put.needs)
         at (inr same) =
             AllHeld-grew old new grew object
-            (whole.needs name object (ap (λ (o : Option (List ℕ)). option_and_then object_of (option_and_then (named name) o)) (sym same) ∙ found))
+            (whole.whole.needs name object (ap (λ (o : Option (List ℕ)). option_and_then object_of (option_and_then (named name) o)) (sym same) ∙ found))
 
 -- ---- each kind of write
 

@@ -44,8 +44,8 @@ ghost use Rattle.repo_steps.specs.Doings.{Done, EditAnswers, MayStep, Refused};
 ghost use Rattle.repo_steps.specs.Kept.{LosesNothing};
 ghost use Rattle.repo_steps.specs.Kinds.{IsPlace, IsWrite, is_dotless};
 ghost use Rattle.repo_steps.specs.Steps.{BugBegins, BugGrows, Steps};
-ghost use Rattle.repo_steps.specs.BugDoings.{HasBug};
-ghost use Rattle.repo_steps.specs.Grown.{BeginsSaying, EndsWithTheEdit};
+ghost use Rattle.repo_steps.specs.BugDoings.{HasBug, bug_says};
+ghost use Rattle.repo_steps.specs.Grown.{EndsWithTheEdit, begun_says};
 ghost use Rattle.repo_steps.specs.NewOps.{create_op};
 ghost use Rattle.repo_state.specs.Bugs.{IsBug};
 ghost use Rattle.repo_state.specs.declared.side.HeadEntry.{HeadEntry as HeadEntryValue};
@@ -137,7 +137,8 @@ pub fn changed_labels_ascend()
 {}
 
 /// Read anew from the files after the step of an edit, the bug that its word finds says what it said
-/// before with the edit's operation behind all others. A new bug says its title and its message.
+/// before with the edit's operation behind all others. A new bug says its title, its message and who
+/// made it when, and nothing else.
 pub fn written_bugs_are_read_so()
     ensures grown { (env : EnvValue) (edit : BugEditValue) (word : List ℕ) (old new : Files)
         (told : Id) (step : BugGrows env edit word old new told)
@@ -147,7 +148,7 @@ pub fn written_bugs_are_read_so()
         (entity : EntityValue OpValue) → bug.id ≡ told
         → head_at new env.folder side.Bugs told ≡ Head bug.name
         → IsBug new env.folder bug entity
-        → BeginsSaying env title message step.user told entity }
+        → bug_says entity ≡ begun_says env old title message step.user told }
 {}
 
 /// What is written by kinds keeps each part of a folder sound at each moment, wherever it stops. So it

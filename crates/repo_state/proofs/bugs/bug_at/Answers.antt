@@ -1,6 +1,5 @@
-use Rattle.std.proofs.Common.{List, [], ◌∷◌, rules, subst, sym}
-use Rattle.gb_text.specs.declared.id.Id.{Id}
-use Rattle.gb_store.specs.Files.{History, files_of}
+use Rattle.std.proofs.Common.{[], ◌∷◌, rules}
+use Rattle.gb_store.specs.Files.{files_of}
 use Rattle.object_store.specs.Held.{objects_in}
 use Rattle.bug_ops.specs.Kind.{bug_kind}
 use Rattle.dag_entity.specs.Entities.{IsEntity}
