@@ -1,6 +1,6 @@
 //! Packs of operations of any type: worked texts, and that calls succeed.
-use gb_text::{Id, List, Memory, Name};
-use op_kind::{AnyOp, OpFault, OpKind};
+use gb_text::{Bytes, Id, List, Memory, Name};
+use op_kind::{AnyOp, OpFault, OpKind, Place};
 use op_pack::{Pack, PackFault, TreeHead};
 use std::alloc::Global;
 use std::test::Fail;
@@ -34,8 +34,23 @@ fn joined(alloc: Global, texts: &[&[u8]]) -> Result<Vec<u8>, Memory> {
     Ok(all)
 }
 
-fn read(alloc: Global, text: &[u8]) -> Result<Pack<AnyOp>, PackFault> {
+// What reads and writes is generic over the kind, so that it is proved from the kind's contract alone.
+
+fn read_as<K: OpKind>(alloc: Global, text: &[u8]) -> Result<Pack<K>, PackFault> {
     Pack::read(alloc, &HEAD, text)
+}
+
+fn read(alloc: Global, text: &[u8]) -> Result<Pack<AnyOp>, PackFault> {
+    read_as(alloc, text)
+}
+
+fn written<K: OpKind>(alloc: Global, pack: &Pack<K>) -> Result<Bytes, Memory> {
+    pack.write(alloc)
+}
+
+/// The place of the first operation of a pack.
+fn first_place<K: OpKind>(pack: &Pack<K>) -> Option<Place> {
+    pack.ops.as_slice().first().map(|op| op.common().place)
 }
 
 /// Writes a pack and reads it again.
@@ -56,7 +71,7 @@ fn a_pack_without_operations_is_written_and_read(rt: HostRuntime) -> Result<(), 
         ops: List::new(alloc),
     };
     let wanted = joined(alloc, &[FRONT, BACK])?;
-    assert_eq!(rt; pack.write(alloc)?.as_slice(), wanted.as_slice());
+    assert_eq!(rt; written(alloc, &pack)?.as_slice(), wanted.as_slice());
     let again = carry(alloc, &pack)?;
     assert_eq!(rt; (again.author, again.ops.len()), (AUTHOR, 0));
     assert_eq!(rt; (again.version, again.edit, again.create), (4, 7, Some(3)));
@@ -83,8 +98,7 @@ fn an_operation_is_named_by_its_text_as_it_stands(rt: HostRuntime) -> Result<(),
     let text = joined(alloc, &[FRONT, b" ", OPERATION, b"\n", BACK])?;
     let pack = read(alloc, &text)?;
     assert_eq!(rt; pack.ops.len(), 1);
-    let op = pack.ops.as_slice().first().ok_or("an operation")?;
-    let place = op.common().place;
+    let place = first_place(&pack).ok_or("an operation")?;
     assert_eq!(rt;
         place.id.text().as_slice(),
         b"ab9a0be2162978b694c642ad66c46cc56bca4342943eefe0fa10a08ba54db890".as_slice()
@@ -94,8 +108,7 @@ fn an_operation_is_named_by_its_text_as_it_stands(rt: HostRuntime) -> Result<(),
         (AUTHOR, 7, Some(3))
     );
     let again = carry(alloc, &pack)?;
-    let op = again.ops.as_slice().first().ok_or("an operation")?;
-    assert_eq!(rt; op.common().place, place);
+    assert_eq!(rt; first_place(&again), Some(place));
     Ok(())
 }
 

@@ -35,8 +35,8 @@ fn fold_packs<K: OpKind>(alloc: Global, packs: &[Pack<K>]) -> Result<K::State, M
 
 const OPERATION: &[u8] = b"{\"nonce\":\"AAAAAAAAAAAAAAAAAAAAAAAAAAA=\",\"timestamp\":0,\"type\":1}";
 
-// A pack of as many operations of any type.
-fn pack_of(alloc: Global, count: u64) -> Result<Pack<AnyOp>, Fail> {
+// A pack of as many operations.
+fn pack_of<K: OpKind>(alloc: Global, count: u64) -> Result<Pack<K>, Fail> {
     let id = Id { bytes: [1; 32] };
     let mut ops = List::new(alloc);
     for _ in 0..count {
@@ -46,7 +46,7 @@ fn pack_of(alloc: Global, count: u64) -> Result<Pack<AnyOp>, Fail> {
             edit: 7,
             create: None,
         };
-        let op = AnyOp::read_op(alloc, place, OPERATION)?;
+        let op = K::read_op(alloc, place, OPERATION)?;
         ops.push(op).ok().ok_or("memory")?;
     }
     Ok(Pack {
@@ -59,13 +59,17 @@ fn pack_of(alloc: Global, count: u64) -> Result<Pack<AnyOp>, Fail> {
     })
 }
 
+// The state after packs of as many operations as these.
+fn state_of<K: OpKind>(alloc: Global, counts: &[u64]) -> Result<K::State, Fail> {
+    let mut packs: Vec<Pack<K>> = Vec::new(alloc);
+    for count in counts {
+        packs.push(pack_of(alloc, *count)?).ok().ok_or("memory")?;
+    }
+    Ok(fold_packs(alloc, &packs)?)
+}
+
 #[test]
 fn packs_fold_in_order(rt: HostRuntime) -> Result<(), Fail> {
-    let alloc = rt.alloc();
-    let mut packs = Vec::new(alloc);
-    for count in [2, 0, 3] {
-        packs.push(pack_of(alloc, count)?).ok().ok_or("memory")?;
-    }
-    assert_eq!(rt; fold_packs(alloc, &packs)?, 5);
+    assert_eq!(rt; state_of::<AnyOp>(rt.alloc(), &[2, 0, 3])?, 5);
     Ok(())
 }
