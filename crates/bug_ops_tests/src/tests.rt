@@ -1,5 +1,6 @@
 //! What no clause says: worked texts, that calls succeed, and that long folds are no strain.
 mod folds;
+mod snapshots;
 
 use Members::{Edit, Metadata, Of};
 use bug_ops::{BugOp, BugStatus, Excerpt, Fold, Snapshot};
