@@ -30,7 +30,7 @@ CopyAnswers closed source target head (Err e) = CauseHolds closed source target 
 abbrev pub IsCopied : Bool → Objects → Objects → Objects → Name → Type 0
 IsCopied closed source entry target head = (one : Reference) → IsFollowed closed source entry head one → StandsAlike source target one
 
--- at most one object was read on each side for each of some objects that the copy asks for
+-- at most two objects were read, on both sides together, for each of some objects that the copy asks for
 pub record ReadsEach (closed : Bool) (source target : Objects) (head : Name) (before after : ℕ) : Type 0 where
   pub them : List Reference
   pub once : AreDistinct them
