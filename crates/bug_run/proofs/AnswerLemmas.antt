@@ -1,0 +1,40 @@
+-- What a command answers is determined by the files, the words, the moment and the seed.
+use Rattle.std.proofs.Common.{◌≡◌, Ok, Err, sym, ◌∙◌}
+use Rattle.gb_store.specs.Files.{History, files_of}
+use Rattle.repo_state.specs.declared.env.Env.{Env}
+use Rattle.repo_state.specs.declared.refusal.Refusal.{Refusal}
+use Rattle.repo_state.specs.declared.refusal.Stop.TheVariants as stop
+use Rattle.repo_steps.proofs.ClearLemmas.{never_refused}
+use Rattle.repo_steps.proofs.DoneLemmas.{done_steps}
+use Rattle.repo_steps.proofs.StepLemmas.{steps-same}
+use Rattle.repo_view.proofs.LawLemmas.{no_refusal, one_log}
+use Rattle.repo_view.proofs.ShownLemmas.{one_show, one_users, show_not_refused, users_not_refused}
+use Rattle.bug_run.specs.Run.{CommandAnswers}
+use Rattle.bug_run.specs.Told.{Said}
+use Rattle.bug_run.specs.declared.words.Command.{Command}
+use Rattle.bug_run.specs.declared.words.Command.TheVariants.{Edit, Log, Show, Users}
+
+-- answers with the same text, none of whose lines is a refusal, are one
+same_said : (first second : Said) → first.text ≡ second.text → first.refused ≡ 0 → second.refused ≡ 0 → first ≡ second
+same_said first second text here there = let counts : first.refused ≡ second.refused = here ∙ sym there in λ i. record { text = text i; refused = counts i }
+
+-- a command that is done tells one text
+pub one_told : (env : Env) (command : Command) (old one two : History) (first second : Said)
+    → CommandAnswers env command old one (Ok first) → CommandAnswers env command old two (Ok second) → first ≡ second
+one_told env Users old one two first second here there =
+    same_said first second (one_users (files_of old) env.folder first.text second.text here.0.0 there.0.0) here.0.1 there.0.1
+one_told env (Show bug) old one two first second here there =
+    same_said first second (one_show (files_of old) env.folder bug first.text second.text here.0.0 there.0.0) here.0.1 there.0.1
+one_told env (Log bug) old one two first second here there =
+    same_said first second (one_log (files_of old) env.folder bug first.text second.text here.0.0 there.0.0) here.0.1 there.0.1
+one_told env (Edit edit) old one two first second (id, here, is) (other, there, also) =
+    let told : id ≡ other = (steps-same env edit (files_of old) (files_of one) (files_of two) id other (done_steps env edit old one id here) (done_steps env edit old two other there)).told in
+    cc (told, is, also)
+
+-- and has no refusal
+pub done_not_refused : (env : Env) (command : Command) (old one two : History) (said : Said) (r : Refusal)
+    → CommandAnswers env command old one (Ok said) → CommandAnswers env command old two (Err (stop.Refused r)) → ⊥
+done_not_refused env Users old one two said r here there = users_not_refused (files_of old) env.folder said.text r here.0.0 there.0
+done_not_refused env (Show bug) old one two said r here there = show_not_refused (files_of old) env.folder bug said.text r here.0.0 there.0
+done_not_refused env (Log bug) old one two said r here there = no_refusal (files_of old) env.folder bug said.text r here.0.0 there.0
+done_not_refused env (Edit edit) old one two said r (id, (op, done), is) (other, refused) = never_refused env edit old r (op, done.may) (other, refused.0)
