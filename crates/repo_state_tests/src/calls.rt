@@ -4,7 +4,7 @@ ghost use Rattle.repo_state.specs.Sound.{IsNamedSide};
 use fixtures::{Disk, id, name};
 use gb_text::{Id, List, Name};
 use identity::Person;
-use repo_state::{HeadEntry, Refusal, Side, Stop};
+use repo_state::{ClockFile, HeadEntry, Refusal, Side, Stop};
 use std::test::Fail;
 
 /// The digits of an id and of a head.
@@ -73,4 +73,8 @@ pub fn set_user(disk: &mut Disk, id: &Id) -> Result<(), Stop> {
 
 pub fn names(disk: &mut Disk) -> Result<List<Person>, Stop> {
     repo_state::names(disk.alloc, &mut disk.store, &disk.folder)
+}
+
+pub fn see(disk: &mut Disk, which: ClockFile, number: u64) -> Result<(), Stop> {
+    repo_state::see(disk.alloc, &mut disk.store, &disk.folder, which, number)
 }

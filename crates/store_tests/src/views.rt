@@ -1,8 +1,8 @@
 //! Commits and trees in the texts that stand under names.
-use fixtures::{Disk, name};
+use fixtures::{Disk, name, put_object};
 use gb_text::Name;
 use git_object::Kind;
-use object_store::{KindFault, ObjFault, commit_in, get_text, put, tree_in};
+use object_store::{KindFault, ObjFault, commit_in, get_text, tree_in};
 use std::alloc::Global;
 use std::test::Fail;
 
@@ -59,24 +59,12 @@ fn refused(disk: &mut Disk, name: &Name) -> Option<ObjFault> {
     get_text(disk.alloc, &mut disk.store, &disk.folder, name).err()
 }
 
-// Puts a blob.
-fn put_blob(disk: &mut Disk, content: &[u8]) -> bool {
-    put(
-        disk.alloc,
-        &mut disk.store,
-        &disk.folder,
-        Kind::Blob,
-        content,
-    )
-    .is_ok()
-}
-
 #[test]
 fn the_text_under_a_name_is_had(rt: HostRuntime) -> Result<(), Fail> {
     let mut disk = Disk::new(rt.alloc())?;
     let name = name("d670460b4b4aece5915caf5c68d12f560a9fe3e4")?;
     assert_eq!(rt; refused(&mut disk, &name), Some(ObjFault::Missing(name)));
-    assert!(rt; put_blob(&mut disk, b"test content\n"));
+    assert_eq!(rt; put_object(&mut disk, Kind::Blob, b"test content\n")?, name);
     assert!(rt; has_text(&mut disk, &name, b"blob 13\0test content\n"));
     Ok(())
 }
