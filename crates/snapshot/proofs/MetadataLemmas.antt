@@ -1,5 +1,5 @@
 -- Metadata of which the first of each key counts, where one operation more comes.
-use Rattle.std.proofs.Common.{◌≡◌, ◌∙◌, ◌||◌, ◌++◌, refl, sym, ap, subst, cond, Bool, true, false, List, [], ◌∷◌, ℕ, Option, None, Some, map, append_assoc, append-nil}
+use Rattle.std.proofs.Common.{◌≡◌, ◌≢◌, ◌∙◌, ◌||◌, ◌++◌, refl, sym, ap, subst, cond, Bool, true, false, List, [], ◌∷◌, ℕ, Option, None, Some, map, append_assoc, append-nil}
 use Rattle.std.specs.Prelude.{is_some, flat_map, if◌then◌else◌}
 use Rattle.std.specs.Option.{option_or, unwrap_or}
 use Rattle.std.specs.BTreeMap.{insert_entry, is_at}
@@ -15,10 +15,13 @@ use Rattle.std.proofs.lemmas.Cmp.{tied_itself}
 use Rattle.std.proofs.lemmas.Grind.{flat_map-append}
 use Rattle.std.proofs.lemmas.Map.{NonePasses, none_passes_from_lookup}
 use Rattle.std.proofs.lemmas.Map.Text.{is_eq-slice_cmp}
+use Rattle.std.proofs.lemmas.Slice.Eq.{bytes_eq-Decides}
+use Rattle.gb_text.specs.declared.id.Id.{Id}
 use Rattle.op_kind.specs.Metadata.{Entries, pair_of}
 use Rattle.op_kind.specs.Pairs.{AreInKeyOrder}
 use Rattle.op_kind.specs.declared.place.Common.{Common}
 use Rattle.op_kind.specs.declared.place.Pair.{Pair}
+use Rattle.bug_ops.specs.BugTable.{common_of_op}
 use Rattle.bug_ops.specs.Mentions.{is_among}
 use Rattle.bug_ops.specs.Snapshots.{by_bytes, same_id, with_pair, with_pairs, joined_pairs, metadata_after}
 use Rattle.bug_ops.specs.declared.op.BugOp.{BugOp}
@@ -27,7 +30,7 @@ use Rattle.bug_ops.proofs.KeyOrder.{greater_back}
 use Rattle.bug_ops.proofs.LabelLaws.{eq_turned}
 use Rattle.bug_ops.proofs.OrderLaws.{joined_ascend}
 use Rattle.bug_ops.proofs.PairMaps.{entries_are}
-use Rattle.snapshot.specs.LastMention.{in_order, entries_of, first_value, first_of_each, pairs_in, metadata_of, IsLater}
+use Rattle.snapshot.specs.LastMention.{in_order, entries_of, first_value, first_of_each, pairs_in, metadata_of, snapshot_of, IsBugList, IsLater}
 use Rattle.snapshot.proofs.FoundLemmas.{or_none, or_or, same_text, same_texts}
 use Rattle.snapshot.proofs.LabelLemmas.{order_ascends, order_has}
 
@@ -230,3 +233,67 @@ metadata_more first ops o later =
     metadata_by first.place.id (first.metadata ++ set ops) o later
     ∙ ap first_of_each (append_assoc first.metadata (set ops) (set (o ∷ [])))
     ∙ ap (λ ps. first_of_each (first.metadata ++ ps)) (sym (flat_map-append (pairs_in first.place.id) ops (o ∷ [])))
+
+-- ---- what one operation more sets
+
+values_behind : (ps qs : List Pair) (key : List ℕ) → first_value (ps ++ qs) key ≡ option_or (first_value ps key) (first_value qs key)
+values_behind [] qs key = refl
+values_behind (p ∷ ps) qs key = by (is_at (by_bytes key) p.key) (values_behind ps qs key)
+  where
+    by : (b : Bool) → first_value (ps ++ qs) key ≡ option_or (first_value ps key) (first_value qs key)
+        → cond b (Some p.value) (first_value (ps ++ qs) key) ≡ option_or (cond b (Some p.value) (first_value ps key)) (first_value qs key)
+    by true rest = refl
+    by false rest = rest
+
+pub own_id : (id : Id) → same_id id id ≡ true
+own_id id = (bytes_eq-Decides id.bytes id.bytes).1 refl
+
+-- under each key what an operation more sets there, behind what was set
+pub set_behind : (first : Common) (later : List BugOp) (o : BugOp) (key : List ℕ)
+    → first_value (metadata_of first (later ++ o ∷ [])) key ≡ option_or (first_value (metadata_of first later) key) (first_value (pairs_in first.place.id o) key)
+set_behind first later o key =
+    let set = λ (ops : List BugOp). flat_map (pairs_in first.place.id) ops in
+    first_found (first.metadata ++ set (later ++ o ∷ [])) key
+    ∙ ap (λ (ps : List Pair). first_value (first.metadata ++ ps) key) (flat_map-append (pairs_in first.place.id) later (o ∷ []) ∙ ap (λ (ps : List Pair). set later ++ ps) (append-nil (pairs_in first.place.id o)))
+    ∙ ap (λ (ps : List Pair). first_value ps key) (sym (append_assoc first.metadata (set later) (pairs_in first.place.id o)))
+    ∙ values_behind (first.metadata ++ set later) (pairs_in first.place.id o) key
+    ∙ ap (λ (found : Option (List ℕ)). option_or found (first_value (pairs_in first.place.id o) key)) (sym (first_found (first.metadata ++ set later) key))
+
+-- an operation that sets pairs of the bug sets each under a key with nothing
+pub pairs_set : (ops : List BugOp) (common : Common) (pairs : List Pair) (key : List ℕ) → IsBugList ops
+    → first_value (snapshot_of (ops ++ SetMetadata common (snapshot_of ops).row.id pairs ∷ [])).row.metadata key
+    ≡ option_or (first_value (snapshot_of ops).row.metadata key) (first_value pairs key)
+pairs_set [] common pairs key bug = absurd bug
+pairs_set (o ∷ later) common pairs key bug =
+    let first = common_of_op o in
+    set_behind first later (SetMetadata common first.place.id pairs) key
+    ∙ ap (λ (b : Bool). option_or (first_value (metadata_of first later) key) (first_value (if b then pairs else []) key)) (own_id first.place.id)
+
+other_id : (one other : Id) → one ≢ other → same_id one other ≡ false
+other_id one other differ = decide (same_id one other) refl
+  where
+    of_bytes : List ℕ → Id
+    of_bytes bytes = record { bytes = bytes }
+
+    decide : (b : Bool) → same_id one other ≡ b → same_id one other ≡ false
+    decide true is = absurd (differ (ap of_bytes ((bytes_eq-Decides one.bytes other.bytes).0 is)))
+    decide false is = is
+
+none_left : (old : List Pair) (b : Bool) (pairs : List Pair) → b ≡ false → first_of_each (old ++ ((if b then pairs else []) ++ [])) ≡ first_of_each old
+none_left old true pairs is = absurd (cc is)
+none_left old false pairs is = ap first_of_each (append-nil old)
+
+-- one that sets pairs of another target sets nothing
+pub none_of_another : (ops : List BugOp) (common : Common) (target : Id) (pairs : List Pair) → IsBugList ops → target ≢ (snapshot_of ops).row.id
+    → (snapshot_of (ops ++ SetMetadata common target pairs ∷ [])).row.metadata ≡ (snapshot_of ops).row.metadata
+none_of_another [] common target pairs bug differ = absurd bug
+none_of_another (o ∷ later) common target pairs bug differ =
+    let first = common_of_op o in
+    let set = flat_map (pairs_in first.place.id) in
+    ap (λ (ps : List Pair). first_of_each (first.metadata ++ ps)) (flat_map-append (pairs_in first.place.id) later (SetMetadata common target pairs ∷ []))
+    ∙ ap first_of_each (sym (append_assoc first.metadata (set later) (set (SetMetadata common target pairs ∷ []))))
+    ∙ none_left (first.metadata ++ set later) (same_id target first.place.id) pairs (other_id target first.place.id differ)
+
+-- and a bug of one operation has the metadata of that
+pub first_has : (o : BugOp) → IsBugList (o ∷ []) → (snapshot_of (o ∷ [])).row.metadata ≡ (common_of_op o).metadata
+first_has o bug = ap first_of_each (append-nil (common_of_op o).metadata) ∙ ordered_are_first (common_of_op o).metadata bug.metadata

@@ -1,7 +1,8 @@
 //! Laws of what a bug is. No call of them does anything.
-ghost use Rattle.std.specs.Prelude.{◌≡◌, ◌<◌, ◌^◌, ℕ, length, true, false, List, [], ◌∷◌, ◌++◌};
+ghost use Rattle.std.specs.Prelude.{◌≡◌, ◌≢◌, ◌<◌, ◌^◌, ℕ, length, true, false, List, [], ◌∷◌, ◌++◌};
 ghost use Rattle.std.specs.List.{AllByRecursion};
 ghost use Rattle.std.specs.List.Sorted.{IsStrictlySortedBy};
+ghost use Rattle.std.specs.Option.{option_or};
 ghost use Rattle.gb_text.specs.declared.id.Id.{Id as IdValue};
 ghost use Rattle.op_kind.specs.Fold.{state_from};
 ghost use Rattle.op_kind.specs.Pairs.{AreInKeyOrder};
@@ -11,7 +12,7 @@ ghost use Rattle.bug_ops.specs.Kind.{bug_kind};
 ghost use Rattle.bug_ops.specs.Mentions.{is_among, StandOnce};
 ghost use Rattle.bug_ops.specs.Snapshots.{by_bytes, is_seen};
 ghost use Rattle.bug_ops.specs.declared.op.BugOp.{BugOp as OpValue};
-ghost use Rattle.bug_ops.specs.declared.op.BugOp.TheVariants.{NoOp};
+ghost use Rattle.bug_ops.specs.declared.op.BugOp.TheVariants.{NoOp, SetMetadata};
 ghost use Rattle.snapshot.specs.LastMention.{IsBugList, IsLater, snapshot_of};
 ghost use Rattle.snapshot.specs.LastMention.{labels_of, label_is_on, each_once};
 ghost use Rattle.snapshot.specs.LastMention.{first_of_each, first_value};
@@ -46,9 +47,11 @@ pub fn a_no_op_changes_who_acted_and_when()
 /// each other one may follow. One that may follow can be added.
 pub fn operations_that_keep_the_rules_are_a_bug()
     ensures read { (op : OpValue) (later : List OpValue) → bug_kind.is_opening op ≡ true
-        → bug_kind.KeepsRules op → AllByRecursion IsLater later → IsBugList (op ∷ later) }
-    ensures more { (ops : List OpValue) (op : OpValue) → IsBugList ops → IsLater op
-        → IsBugList (ops ++ op ∷ []) }
+        → bug_kind.KeepsRules op
+        → AllByRecursion (λ (o : OpValue). bug_kind.is_following o ≡ true) later
+        → IsBugList (op ∷ later) }
+    ensures more { (ops : List OpValue) (op : OpValue) → IsBugList ops
+        → bug_kind.is_following op ≡ true → IsBugList (ops ++ op ∷ []) }
 {}
 
 /// The labels of a bug are the one list of texts that ascends in byte order and has just those that
@@ -64,11 +67,22 @@ pub fn labels_are_those_that_are_on()
 {}
 
 /// The metadata of a bug ascend by their keys in byte order, and have under each key the value that
-/// was set first.
+/// was set first: by its creation, whose metadata they are where nothing follows, and by operations
+/// whose target it is; one with another target sets nothing.
 pub fn metadata_have_the_first_value_of_each_key()
     ensures ascend { (pairs : List PairValue) → AreInKeyOrder (first_of_each pairs) }
     ensures same { (pairs : List PairValue) (key : List ℕ)
         → first_value (first_of_each pairs) key ≡ first_value pairs key }
+    ensures begun { (op : OpValue) → IsBugList (op ∷ [])
+        → (snapshot_of (op ∷ [])).row.metadata ≡ (bug_kind.common_of op).metadata }
+    ensures set { (ops : List OpValue) (common : CommonValue) (pairs : List PairValue)
+        (key : List ℕ) → IsBugList ops → let old = snapshot_of ops in
+        first_value (snapshot_of (ops ++ SetMetadata common old.row.id pairs ∷ [])).row.metadata key
+        ≡ option_or (first_value old.row.metadata key) (first_value pairs key) }
+    ensures others { (ops : List OpValue) (common : CommonValue) (target : IdValue)
+        (pairs : List PairValue) → IsBugList ops → target ≢ (snapshot_of ops).row.id
+        → (snapshot_of (ops ++ SetMetadata common target pairs ∷ [])).row.metadata
+        ≡ (snapshot_of ops).row.metadata }
 {}
 
 /// Each person stands once, in the order of first appearance, and just those stand there whose list
