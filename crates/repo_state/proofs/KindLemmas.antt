@@ -177,6 +177,24 @@ user_at-clock_write files folder which n =
     at_file None = refl
     at_file (Some text) = at_id (id_of (line_of text))
 
+-- so does the head of another side than that of identities, even one that names nobody
+pub user_at-other_side : (files : Files) (folder : List ℕ) (of : Side) (id : Id) (head : Name) → IsNamedSide of → of ≢ side.Identities
+    → user_at (written files (ref_write folder (ref_place of id) head)) folder ≡ user_at files folder
+user_at-other_side files folder of id head named other =
+    ap (user_of new folder) (written-other files (ref_write folder (ref_place of id) head) (joined folder user_place) (ref-not_user folder of id))
+    ∙ at_file (files (joined folder user_place))
+  where
+    new : Files
+    new = written files (ref_write folder (ref_place of id) head)
+
+    at_id : (o : Option Id) → local_user new folder o ≡ local_user files folder o
+    at_id None = refl
+    at_id (Some user) = ap (λ (ref : Ref). cond (is_there ref) (User user) BadUser) (head_at-other_side files folder of side.Identities id user head named tt other)
+
+    at_file : (o : Option (List ℕ)) → user_of new folder o ≡ user_of files folder o
+    at_file None = refl
+    at_file (Some text) = at_id (id_of (line_of text))
+
 -- ---- clocks
 
 -- a clock reads as before where a write is not of its path

@@ -1,5 +1,6 @@
 //! Laws of a folder's state, each the contract of a function that does nothing.
-ghost use Rattle.std.specs.Prelude.{◌≡◌, ◌≢◌, ◌↔◌, ◌≤◌, [], List, ℕ, IsTrue, map};
+ghost use Rattle.std.specs.Prelude.{◌≡◌, ◌≢◌, ◌↔◌, ◌≤◌, [], List, ℕ, IsTrue, Some, codes, map};
+ghost use Rattle.std.specs.List.{repeat};
 ghost use Rattle.gb_text.specs.Digits.{IsId, IsName};
 ghost use Rattle.gb_text.specs.declared.id.Id.{Id};
 ghost use Rattle.gb_text.specs.declared.id.Name.{Name};
@@ -12,8 +13,8 @@ ghost use Rattle.ref_store.specs.Setting.{ref_write};
 ghost use Rattle.lamport.specs.declared.clock.TheConstants.{CAP};
 ghost use Rattle.repo_state.specs.Clocks.{clock_at, clock_write};
 ghost use Rattle.repo_state.specs.Sides.{AllRead, AreHeads, AreIds, has_ref, head_at, ref_place};
-ghost use Rattle.repo_state.specs.Sound.{IsNamedSide, IsSound};
-ghost use Rattle.repo_state.specs.Users.{BadUser, User, user_at, user_write};
+ghost use Rattle.repo_state.specs.Sound.{IsNamedSide, IsRemoteName, IsSound};
+ghost use Rattle.repo_state.specs.Users.{BadUser, User, user_at, user_entry, user_write};
 ghost use Rattle.repo_state.specs.declared.clocks.ClockFile.{ClockFile};
 ghost use Rattle.repo_state.specs.declared.side.HeadEntry.{HeadEntry};
 ghost use Rattle.repo_state.specs.declared.side.Side.{Side as SideValue};
@@ -24,8 +25,8 @@ pub fn an_empty_folder_is_sound()
     ensures { (folder : List ℕ) → IsSound folder (files_of []) }
 {}
 
-/// In a sound folder the head of each ref, of a remote's too, is a commit that is held, and so is all
-/// that it leads to by what objects name, each as of its kind.
+/// In a sound folder the head of each ref, also of one of a remote with such a name as remotes have, is
+/// a commit that is held, and so is all that it leads to by what objects name, each as of its kind.
 pub fn sound_folders_hold_what_heads_lead_to()
     ensures { (folder : List ℕ) (files : Files) (of : SideValue) (id : Id) (head : Name)
         (one : Reference) → IsSound folder files → IsNamedSide of → IsId id
@@ -45,8 +46,28 @@ pub fn ids_are_those_of_the_heads()
         → ((heads : List HeadEntry) × AreHeads files folder of heads) ↔ AllRead files folder of }
 {}
 
+/// The user with its head is the user whose ref reads.
+pub fn users_have_their_heads()
+    ensures has { (files : Files) (folder : List ℕ) (user : HeadEntry)
+        → user_entry files folder ≡ Some user → (user_at files folder ≡ User user.id)
+        × (head_at files folder side.Identities user.id ≡ Head user.name) }
+    ensures back { (files : Files) (folder : List ℕ) (id : Id) (head : Name)
+        → user_at files folder ≡ User id → head_at files folder side.Identities id ≡ Head head
+        → user_entry files folder ≡ Some (record { id = id; name = head }) }
+{}
+
+/// The name of a remote has 1 to 64 bytes, among them letters, digits, `_` and `-`, and no dot or slash.
+pub fn remote_names_are_known()
+    ensures longest { IsRemoteName (repeat 64 (codes "a")) }
+    ensures longer { IsRemoteName (repeat 65 (codes "a")) → ⊥ }
+    ensures none { IsRemoteName [] → ⊥ }
+    ensures signs { IsRemoteName (codes "Az_-09") }
+    ensures dots { IsRemoteName (codes "a.b") → ⊥ }
+    ensures slashes { IsRemoteName (codes "a/b") → ⊥ }
+{}
+
 /// A head that was set reads as it was set, and every other head, the user and the clocks as before;
-/// but a user file that named no local identity may name one then.
+/// but a user file that named no local identity may name one once the head of an identity was set.
 /// The user that was set reads as it was set where its ref stands, and every head and the clocks as
 /// before. A clock that was set to at most 2^62 reads as it was set, and every head, the user and the
 /// other clock as before.
@@ -65,6 +86,10 @@ pub fn heads_and_user_are_a_map()
         ≡ head_at files folder on other }
     ensures user { (files : Files) (folder : List ℕ) (of : SideValue) (id : Id) (head : Name)
         → (user_at files folder ≡ BadUser → ⊥)
+        → user_at (written files (ref_write folder (ref_place of id) head)) folder
+        ≡ user_at files folder }
+    ensures user_by_side { (files : Files) (folder : List ℕ) (of : SideValue) (id : Id)
+        (head : Name) → IsNamedSide of → of ≢ side.Identities
         → user_at (written files (ref_write folder (ref_place of id) head)) folder
         ≡ user_at files folder }
     ensures set_user { (files : Files) (folder : List ℕ) (id : Id) → IsId id

@@ -1,6 +1,6 @@
 use Rattle.ref_store.proofs.MapLemmas.{set_ref_reads}
 use Rattle.repo_state.specs.Sides.{ref_place}
-use Rattle.repo_state.proofs.KindLemmas.{clock_at-other, clock_at-ref_write, clock_at-set, clock_at-user_write, head_at-clock_write, head_at-other_id, head_at-other_side, head_at-user_write, user_at-clock_write, user_at-ref_write, user_at-set}
+use Rattle.repo_state.proofs.KindLemmas.{clock_at-other, clock_at-ref_write, clock_at-set, clock_at-user_write, head_at-clock_write, head_at-other_id, head_at-other_side, head_at-user_write, user_at-clock_write, user_at-other_side, user_at-ref_write, user_at-set}
 use Rattle.repo_state.proofs.laws.heads_and_user_are_a_map.Goals as goal
 
 pub returns-clause-same : goal.returns-clause-same
@@ -14,6 +14,9 @@ returns-clause-other_side c = head_at-other_side
 
 pub returns-clause-user : goal.returns-clause-user
 returns-clause-user c = user_at-ref_write
+
+pub returns-clause-user_by_side : goal.returns-clause-user_by_side
+returns-clause-user_by_side c = user_at-other_side
 
 pub returns-clause-set_user : goal.returns-clause-set_user
 returns-clause-set_user c = user_at-set
