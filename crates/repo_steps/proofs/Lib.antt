@@ -16,3 +16,4 @@ pub mod SoundBugLemmas
 pub mod SoundLemmas
 pub mod StepLemmas
 pub mod WriteLemmas
+pub mod WordLemmas

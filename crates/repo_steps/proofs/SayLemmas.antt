@@ -1,28 +1,22 @@
 -- What a bug says after an edit of it.
-use Rattle.std.proofs.Common.{◌≡◌, ◌||◌, ◌&&◌, ◌++◌, Bool, true, false, not, ℕ, List, [], ◌∷◌, Option, Some, Result, Ok, refl, sym, ◌∙◌, ap, subst, cond, append_assoc, append-nil}
-use Rattle.std.specs.Prelude.{filter, flat_map, if◌then◌else◌}
-use Rattle.std.specs.BTreeMap.{is_at}
+use Rattle.std.proofs.Common.{◌≡◌, ◌||◌, ◌&&◌, ◌++◌, Bool, true, false, not, ℕ, List, [], ◌∷◌, Result, Ok, refl, ◌∙◌, ap, subst}
+use Rattle.std.specs.Prelude.{filter, if◌then◌else◌}
 use Rattle.std.specs.Option.{option_or}
 use Rattle.std.specs.Str.{bytes_eq}
-use Rattle.std.proofs.lemmas.Grind.{flat_map-append}
 use Rattle.std.proofs.lemmas.Map.Views.{any-filter_same}
-use Rattle.std.proofs.lemmas.Slice.Eq.{bytes_eq-Decides}
-use Rattle.gb_text.specs.declared.id.Id.{Id}
-use Rattle.op_kind.specs.declared.place.Common.{Common}
-use Rattle.op_kind.specs.declared.place.Pair.{Pair}
 use Rattle.op_kind.specs.declared.place.Place.{Place}
 use Rattle.bug_ops.specs.BugTable.{common_of_op}
 use Rattle.bug_ops.specs.Kind.{bug_kind}
 use Rattle.bug_ops.specs.Mentions.{is_among}
-use Rattle.bug_ops.specs.Snapshots.{by_bytes, row_after, same_id}
+use Rattle.bug_ops.specs.Snapshots.{one_more, row_after, with_person}
 use Rattle.bug_ops.specs.declared.op.BugOp.{BugOp}
 use Rattle.bug_ops.specs.declared.op.BugStatus.{BugStatus}
 use Rattle.bug_ops.specs.declared.snapshot.Snapshot.{Snapshot}
 use Rattle.bug_ops.proofs.LabelLaws.{label_change}
-use Rattle.snapshot.specs.LastMention.{IsBugList, IsLater, first_value, metadata_of, pairs_in, snapshot_of}
+use Rattle.snapshot.specs.LastMention.{IsBugList, IsLater, first_value, metadata_of, snapshot_of}
 use Rattle.snapshot.proofs.FoundLemmas.{same_text}
 use Rattle.snapshot.proofs.LabelLemmas.{order_has}
-use Rattle.snapshot.proofs.MetadataLemmas.{first_found}
+use Rattle.snapshot.proofs.MetadataLemmas.{own_id, set_behind}
 use Rattle.snapshot.proofs.StepLemmas.{more_is_step}
 use Rattle.repo_state.specs.declared.env.Env.{Env}
 use Rattle.repo_state.specs.declared.refusal.Refusal.{Refusal}
@@ -36,14 +30,14 @@ use Rattle.repo_steps.specs.declared.edit.BugEdit.TheVariants as kind
 abbrev adding : BugOp → Result BugOp Refusal
 adding op = Ok op
 
-added_is : (made op : BugOp) → adding made ≡ adding op → made ≡ op
+pub added_is : (made op : BugOp) → adding made ≡ adding op → made ≡ op
 added_is made op is = cc
 
-change_is : (labels : List (List ℕ)) (made op : BugOp) → with_change labels made ≡ Ok op → made ≡ op
+pub change_is : (labels : List (List ℕ)) (made op : BugOp) → with_change labels made ≡ Ok op → made ≡ op
 change_is [] made op is = absurd (cc is)
 change_is (label ∷ labels) made op is = added_is made op is
 
-status_is : (same : Bool) (made op : BugOp) → unless_same same made ≡ Ok op → made ≡ op
+pub status_is : (same : Bool) (made op : BugOp) → unless_same same made ≡ Ok op → made ≡ op
 status_is true made op is = absurd (cc is)
 status_is false made op is = added_is made op is
 
@@ -72,29 +66,6 @@ taken_off false true = refl
 taken_off false false = refl
 
 -- ---- metadata
-
-values_behind : (ps qs : List Pair) (key : List ℕ) → first_value (ps ++ qs) key ≡ option_or (first_value ps key) (first_value qs key)
-values_behind [] qs key = refl
-values_behind (p ∷ ps) qs key = by (is_at (by_bytes key) p.key) (values_behind ps qs key)
-  where
-    by : (b : Bool) → first_value (ps ++ qs) key ≡ option_or (first_value ps key) (first_value qs key)
-        → cond b (Some p.value) (first_value (ps ++ qs) key) ≡ option_or (cond b (Some p.value) (first_value ps key)) (first_value qs key)
-    by true rest = refl
-    by false rest = rest
-
-own_id : (id : Id) → same_id id id ≡ true
-own_id id = (bytes_eq-Decides id.bytes id.bytes).1 refl
-
--- under each key what an operation more sets there, behind what was set
-set_behind : (first : Common) (later : List BugOp) (o : BugOp) (key : List ℕ)
-    → first_value (metadata_of first (later ++ o ∷ [])) key ≡ option_or (first_value (metadata_of first later) key) (first_value (pairs_in first.place.id o) key)
-set_behind first later o key =
-    let set = λ (ops : List BugOp). flat_map (pairs_in first.place.id) ops in
-    first_found (first.metadata ++ set (later ++ o ∷ [])) key
-    ∙ ap (λ (ps : List Pair). first_value (first.metadata ++ ps) key) (flat_map-append (pairs_in first.place.id) later (o ∷ []) ∙ ap (λ (ps : List Pair). set later ++ ps) (append-nil (pairs_in first.place.id o)))
-    ∙ ap (λ (ps : List Pair). first_value ps key) (sym (append_assoc first.metadata (set later) (pairs_in first.place.id o)))
-    ∙ values_behind (first.metadata ++ set later) (pairs_in first.place.id o) key
-    ∙ ap (λ (found : Option (List ℕ)). option_or found (first_value (pairs_in first.place.id o) key)) (sym (first_found (first.metadata ++ set later) key))
 
 -- the same of a bug to whose first operation a pair is set, wherever the operation that sets it stands
 pair_behind : (env : Env) (ops : List BugOp) (place : Place) → IsBugList ops → (key value other : List ℕ)
@@ -188,3 +159,35 @@ module _ (env : Env) (ops : List BugOp) (op : BugOp) (bug : IsBugList ops) (plac
   else_kept (kind.Metadata key value) is =
       let made = metadata_op env before.row.id key value in
       stepped (KeepsAllElse (kind.Metadata key value) before) made refl (added_is made op is) refl
+
+  -- who acted, the clock and the time of the last operation are the edit's
+  abbrev WhoAndWhen : Snapshot → Type 0
+  WhoAndWhen s = (s.row.actors ≡ with_person before.row.actors place.author) × (s.row.edit ≡ place.edit) × (s.row.last ≡ env.now)
+
+  pub who_and_when : (edit : BugEdit) → edit_op env edit before ≡ Ok op → WhoAndWhen after
+  unfolding row_after
+  who_and_when (kind.Comment message) is = let made = comment_op env message in stepped WhoAndWhen made refl (added_is made op is) (refl, refl, refl)
+  who_and_when kind.Noop is = let made = noop_op env in stepped WhoAndWhen made refl (added_is made op is) (refl, refl, refl)
+  who_and_when (kind.Title title) is = let made = title_op env title before.row.title in stepped WhoAndWhen made refl (added_is made op is) (refl, refl, refl)
+  who_and_when (kind.Status status) is =
+      let made = status_op env status in
+      stepped WhoAndWhen made refl (status_is (same_status before.row.status status) made op is) (refl, refl, refl)
+  who_and_when (kind.AddLabels labels) is =
+      let changed = named_off before.row.labels labels in
+      let made = labels_op env changed [] in
+      stepped WhoAndWhen made refl (change_is changed made op is) (refl, refl, refl)
+  who_and_when (kind.RemoveLabels labels) is =
+      let changed = named_on before.row.labels labels in
+      let made = labels_op env [] changed in
+      stepped WhoAndWhen made refl (change_is changed made op is) (refl, refl, refl)
+  who_and_when (kind.Metadata key value) is =
+      let made = metadata_op env before.row.id key value in
+      stepped WhoAndWhen made refl (added_is made op is) (refl, refl, refl)
+
+  -- who comments takes part, and a comment more is counted
+  pub took_part : (message : List ℕ) → edit_op env (kind.Comment message) before ≡ Ok op
+      → (after.row.participants ≡ with_person before.row.participants place.author) × (after.row.comments ≡ one_more before.row.comments)
+  unfolding row_after
+  took_part message is =
+      let made = comment_op env message in
+      stepped (λ (s : Snapshot). (s.row.participants ≡ with_person before.row.participants place.author) × (s.row.comments ≡ one_more before.row.comments)) made refl (added_is made op is) (refl, refl)

@@ -7,7 +7,7 @@ use Rattle.repo_state.specs.declared.refusal.Refusal.TheVariants as refusal
 use Rattle.repo_steps.specs.declared.edit.BugEdit.{BugEdit}
 use Rattle.repo_steps.specs.declared.edit.BugEdit.TheVariants as edit
 
--- The edit would change nothing: the bug has the status, each label that is named is on, or none of them is. Another edit always changes something, if only who acted.
+-- The edit would change nothing: the bug has the status, each label that is named is on, or none of them is. Another edit always changes something, if only the clock and the time of the last operation.
 abbrev pub ChangesNothing : BugEdit → Snapshot → Type 0
 ChangesNothing (edit.Status status) bug = bug.row.status ≡ status
 ChangesNothing (edit.AddLabels labels) bug = (label : List ℕ) → is_among labels label ≡ true → is_among bug.row.labels label ≡ true

@@ -11,3 +11,4 @@ pub mod Kinds
 pub mod NewOps
 pub mod PeopleDoings
 pub mod Steps
+pub mod WordRules

@@ -1,21 +1,25 @@
 //! Laws of the commands that edit, and of the kinds of write, each the contract of a function that
 //! does nothing.
-ghost use Rattle.std.specs.Prelude.{◌≡◌, ◌≤◌, [], ◌∷◌, ◌++◌, ◌||◌, ◌&&◌, false, true, not, List, ℕ, Result, Ok, Err, reverse};
+ghost use Rattle.std.specs.Prelude.{◌≡◌, ◌≢◌, ◌≤◌, [], ◌∷◌, ◌++◌, ◌||◌, ◌&&◌, false, true, not, List, ℕ, Some, None, Result, Ok, Err, reverse};
+ghost use Rattle.sha2.specs.Sha256.{sha256};
 ghost use Rattle.std.specs.List.Sorted.{IsStrictlySortedBy};
 ghost use Rattle.std.specs.Option.{option_or};
+ghost use Rattle.op_kind.specs.declared.place.Common.{Common as CommonValue};
 ghost use Rattle.op_kind.specs.declared.place.Place.{Place as PlaceValue};
 ghost use Rattle.bug_ops.specs.Kind.{bug_kind};
 ghost use Rattle.bug_ops.specs.Mentions.{is_among};
-ghost use Rattle.bug_ops.specs.Snapshots.{by_bytes};
+ghost use Rattle.bug_ops.specs.Snapshots.{by_bytes, one_more, with_person};
 ghost use Rattle.bug_ops.specs.declared.op.BugOp.{BugOp as OpValue};
+ghost use Rattle.bug_ops.specs.declared.op.BugOp.TheVariants.{SetTitle};
 ghost use Rattle.bug_ops.specs.declared.op.BugStatus.{BugStatus as StatusValue};
 ghost use Rattle.bug_ops.specs.declared.snapshot.Snapshot.{Snapshot as SnapshotValue};
 ghost use Rattle.snapshot.specs.LastMention.{IsBugList, first_value, snapshot_of};
-ghost use Rattle.repo_steps.specs.BugEdits.{edit_op, named_off, named_on};
+ghost use Rattle.repo_steps.specs.BugEdits.{bad_edit, edit_op, named_off, named_on};
 ghost use Rattle.repo_steps.specs.Effects.{ChangesNothing, KeepsAllElse, no_change};
 ghost use Rattle.repo_steps.specs.declared.edit.BugEdit.{BugEdit as BugEditValue};
 ghost use Rattle.repo_steps.specs.declared.edit.BugEdit.TheVariants as kind;
 ghost use Rattle.gb_text.specs.Digits.{IsId};
+ghost use Rattle.gb_text.specs.declared.decimal.TheConstants.{LIMIT};
 ghost use Rattle.gb_text.specs.Folder.{is_rooted, joined};
 ghost use Rattle.gb_text.specs.Overlap.{Overlap};
 ghost use Rattle.gb_text.specs.declared.id.Id.{Id};
@@ -29,10 +33,10 @@ ghost use Rattle.commit_chain.specs.Chain.{Meets};
 ghost use Rattle.commit_walk.specs.Below.{IsBelow};
 ghost use Rattle.ref_store.specs.Refs.{Head};
 ghost use Rattle.repo_state.specs.Clocks.{clock_at};
-ghost use Rattle.repo_state.specs.Sides.{head_at};
+ghost use Rattle.repo_state.specs.Sides.{found_by, head_at};
 ghost use Rattle.repo_state.specs.Sound.{IsSound, KeepsParts};
 ghost use Rattle.repo_state.specs.Stops.{number_of};
-ghost use Rattle.repo_state.specs.Users.{user_at};
+ghost use Rattle.repo_state.specs.Users.{User, user_at};
 ghost use Rattle.repo_state.specs.declared.clocks.ClockFile.{ClockFile as ClockFileValue};
 ghost use Rattle.repo_state.specs.declared.env.Env.{Env as EnvValue};
 ghost use Rattle.repo_state.specs.declared.refusal.Refusal.{Refusal as RefusalValue};
@@ -40,7 +44,9 @@ ghost use Rattle.repo_state.specs.declared.refusal.Refusal.TheVariants as refusa
 ghost use Rattle.repo_state.specs.declared.refusal.Stop.{Stop as StopValue};
 ghost use Rattle.repo_state.specs.declared.side.Side.{Side as SideValue};
 ghost use Rattle.repo_state.specs.declared.side.Side.TheVariants as side;
-ghost use Rattle.repo_steps.specs.Doings.{Done, EditAnswers, MayStep, Refused};
+ghost use Rattle.repo_steps.specs.Doing.{nonce_from};
+ghost use Rattle.repo_steps.specs.Doings.{Done, EditAnswers, MayStep, Refused, bad_word_of};
+ghost use Rattle.repo_steps.specs.WordRules.{IsFirstBad, IsOfTheMoment, all_keep, words_keep};
 ghost use Rattle.repo_steps.specs.Kept.{LosesNothing};
 ghost use Rattle.repo_steps.specs.Kinds.{IsPlace, IsWrite, is_dotless};
 ghost use Rattle.repo_steps.specs.Steps.{BugBegins, BugGrows, Steps};
@@ -51,6 +57,7 @@ ghost use Rattle.repo_state.specs.Bugs.{IsBug};
 ghost use Rattle.repo_state.specs.declared.side.HeadEntry.{HeadEntry as HeadEntryValue};
 ghost use Rattle.dag_entity.specs.declared.entity.Entity.{Entity as EntityValue};
 ghost use Rattle.repo_steps.specs.declared.edit.Edit.{Edit as EditValue};
+ghost use Rattle.repo_steps.specs.declared.edit.Edit.TheVariants.{OfBug, UserSet};
 
 /// Whatever a command answers, each of its writes is of a kind at its moment.
 pub fn edits_write_by_kinds()
@@ -117,6 +124,25 @@ pub fn edits_keep_all_else()
         (snapshot_of (ops ++ bug_kind.placed place op ∷ [])) }
 {}
 
+/// Behind those who acted before stands the author of the edit, if not among them; the clock of the last
+/// operation is that of its place, and the time that of the command. Who comments stands so behind those
+/// who took part, and a comment more is counted.
+pub fn edits_tell_who_acted_and_when()
+    ensures acted { (env : EnvValue) (ops : List OpValue) (op : OpValue) → IsBugList ops
+        → (place : PlaceValue) (edit : BugEditValue) → edit_op env edit (snapshot_of ops) ≡ Ok op
+        → let old = (snapshot_of ops).row in
+        let new = (snapshot_of (ops ++ bug_kind.placed place op ∷ [])).row in
+        (new.actors ≡ with_person old.actors place.author) × (new.edit ≡ place.edit)
+        × (new.last ≡ env.now) }
+    ensures took_part { (env : EnvValue) (ops : List OpValue) (op : OpValue) → IsBugList ops
+        → (place : PlaceValue) (message : List ℕ)
+        → edit_op env (kind.Comment message) (snapshot_of ops) ≡ Ok op
+        → let old = (snapshot_of ops).row in
+        let new = (snapshot_of (ops ++ bug_kind.placed place op ∷ [])).row in
+        (new.participants ≡ with_person old.participants place.author)
+        × (new.comments ≡ one_more old.comments) }
+{}
+
 /// By what a bug says its edit is refused exactly where it would change nothing: the bug has the
 /// status, each label to put on is on, or no label to take off is.
 pub fn edits_that_change_nothing_are_refused()
@@ -134,6 +160,46 @@ pub fn changed_labels_ascend()
         → IsStrictlySortedBy by_bytes (named_off on named) }
     ensures taken_off { (on named : List (List ℕ)) → IsStrictlySortedBy by_bytes on
         → IsStrictlySortedBy by_bytes (named_on on named) }
+{}
+
+/// What is told of words that break a rule is the place of the first of them, counted from 1 over all
+/// words of the command, and the command is refused with it; and none is told where each keeps its rule.
+pub fn first_bad_words_are_told()
+    ensures first { (command : EditValue) (place : ℕ) → bad_word_of command ≡ Some place
+        → IsFirstBad (words_keep command) place }
+    ensures none { (command : EditValue) → bad_word_of command ≡ None
+        → all_keep (words_keep command) ≡ true }
+    ensures refused { (env : EnvValue) (command : EditValue) (old : History) (place : ℕ)
+        → bad_word_of command ≡ Some place → Refused env command old (refusal.BadText place) }
+{}
+
+/// The operation of an edit is of the moment, by the seed, and has no metadata of its own, and so is
+/// the one that begins a bug. A title's names the title that the bug had. Unlike seeds give unlike
+/// nonces, but for two texts with one SHA-256.
+pub fn operations_are_made_anew()
+    ensures added { (env : EnvValue) (edit : BugEditValue) (bug : SnapshotValue) (op : OpValue)
+        → edit_op env edit bug ≡ Ok op → IsOfTheMoment env op }
+    ensures begun { (env : EnvValue) (title message : List ℕ)
+        → IsOfTheMoment env (create_op env title message) }
+    ensures before { (env : EnvValue) (title : List ℕ) (bug : SnapshotValue) (op : OpValue)
+        → edit_op env (kind.Title title) bug ≡ Ok op
+        → (common : CommonValue) × (op ≡ SetTitle common title bug.row.title) }
+    ensures nonces { (one other : List ℕ) → one ≢ other → nonce_from one ≡ nonce_from other
+        → (text : List ℕ) × (second : List ℕ) × (text ≢ second)
+        × (sha256 text ≡ sha256 second) }
+{}
+
+/// A command whose word finds no bug, or no person, is refused for that: an edit of a bug once its
+/// words keep their rules, the moment is one that may be written, and there is a user.
+pub fn words_that_find_nothing_are_refused()
+    ensures bugs { (env : EnvValue) (edit : BugEditValue) (word : List ℕ) (old : History) (user : Id)
+        → bad_edit edit ≡ None → env.now ≤ LIMIT
+        → user_at (files_of old) env.folder ≡ User user
+        → found_by (files_of old) env.folder side.Bugs word ≡ None
+        → Refused env (OfBug word edit) old refusal.NotFound }
+    ensures persons { (env : EnvValue) (word : List ℕ) (old : History)
+        → found_by (files_of old) env.folder side.Identities word ≡ None
+        → Refused env (UserSet word) old refusal.NotFound }
 {}
 
 /// Read anew from the files after the step of an edit, the bug that its word finds says what it said
