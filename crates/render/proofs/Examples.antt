@@ -1,0 +1,80 @@
+-- Worked texts of each command that reads, computed.
+use Rattle.std.specs.Prelude.{◌≡◌, ◌++◌, ℕ, codes, [], ◌∷◌, Some, None}
+use Rattle.std.specs.Fmt.{digits}
+use Rattle.std.specs.List.{repeat}
+use Rattle.std.proofs.Common.{refl}
+use Rattle.hex.proofs.OnLiterals.{hex_on_literals}
+use Rattle.json.proofs.OnLiterals.{json_on_literals}
+use Rattle.gb_text.specs.declared.id.Id.{Id}
+use Rattle.gb_text.specs.declared.id.Name.{Name}
+use Rattle.bug_ops.specs.declared.op.BugOp.{BugOp}
+use Rattle.bug_ops.specs.declared.op.BugStatus.TheVariants.{Closed}
+use Rattle.bug_ops.specs.declared.snapshot.Snapshot.{Snapshot}
+use Rattle.combined_id.specs.Combined.{combined_from}
+use Rattle.dag_entity.specs.declared.entity.Placed.{Placed}
+use Rattle.identity.specs.declared.chain.Person.{Person}
+use Rattle.render.specs.Log.{log_text_of}
+use Rattle.render.specs.Show.{show_text_of}
+use Rattle.render.specs.Users.{users_text_of}
+
+-- the id, and the name of a commit, whose bytes are all this one
+abbrev id_of : ℕ → Id
+id_of byte = record { bytes = repeat 32 (byte ∷ []) }
+
+abbrev name_of : ℕ → Name
+name_of byte = record { bytes = repeat 20 (byte ∷ []) }
+
+-- Ana with the id of `a0`, and Bo, who has no email, with that of `b0`
+abbrev ana : Person
+ana = record { id = id_of 160; head = name_of 0; name = codes "Ana"; email = codes "ana@x" }
+
+abbrev bo : Person
+bo = record { id = id_of 176; head = name_of 0; name = codes "Bo"; email = [] }
+
+-- the user's line ends with a star
+persons : users_text_of (ana ∷ bo ∷ []) (Some (id_of 176)) ≡ repeat 32 (codes "a0") ++ codes "\tAna\tana@x\n" ++ repeat 32 (codes "b0") ++ codes "\tBo\t\t*\n"
+unfolding hex_on_literals
+persons = refl
+
+no_user : users_text_of (bo ∷ []) None ≡ repeat 32 (codes "b0") ++ codes "\tBo\t\n"
+unfolding hex_on_literals
+no_user = refl
+
+-- a commit with an empty pack at this clock
+abbrev placed_at : ℕ → ℕ → Placed BugOp
+placed_at byte edit = record {
+  commit = name_of byte;
+  pack = record { id = id_of byte; version = 4; edit = edit; create = None; author = id_of 0; ops = [] };
+}
+
+log : log_text_of (placed_at 238 2 ∷ placed_at 15 10 ∷ []) ≡ codes "2 " ++ repeat 20 (codes "ee") ++ codes "\n10 " ++ repeat 20 (codes "0f") ++ codes "\n"
+unfolding digits hex_on_literals
+log = refl
+
+-- a closed bug with a label of two words, an actor whom nobody knows, metadata with a quote and a line feed, and a comment of two lines with an empty one between
+abbrev bug : Snapshot
+bug = record {
+  row = record {
+    id = id_of 170;
+    title = codes "A title";
+    status = Closed;
+    labels = codes "two words" ∷ [];
+    author = id_of 160;
+    actors = id_of 160 ∷ id_of 193 ∷ [];
+    participants = id_of 176 ∷ [];
+    create = 5;
+    edit = 12;
+    first = 34;
+    last = 0;
+    comments = 1;
+    metadata = record { key = codes "a\"b"; value = codes "\n" } ∷ [];
+  };
+  list = record { id = id_of 187; author = id_of 176; time = 7; message = codes "one\n\ntwo" } ∷ [];
+}
+
+shown : show_text_of bug (ana ∷ bo ∷ []) ≡
+    codes "bug " ++ repeat 32 (codes "aa")
+    ++ codes "\ntitle A title\nstatus closed\nlabel two words\nauthor Ana\ncreated 5 34\nedited 12 0\nactor Ana\nactor c1c1c1c\nparticipant Bo\nmetadata \"a\\\"b\" \"\\n\"\n"
+    ++ codes "comment abababaaab" ++ repeat 10 (codes "aaaab") ++ codes "aaaa Bo 7\n    one\n    \n    two\n"
+unfolding digits hex_on_literals json_on_literals combined_from
+shown = refl
