@@ -1,6 +1,5 @@
 -- The people of a folder are one list, and where there is one none of them is damaged. So `show` and `users` have one answer.
-use Rattle.std.proofs.Common.{◌≡◌, ℕ, inl, inr, List, [], ◌∷◌, map, Contains, Option, Some, None, Ok, Err, refl, sym, ◌∙◌, ap, subst, arith}
-use Rattle.std.specs.List.{AllByRecursion}
+use Rattle.std.proofs.Common.{◌≡◌, ℕ, inl, inr, List, [], ◌∷◌, map, Contains, Option, Some, None, refl, sym, ◌∙◌, ap, subst, arith}
 use Rattle.std.proofs.lemmas.Cmp.{nat_list_cmp_total}
 use Rattle.std.proofs.lemmas.Option.{same_Some}
 use Rattle.gb_text.specs.declared.id.Id.{Id}
@@ -17,7 +16,7 @@ use Rattle.identity.proofs.NoFaultLemmas.{no_fault_at}
 use Rattle.repo_state.specs.Answers.{HasBadPerson, IsBadUser, IsUser}
 use Rattle.repo_state.specs.People.{AllShow, ArePeople}
 use Rattle.repo_state.specs.Sides.{AreHeads, head_at}
-use Rattle.repo_state.specs.Users.{UserFound, BadUser, NoUser, User, user_at}
+use Rattle.repo_state.specs.Users.{BadUser, NoUser, User}
 use Rattle.repo_state.specs.declared.side.HeadEntry.{HeadEntry}
 use Rattle.repo_state.specs.declared.side.Side.{Side}
 use Rattle.repo_state.specs.declared.side.Side.TheVariants as side

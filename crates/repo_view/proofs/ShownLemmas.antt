@@ -2,6 +2,8 @@
 use Rattle.std.proofs.Common.{◌≡◌, ℕ, inl, inr, Bool, true, false, not, List, [], ◌∷◌, ◌++◌, map, filter, flat_map, filter_map, Some, None, Ok, Err, refl, sym, ◌∙◌, ap, subst, arith}
 use Rattle.std.specs.Prelude.{codes, if◌then◌else◌}
 use Rattle.std.specs.List.{AllByRecursion}
+use Rattle.std.proofs.lemmas.Option.{same_Some}
+use Rattle.gb_text.specs.Folder.{joined}
 use Rattle.gb_text.specs.declared.id.Id.{Id}
 use Rattle.gb_store.specs.Files.{Files}
 use Rattle.object_store.specs.Held.{objects_in}
@@ -21,13 +23,15 @@ use Rattle.render.specs.Lines.{name_among, told_line}
 use Rattle.render.specs.Show.{comment_lines, person_line, person_lines, show_text_of}
 use Rattle.render.specs.Users.{users_text_of}
 use Rattle.repo_state.specs.Answers.{HasBadPerson}
-use Rattle.repo_state.specs.Bugs.{AreLocal, FindsBug}
+use Rattle.repo_state.specs.Bugs.{AreLocal, FindsBug, IsDamagedBug}
+use Rattle.repo_state.specs.Sides.{found_by, ref_place}
 use Rattle.repo_state.specs.Sound.{IsSound, IsSoundIdentity}
 use Rattle.repo_state.specs.Sound as parts
 use Rattle.repo_state.specs.declared.refusal.Refusal.{Refusal}
 use Rattle.repo_state.specs.declared.refusal.Refusal.TheVariants as refusal
 use Rattle.repo_state.specs.declared.refusal.Stop.TheVariants as stop
 use Rattle.repo_state.specs.declared.side.HeadEntry.{HeadEntry}
+use Rattle.repo_state.specs.declared.side.Side.TheVariants as side
 use Rattle.repo_state.proofs.BugLemmas.{bug_no_fault, bug_not_damaged, one_bug}
 use Rattle.repo_state.proofs.UndamagedLemmas.{no_bad_found}
 use Rattle.repo_view.specs.Shown.{AgreeOnAuthors, HaveSameCommits, IsShown, ShowAnswers, UsersAnswers}
@@ -213,3 +217,18 @@ show_not_damaged files folder word path sound (inr (bug, finds, entity, is, bad)
 pub users_not_damaged : (files : Files) (folder path : List ℕ) → IsSound folder files → UsersAnswers files folder (Err (stop.Refused (refusal.Damaged path))) → ⊥
 users_not_damaged files folder path sound (inl bad) = no_bad_person files folder path sound bad
 users_not_damaged files folder path sound (inr (people, are, bad)) = sound parts.User bad.1
+
+-- ---- what is told first
+
+-- a bug with which something is wrong is told, and no person
+pub bug_told_first : (files : Files) (folder word path : List ℕ) (id : Id) → found_by files folder side.Bugs word ≡ Some id → IsDamagedBug files folder id
+    → ShowAnswers files folder word (Err (stop.Refused (refusal.Damaged path))) → path ≡ joined folder (ref_place side.Bugs id)
+bug_told_first files folder word path id found wrong (inl (other, has, at, damaged)) =
+    at ∙ ap (λ (bug : Id). joined folder (ref_place side.Bugs bug)) (same_Some other id (sym has ∙ found))
+bug_told_first files folder word path id found wrong (inr (bug, finds, entity, is, person)) = absurd (bug_not_damaged files folder word bug entity id finds is found wrong)
+
+-- where a person is damaged, one is told, and no user file
+pub person_told_first : (files : Files) (folder path other : List ℕ) → HasBadPerson files folder other → UsersAnswers files folder (Err (stop.Refused (refusal.Damaged path)))
+    → HasBadPerson files folder path
+person_told_first files folder path other bad (inl told) = told
+person_told_first files folder path other bad (inr (people, are, user)) = absurd (no_bad_among files folder other people are bad)

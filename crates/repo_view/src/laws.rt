@@ -1,17 +1,21 @@
 //! Laws of what is shown of a folder, each the contract of a function that does nothing.
-ghost use Rattle.std.specs.Prelude.{◌≡◌, [], ◌∷◌, List, ℕ, Ok, Err};
+ghost use Rattle.std.specs.Prelude.{◌≡◌, [], ◌∷◌, List, ℕ, Some, Ok, Err};
 ghost use Rattle.bug_ops.specs.Kind.{bug_kind};
 ghost use Rattle.dag_entity.specs.Faults.{EntityFaultHolds};
 ghost use Rattle.dag_entity.specs.declared.fault.EntityFault.{EntityFault};
 ghost use Rattle.gb_store.specs.Files.{Files};
+ghost use Rattle.gb_text.specs.Folder.{joined};
 ghost use Rattle.gb_text.specs.declared.id.Id.{Id};
 ghost use Rattle.object_store.specs.Held.{objects_in};
-ghost use Rattle.repo_state.specs.Bugs.{AreLocal, FindsBug};
+ghost use Rattle.repo_state.specs.Answers.{HasBadPerson};
+ghost use Rattle.repo_state.specs.Bugs.{AreLocal, FindsBug, IsDamagedBug};
+ghost use Rattle.repo_state.specs.Sides.{found_by, ref_place};
 ghost use Rattle.repo_state.specs.Sound.{IsSound};
 ghost use Rattle.repo_state.specs.declared.refusal.Refusal.{Refusal};
 ghost use Rattle.repo_state.specs.declared.refusal.Refusal.TheVariants as refusal;
 ghost use Rattle.repo_state.specs.declared.refusal.Stop.TheVariants as stop;
 ghost use Rattle.repo_state.specs.declared.side.HeadEntry.{HeadEntry};
+ghost use Rattle.repo_state.specs.declared.side.Side.TheVariants as side;
 ghost use Rattle.repo_view.specs.Log.{LogAnswers};
 ghost use Rattle.repo_view.specs.Shown.{AgreeOnAuthors, HaveSameCommits, ShowAnswers, UsersAnswers};
 
@@ -61,6 +65,18 @@ pub fn shown_people_are_not_damaged()
     ensures { (files : Files) (folder text : List ℕ) (refusal : Refusal)
         → UsersAnswers files folder (Ok text)
         → UsersAnswers files folder (Err (stop.Refused refusal)) → ⊥ }
+{}
+
+/// What comes first is told first: where something is wrong with the bug, no person is told as damaged;
+/// and where a person is damaged, the user file is not.
+pub fn the_first_damage_is_told()
+    ensures show { (files : Files) (folder word path : List ℕ) (id : Id)
+        → found_by files folder side.Bugs word ≡ Some id → IsDamagedBug files folder id
+        → ShowAnswers files folder word (Err (stop.Refused (refusal.Damaged path)))
+        → path ≡ joined folder (ref_place side.Bugs id) }
+    ensures users { (files : Files) (folder path other : List ℕ) → HasBadPerson files folder other
+        → UsersAnswers files folder (Err (stop.Refused (refusal.Damaged path)))
+        → HasBadPerson files folder path }
 {}
 
 /// `show` may answer one text at most for the same files, folder and word, and `users` one for the
