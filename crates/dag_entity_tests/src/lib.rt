@@ -1,5 +1,5 @@
-//! Copies as those who read entities see them, a law that stands where the crates of both meet, and
-//! tests of `dag_entity`.
+//! Copies as those who read entities see them, a law that stands where the crates of both meet, one of the
+//! order of packs, and tests of `dag_entity`.
 #![tactic(auto)]
 
 #[cfg(test)]
@@ -16,4 +16,4 @@ mod graphs;
 mod large;
 mod laws;
 
-pub use laws::whole_copies_have_the_same_entity;
+pub use laws::{packs_stand_by_clock_then_id, whole_copies_have_the_same_entity};
