@@ -1,16 +1,17 @@
 -- Worked examples of the definitions, computed.
-use Rattle.std.specs.Prelude.{◌≡◌, codes, [], ◌∷◌, Some, None, pos, negsuc}
+use Rattle.std.specs.Prelude.{◌≡◌, ◌++◌, codes, [], ◌∷◌, Some, None, pos, negsuc}
 use Rattle.std.specs.Fmt.{digits}
+use Rattle.std.specs.List.{repeat}
 use Rattle.std.proofs.Common.{refl}
 use Rattle.hex.proofs.OnLiterals.{hex_on_literals}
-use Rattle.repo_state.specs.declared.refusal.Refusal.TheVariants.{BadText, Damaged, EntityExists, NoLabelChange, SameStatus, TooLarge}
+use Rattle.repo_state.specs.declared.refusal.Refusal.TheVariants.{BadFolder, BadText, ClockFull, Damaged, EntityExists, NameTaken, NoLabelChange, NoUser, NotFound, RepeatedOperation, SameStatus, TooLarge}
 use Rattle.bug_ops.specs.declared.op.BugStatus.TheVariants.{Closed, Opened}
-use Rattle.repo_steps.specs.declared.edit.BugEdit.TheVariants.{AddLabels, Metadata, RemoveLabels, Status, Title}
-use Rattle.repo_steps.specs.declared.edit.Edit.TheVariants.{OfBug, UserEdit, UserNew, UserSet}
+use Rattle.repo_steps.specs.declared.edit.BugEdit.TheVariants.{AddLabels, Comment, Metadata, Noop, RemoveLabels, Status, Title}
+use Rattle.repo_steps.specs.declared.edit.Edit.TheVariants.{New, OfBug, UserEdit, UserNew, UserSet}
 use Rattle.bug_run.specs.Refusals.{refusal_line}
 use Rattle.bug_run.specs.Run.{moment}
 use Rattle.bug_run.specs.Words.{request_of}
-use Rattle.bug_run.specs.declared.words.Command.TheVariants.{Edit, Log}
+use Rattle.bug_run.specs.declared.words.Command.TheVariants.{Edit, Log, Show, Users}
 
 -- what words ask
 words_none : request_of [] ≡ None
@@ -21,6 +22,24 @@ words_folder = refl
 
 words_log : request_of (codes "f" ∷ codes "log" ∷ codes "b" ∷ []) ≡ Some (record { folder = codes "f"; command = Log (codes "b") })
 words_log = refl
+
+words_users : request_of (codes "f" ∷ codes "users" ∷ []) ≡ Some (record { folder = codes "f"; command = Users })
+words_users = refl
+
+words_users_of_one : request_of (codes "f" ∷ codes "users" ∷ codes "x" ∷ []) ≡ None
+words_users_of_one = refl
+
+words_show : request_of (codes "f" ∷ codes "show" ∷ codes "b" ∷ []) ≡ Some (record { folder = codes "f"; command = Show (codes "b") })
+words_show = refl
+
+words_bug : request_of (codes "f" ∷ codes "new" ∷ codes "t" ∷ codes "m" ∷ []) ≡ Some (record { folder = codes "f"; command = Edit (New (codes "t") (codes "m")) })
+words_bug = refl
+
+words_comment : request_of (codes "f" ∷ codes "comment" ∷ codes "b" ∷ codes "m" ∷ []) ≡ Some (record { folder = codes "f"; command = Edit (OfBug (codes "b") (Comment (codes "m"))) })
+words_comment = refl
+
+words_noop : request_of (codes "f" ∷ codes "noop" ∷ codes "b" ∷ []) ≡ Some (record { folder = codes "f"; command = Edit (OfBug (codes "b") Noop) })
+words_noop = refl
 
 words_log_of_nothing : request_of (codes "f" ∷ codes "log" ∷ []) ≡ None
 words_log_of_nothing = refl
@@ -76,7 +95,7 @@ line_of_a_text : refusal_line (BadText 2) ≡ codes "refused 4 bad text 2\n"
 unfolding digits hex_on_literals
 line_of_a_text = refl
 
-line_of_an_id : refusal_line (EntityExists (record { bytes = 10 ∷ 10 ∷ 10 ∷ 10 ∷ 10 ∷ 10 ∷ 10 ∷ 10 ∷ 10 ∷ 10 ∷ 10 ∷ 10 ∷ 10 ∷ 10 ∷ 10 ∷ 10 ∷ 10 ∷ 10 ∷ 10 ∷ 10 ∷ 10 ∷ 10 ∷ 10 ∷ 10 ∷ 10 ∷ 10 ∷ 10 ∷ 10 ∷ 10 ∷ 10 ∷ 10 ∷ 10 ∷ [] })) ≡ codes "refused 9 entity exists 0a0a0a0a0a0a0a0a0a0a0a0a0a0a0a0a0a0a0a0a0a0a0a0a0a0a0a0a0a0a0a0a\n"
+line_of_an_id : refusal_line (EntityExists (record { bytes = repeat 32 (10 ∷ []) })) ≡ codes "refused 9 entity exists " ++ repeat 32 (codes "0a") ++ codes "\n"
 unfolding digits hex_on_literals
 line_of_an_id = refl
 
@@ -95,3 +114,27 @@ line_of_same_labels = refl
 line_of_the_same_status : refusal_line SameStatus ≡ codes "refused 6 same status\n"
 unfolding digits hex_on_literals
 line_of_the_same_status = refl
+
+line_of_no_user : refusal_line NoUser ≡ codes "refused 1 no user\n"
+unfolding digits hex_on_literals
+line_of_no_user = refl
+
+line_of_nothing_found : refusal_line NotFound ≡ codes "refused 2 not found\n"
+unfolding digits hex_on_literals
+line_of_nothing_found = refl
+
+line_of_a_full_clock : refusal_line (ClockFull (record { bytes = repeat 20 (11 ∷ []) })) ≡ codes "refused 7 clock full " ++ repeat 20 (codes "0b") ++ codes "\n"
+unfolding digits hex_on_literals
+line_of_a_full_clock = refl
+
+line_of_a_repeated_operation : refusal_line (RepeatedOperation (record { bytes = repeat 32 (12 ∷ []) })) ≡ codes "refused 8 repeated operation " ++ repeat 32 (codes "0c") ++ codes "\n"
+unfolding digits hex_on_literals
+line_of_a_repeated_operation = refl
+
+line_of_a_name : refusal_line (NameTaken (record { bytes = repeat 20 (13 ∷ []) })) ≡ codes "refused 10 name taken " ++ repeat 20 (codes "0d") ++ codes "\n"
+unfolding digits hex_on_literals
+line_of_a_name = refl
+
+line_of_a_bad_folder : refusal_line BadFolder ≡ codes "refused 17 bad folder\n"
+unfolding digits hex_on_literals
+line_of_a_bad_folder = refl
