@@ -23,10 +23,10 @@ fn put_two(sides: &mut Sides) -> Result<(Name, Name), Fail> {
 fn a_closure_is_copied_and_then_stands(rt: HostRuntime) -> Result<(), Fail> {
     let mut sides = Sides::new(rt.alloc())?;
     let (low, high) = put_two(&mut sides)?;
-    assert_eq!(rt; sides.copy(&low, false), Ok(3));
-    assert_eq!(rt; sides.copy(&high, true), Ok(3));
-    assert_eq!(rt; sides.copy(&high, true), Ok(0));
-    assert_eq!(rt; sides.copy(&high, false), Ok(0));
+    sides.answers(&low, false, Ok(3))?;
+    sides.answers(&high, true, Ok(3))?;
+    sides.answers(&high, true, Ok(0))?;
+    sides.answers(&high, false, Ok(0))?;
     Ok(())
 }
 
@@ -51,9 +51,9 @@ fn put_bug(sides: &mut Sides) -> Result<Name, Fail> {
 fn a_new_bug_is_copied_as_four_objects(rt: HostRuntime) -> Result<(), Fail> {
     let mut sides = Sides::new(rt.alloc())?;
     let head = put_bug(&mut sides)?;
-    assert_eq!(rt; sides.copy(&ABSENT, true), Err(CopyFault::Missing(ABSENT)));
-    assert_eq!(rt; sides.copy(&head, true), Ok(4));
-    assert_eq!(rt; sides.copy(&head, true), Ok(0));
+    sides.answers(&ABSENT, true, Err(CopyFault::Missing(ABSENT)))?;
+    sides.answers(&head, true, Ok(4))?;
+    sides.answers(&head, true, Ok(0))?;
     Ok(())
 }
 
@@ -61,11 +61,10 @@ fn a_new_bug_is_copied_as_four_objects(rt: HostRuntime) -> Result<(), Fail> {
 fn each_object_is_looked_at_once_on_each_side(rt: HostRuntime) -> Result<(), Fail> {
     let mut sides = Sides::new(rt.alloc())?;
     let (_, high) = put_two(&mut sides)?;
-    let before = sides.disk.store.reads();
-    assert_eq!(rt; sides.copy(&high, true), Ok(6));
-    assert_eq!(rt; sides.disk.store.reads().saturating_sub(before), 12);
-    assert_eq!(rt; sides.copy(&high, true), Ok(0));
-    assert_eq!(rt; sides.disk.store.reads().saturating_sub(before), 13);
+    sides.answers(&high, true, Ok(6))?;
+    sides.has_read(12)?;
+    sides.answers(&high, true, Ok(0))?;
+    sides.has_read(13)?;
     Ok(())
 }
 
@@ -73,26 +72,26 @@ fn each_object_is_looked_at_once_on_each_side(rt: HostRuntime) -> Result<(), Fai
 fn a_commit_that_stands_is_left_where_the_target_is_closed(rt: HostRuntime) -> Result<(), Fail> {
     let mut sides = Sides::new(rt.alloc())?;
     let (low, high) = put_two(&mut sides)?;
-    assert_eq!(rt; sides.copy(&low, true), Ok(3));
+    sides.answers(&low, true, Ok(3))?;
     sides.remove(&low)?;
-    assert_eq!(rt; sides.copy(&low, true), Ok(0));
-    assert_eq!(rt; sides.copy(&low, false), Err(CopyFault::Missing(low)));
-    assert_eq!(rt; sides.copy(&high, true), Ok(3));
-    assert_eq!(rt; sides.copy(&high, false), Err(CopyFault::Missing(low)));
+    sides.answers(&low, true, Ok(0))?;
+    sides.answers(&low, false, Err(CopyFault::Missing(low)))?;
+    sides.answers(&high, true, Ok(3))?;
+    sides.answers(&high, false, Err(CopyFault::Missing(low)))?;
     Ok(())
 }
 
 #[test]
 fn what_the_source_lacks_is_missing(rt: HostRuntime) -> Result<(), Fail> {
     let mut sides = Sides::new(rt.alloc())?;
-    assert_eq!(rt; sides.copy(&ABSENT, true), Err(CopyFault::Missing(ABSENT)));
+    sides.answers(&ABSENT, true, Err(CopyFault::Missing(ABSENT)))?;
     let blob = put_object(&mut sides.disk, Kind::Blob, b"one")?;
     let tree = sides.tree(&[("100644", "ops", blob)])?;
     let head = put_commit(&mut sides.disk, &tree, &[])?;
     sides.remove(&blob)?;
     let text = frame_text(sides.disk.alloc, Kind::Blob, b"one")?;
     sides.put_there(&blob, text.as_slice())?;
-    assert_eq!(rt; sides.copy(&head, true), Err(CopyFault::Missing(blob)));
+    sides.answers(&head, true, Err(CopyFault::Missing(blob)))?;
     Ok(())
 }
 
@@ -115,9 +114,9 @@ fn a_head_without_its_last_byte_is_damaged(rt: HostRuntime) -> Result<(), Fail> 
     let tree = sides.tree(&[])?;
     let head = put_commit(&mut sides.disk, &tree, &[])?;
     cut_commit(&mut sides.disk, &tree, &head)?;
-    assert_eq!(rt; sides.copy(&head, false), Err(CopyFault::Damaged(head)));
+    sides.answers(&head, false, Err(CopyFault::Damaged(head)))?;
     put_commit(&mut sides.disk, &tree, &[])?;
-    assert_eq!(rt; sides.copy(&head, false), Ok(2));
+    sides.answers(&head, false, Ok(2))?;
     Ok(())
 }
 
@@ -127,7 +126,7 @@ fn other_bytes_under_a_name_are_taken(rt: HostRuntime) -> Result<(), Fail> {
         let mut sides = Sides::new(rt.alloc())?;
         let (low, _) = put_two(&mut sides)?;
         sides.put_there(&low, b"x")?;
-        assert_eq!(rt; sides.copy(&low, closed), Err(CopyFault::Taken(low)));
+        sides.answers(&low, closed, Err(CopyFault::Taken(low)))?;
     }
     Ok(())
 }
@@ -147,7 +146,7 @@ fn a_blob_where_a_tree_or_a_commit_is_named_is_of_the_wrong_kind(
         put_commit(&mut sides.disk, &both, &[])?,
     ];
     for head in heads {
-        assert_eq!(rt; sides.copy(&head, true), Err(CopyFault::WrongKind(blob)));
+        sides.answers(&head, true, Err(CopyFault::WrongKind(blob)))?;
     }
     Ok(())
 }
@@ -158,9 +157,9 @@ fn a_store_that_fails_is_told_and_the_copy_goes_on_later(rt: HostRuntime) -> Res
         for after in [true, false] {
             let mut sides = Sides::failing(rt.alloc(), &[(call, after)])?;
             let (_, high) = put_two(&mut sides)?;
-            assert_eq!(rt; sides.copy(&high, true), Err(CopyFault::Disk));
+            sides.answers(&high, true, Err(CopyFault::Disk))?;
             assert!(rt; sides.copy(&high, true).is_ok());
-            assert_eq!(rt; sides.copy(&high, false), Ok(0));
+            sides.answers(&high, false, Ok(0))?;
         }
     }
     Ok(())

@@ -29,9 +29,9 @@ fn put_chain(sides: &mut Sides, count: usize) -> Result<Name, Fail> {
 fn a_tree_lies_at_most_16_trees_deep(rt: HostRuntime) -> Result<(), Fail> {
     let mut sides = Sides::new(rt.alloc())?;
     let deepest = put_deep(&mut sides, 16)?;
-    assert_eq!(rt; sides.copy(&deepest, true), Ok(18));
+    sides.answers(&deepest, true, Ok(18))?;
     let deeper = put_deep(&mut sides, 17)?;
-    assert_eq!(rt; sides.copy(&deeper, true), Err(CopyFault::TooLarge(17)));
+    sides.answers(&deeper, true, Err(CopyFault::TooLarge(17)))?;
     Ok(())
 }
 
@@ -47,8 +47,8 @@ fn a_tree_that_was_copied_is_judged_where_it_lies_deeper(rt: HostRuntime) -> Res
         tree = sides.tree(&[("40000", "in", tree)])?;
     }
     let high = put_commit(&mut sides.disk, &tree, &[low])?;
-    assert_eq!(rt; sides.copy(&low, true), Ok(11));
-    assert_eq!(rt; sides.copy(&high, true), Err(CopyFault::TooLarge(17)));
+    sides.answers(&low, true, Ok(11))?;
+    sides.answers(&high, true, Err(CopyFault::TooLarge(17)))?;
     Ok(())
 }
 
@@ -58,9 +58,9 @@ fn a_copy_follows_at_most_65536_commits(rt: HostRuntime) -> Result<(), Fail> {
     let head = put_chain(&mut sides, 65_536)?;
     let tree = sides.tree(&[])?;
     let next = put_commit(&mut sides.disk, &tree, &[head])?;
-    assert_eq!(rt; sides.copy(&head, false), Ok(65_537));
-    assert_eq!(rt; sides.copy(&next, false), Err(CopyFault::TooLarge(65_537)));
-    assert_eq!(rt; sides.copy(&next, true), Ok(1));
+    sides.answers(&head, false, Ok(65_537))?;
+    sides.answers(&next, false, Err(CopyFault::TooLarge(65_537)))?;
+    sides.answers(&next, true, Ok(1))?;
     Ok(())
 }
 
@@ -71,15 +71,12 @@ fn an_object_has_at_most_4194304_bytes(rt: HostRuntime) -> Result<(), Fail> {
     let blob = put_object(&mut sides.disk, Kind::Blob, &whole)?;
     let tree = sides.tree(&[("100644", "large", blob)])?;
     let head = put_commit(&mut sides.disk, &tree, &[])?;
-    assert_eq!(rt; sides.copy(&head, false), Ok(3));
+    sides.answers(&head, false, Ok(3))?;
     put_under(
         &mut sides.disk,
         &blob,
         &filled(rt.alloc(), b'x', 4_194_305)?,
     )?;
-    assert_eq!(rt;
-        sides.copy(&head, false),
-        Err(CopyFault::TooLarge(4_194_305))
-    );
+    sides.answers(&head, false, Err(CopyFault::TooLarge(4_194_305)))?;
     Ok(())
 }

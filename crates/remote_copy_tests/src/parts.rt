@@ -24,11 +24,11 @@ fn a_commit_that_stands_without_its_parent_is_followed_where_the_target_is_not_c
 ) -> Result<(), Fail> {
     let mut sides = Sides::new(rt.alloc())?;
     let (low, high) = put_high_alone(&mut sides)?;
-    assert_eq!(rt; sides.copy(&high, true), Ok(0));
-    assert_eq!(rt; sides.disk.store.reads(), 1);
-    assert_eq!(rt; sides.copy(&high, false), Ok(2));
-    assert_eq!(rt; sides.copy(&low, false), Ok(0));
-    assert_eq!(rt; sides.copy(&high, false), Ok(0));
+    sides.answers(&high, true, Ok(0))?;
+    sides.has_read(1)?;
+    sides.answers(&high, false, Ok(2))?;
+    sides.answers(&low, false, Ok(0))?;
+    sides.answers(&high, false, Ok(0))?;
     Ok(())
 }
 
@@ -40,9 +40,9 @@ fn what_a_module_names_is_neither_read_nor_copied(rt: HostRuntime) -> Result<(),
         let other = put_commit(&mut sides.disk, &empty, &[])?;
         let tree = sides.tree(&[("160000", name, other)])?;
         let head = put_commit(&mut sides.disk, &tree, &[])?;
-        assert_eq!(rt; sides.copy(&head, false), Ok(2));
-        assert_eq!(rt; sides.disk.store.reads(), 4);
-        assert_eq!(rt; sides.copy(&other, false), Ok(2));
+        sides.answers(&head, false, Ok(2))?;
+        sides.has_read(4)?;
+        sides.answers(&other, false, Ok(2))?;
     }
     Ok(())
 }
@@ -57,7 +57,7 @@ fn a_commit_where_a_tree_or_a_blob_is_named_is_of_the_wrong_kind(
         let low = put_commit(&mut sides.disk, &empty, &[])?;
         let tree = sides.tree(&[(mode, "in", low)])?;
         let head = put_commit(&mut sides.disk, &tree, &[low])?;
-        assert_eq!(rt; sides.copy(&head, true), Err(CopyFault::WrongKind(low)));
+        sides.answers(&head, true, Err(CopyFault::WrongKind(low)))?;
     }
     Ok(())
 }
@@ -68,7 +68,7 @@ fn nothing_stands_in_a_source_that_is_a_file(rt: HostRuntime) -> Result<(), Fail
     sides.disk.put("a", b"a file")?;
     let head = Name { bytes: [7; 20] };
     for closed in [true, false] {
-        assert_eq!(rt; sides.copy(&head, closed), Err(CopyFault::Missing(head)));
+        sides.answers(&head, closed, Err(CopyFault::Missing(head)))?;
     }
     Ok(())
 }
@@ -82,9 +82,9 @@ fn a_copy_that_was_cut_puts_what_lacks_later(rt: HostRuntime) -> Result<(), Fail
         let low = put_commit(&mut sides.disk, &tree, &[])?;
         let high = put_commit(&mut sides.disk, &tree, &[low])?;
         let top = put_commit(&mut sides.disk, &tree, &[high, low])?;
-        assert_eq!(rt; sides.copy(&top, true), Err(CopyFault::Disk));
-        assert_eq!(rt; sides.copy(&top, true), Ok(lacks));
-        assert_eq!(rt; sides.copy(&top, false), Ok(0));
+        sides.answers(&top, true, Err(CopyFault::Disk))?;
+        sides.answers(&top, true, Ok(lacks))?;
+        sides.answers(&top, false, Ok(0))?;
     }
     Ok(())
 }

@@ -44,6 +44,29 @@ impl Sides {
         )
     }
 
+    /// Sees that a copy of a head answers so.
+    pub fn answers(
+        &mut self,
+        head: &Name,
+        closed: bool,
+        wanted: Result<u64, CopyFault>,
+    ) -> Result<(), Fail> {
+        let answer = self.copy(head, closed);
+        if answer == wanted {
+            return Ok(());
+        }
+        Err(Fail::new(format_args!("a copy answered {answer:?}, not {wanted:?}")))
+    }
+
+    /// Sees that so many objects were read.
+    pub fn has_read(&self, wanted: u64) -> Result<(), Fail> {
+        let reads = self.disk.store.reads();
+        if reads == wanted {
+            return Ok(());
+        }
+        Err(Fail::new(format_args!("there were {reads} reads, not {wanted}")))
+    }
+
     /// Puts any text under a name in the target.
     pub fn put_there(&mut self, name: &Name, text: &[u8]) -> Result<(), Fail> {
         let path = path_of(self.disk.alloc, &self.target, name)?;

@@ -36,9 +36,9 @@ fn a_blob_with_135000_names_is_put_once(rt: HostRuntime) -> Result<(), Fail> {
     let blob = put_object(&mut sides.disk, Kind::Blob, b"one")?;
     let tree = put_wide(&mut sides, 135_000, &blob)?;
     let head = put_commit(&mut sides.disk, &tree, &[])?;
-    assert_eq!(rt; sides.copy(&head, true), Ok(3));
-    assert_eq!(rt; sides.disk.store.reads(), 6);
-    assert_eq!(rt; sides.copy(&head, false), Ok(0));
+    sides.answers(&head, true, Ok(3))?;
+    sides.has_read(6)?;
+    sides.answers(&head, false, Ok(0))?;
     Ok(())
 }
 
@@ -56,8 +56,8 @@ fn a_blob_that_several_trees_name_is_put_once(rt: HostRuntime) -> Result<(), Fai
     ])?;
     let low = put_commit(&mut sides.disk, &wide, &[])?;
     let high = put_commit(&mut sides.disk, &tree, &[low])?;
-    assert_eq!(rt; sides.copy(&high, true), Ok(6));
-    assert_eq!(rt; sides.disk.store.reads(), 12);
+    sides.answers(&high, true, Ok(6))?;
+    sides.has_read(12)?;
     Ok(())
 }
 
@@ -68,9 +68,6 @@ fn a_tree_of_150000_entries_is_too_large(rt: HostRuntime) -> Result<(), Fail> {
     let blob = put_object(&mut sides.disk, Kind::Blob, b"one")?;
     let tree = put_wide(&mut sides, 150_000, &blob)?;
     let head = put_commit(&mut sides.disk, &tree, &[])?;
-    assert_eq!(rt;
-        sides.copy(&head, true),
-        Err(CopyFault::TooLarge(4_194_305))
-    );
+    sides.answers(&head, true, Err(CopyFault::TooLarge(4_194_305)))?;
     Ok(())
 }
