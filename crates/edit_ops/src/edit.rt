@@ -34,7 +34,7 @@ pub fn bad_edit(edit: &BugEdit) -> Option<u64>
     }
 }
 
-/// The operation that an edit adds to a bug with these operations. `SameStatus` and `NoLabelChange`
+/// The operation that an edit adds to a bug with these operations, which are those of a bug. `SameStatus` and `NoLabelChange`
 /// exactly where what the bug says would not change by a status or by labels.
 pub fn edit_op(alloc: Global, env: &Env, edit: &BugEdit, ops: &[BugOp]) -> Result<BugOp, Stop>
     requires moment { env.now.now ≤ LIMIT }
