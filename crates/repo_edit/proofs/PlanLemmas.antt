@@ -1,8 +1,7 @@
 -- What is read on the way to a plan decides the checks of a command.
-use Rattle.std.proofs.Common.{◌≡◌, ◌≤◌, ◌^◌, ◌-◌, ℕ, Bool, true, false, IsTrue, cond, IsUtf8, List, [], ◌∷◌, ◌++◌, All, reverse, Vec, Option, Some, None, Result, Ok, Err, inl, inr, refl, sym, ◌∙◌, ap, subst, arith}
+use Rattle.std.proofs.Common.{◌≡◌, ◌≤◌, ◌^◌, ◌-◌, ℕ, Bool, true, false, IsTrue, IsUtf8, List, [], ◌∷◌, ◌++◌, All, reverse, Vec, Option, Some, None, Result, Ok, Err, inl, inr, refl, sym, ◌∙◌, ap, subst}
 use Rattle.std.specs.Option.{option_map}
 use Rattle.std.specs.declared.alloc.Global.{Global}
-use Rattle.sha2.proofs.Facts256.{length-sha256}
 use Rattle.gb_text.specs.Rules.{is_line_text, is_title_text}
 use Rattle.gb_text.specs.declared.id.Id.{Id}
 use Rattle.gb_text.specs.declared.id.Name.{Name}
@@ -15,7 +14,6 @@ use Rattle.object_batch.specs.Batches.{CannotHave, HasLong, MayBePut, missing_wr
 use Rattle.object_store.specs.Texts.{IsShort}
 use Rattle.ref_store.specs.Setting.{ref_write}
 use Rattle.object_store.specs.Held.{objects_in}
-use Rattle.op_kind.specs.Nonces.{IsNonce}
 use Rattle.identity.specs.Persons.{IsChain}
 use Rattle.identity.specs.Making.{PlanAnswers, version_plan}
 use Rattle.identity.specs.Version.{version_text_of}
@@ -30,7 +28,6 @@ use Rattle.repo_state.specs.declared.refusal.Stop.{Stop}
 use Rattle.repo_state.specs.declared.refusal.Stop.TheVariants as stop
 use Rattle.repo_state.specs.declared.side.HeadEntry.{HeadEntry}
 use Rattle.repo_state.specs.declared.side.Side.TheVariants as side
-use Rattle.identity.proofs.IdLemmas.{sha256-bytes}
 use Rattle.repo_steps.specs.Answers.{DoingAnswers, Plans}
 use Rattle.repo_steps.specs.Doing.{Doing, nonce_from}
 use Rattle.repo_steps.specs.PeopleDoings.{HasUser, MayWrite, bad_person, edited_user, first_user_write, new_made, new_objects, new_text, new_user, user_writes, version_writes}

@@ -1,8 +1,10 @@
 //! The call of each command that edits.
-ghost use Rattle.std.specs.Prelude.{◌≡◌, ◌≤◌, IsTrue, IsErrOf};
+ghost use Rattle.std.specs.Prelude.{◌≡◌, ◌≤◌, IsTrue, IsErrOf, IsOk};
 ghost use Rattle.gb_store.specs.Faults.{KeepsFaults};
+ghost use Rattle.gb_store.specs.Files.{files_of};
 ghost use Rattle.repo_steps.specs.Answers.{KeepsToWords};
 ghost use Rattle.repo_steps.specs.Doings.{EditAnswers, bad_word_of};
+ghost use Rattle.repo_edit.specs.Reads.{ReadsFor};
 
 use crate::bugs::{edit_bug, new_bug};
 use crate::people::{user_edit, user_new, user_set};
@@ -18,6 +20,9 @@ pub fn edit<S: Store>(alloc: Global, disk: &mut S, env: &Env, command: &Edit) ->
     ensures answers { IsTrue S.tells
         → EditAnswers env.entry.now command.now (S.history disk.old) (S.history disk.new) result }
     ensures words { KeepsToWords (bad_word_of command.now) result }
+    ensures reads { IsTrue S.tells
+        → ReadsFor (files_of (S.history disk.old)) env.entry.now.folder command.now (IsOk result)
+        (S.object_reads disk.old) (S.object_reads disk.new) }
     ensures caused { KeepsFaults S.never_fails S.faults (IsErrOf result Stop.Disk)
         disk.old disk.new }
 {

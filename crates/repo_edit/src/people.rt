@@ -1,8 +1,10 @@
 //! Edits of the people of a folder, and of who its user is.
-ghost use Rattle.std.specs.Prelude.{◌≡◌, ◌≤◌, None, IsTrue, IsErrOf};
+ghost use Rattle.std.specs.Prelude.{◌≡◌, ◌≤◌, ◌+◌, None, IsTrue, IsErrOf, IsOk};
 ghost use Rattle.gb_store.specs.Faults.{KeepsFaults};
+ghost use Rattle.gb_store.specs.Files.{files_of};
 ghost use Rattle.repo_steps.specs.Answers.{DoingAnswers, KeepsToWords, Plans};
 ghost use Rattle.repo_steps.specs.PeopleDoings.{bad_person, edited_user, new_user, set_user};
+ghost use Rattle.repo_edit.specs.Reads.{ReadsVersions};
 
 use crate::carry::carry_out;
 use crate::room::check_room;
@@ -32,6 +34,7 @@ pub fn user_new<S: Store>(
         → DoingAnswers (new_user env.entry.now name.now email.now (S.history disk.old))
         (S.history disk.old) (S.history disk.new) result }
     ensures words { KeepsToWords (bad_person name.now email.now) result }
+    ensures reads { S.object_reads disk.new ≤ S.object_reads disk.old + 3 }
     ensures caused { KeepsFaults S.never_fails S.faults (IsErrOf result Stop.Disk)
         disk.old disk.new }
 {
@@ -52,6 +55,7 @@ fn plan_new_user<S: Store>(
         → Plans (new_user env.entry.now name.now email.now (S.history disk.old)) result }
     ensures words { KeepsToWords (bad_person name.now email.now) result }
     ensures unwritten { IsTrue S.tells → S.history disk.new ≡ S.history disk.old }
+    ensures reads { S.object_reads disk.new ≤ S.object_reads disk.old + 3 }
     ensures caused { KeepsFaults S.never_fails S.faults (IsErrOf result Stop.Disk)
         disk.old disk.new }
 {
@@ -89,6 +93,9 @@ pub fn user_edit<S: Store>(
         → DoingAnswers (edited_user env.entry.now name.now email.now (S.history disk.old))
         (S.history disk.old) (S.history disk.new) result }
     ensures words { KeepsToWords (bad_person name.now email.now) result }
+    ensures reads { IsTrue S.tells
+        → ReadsVersions (files_of (S.history disk.old)) env.entry.now.folder (IsOk result)
+        (S.object_reads disk.old) (S.object_reads disk.new) }
     ensures caused { KeepsFaults S.never_fails S.faults (IsErrOf result Stop.Disk)
         disk.old disk.new }
 {
@@ -109,6 +116,9 @@ fn plan_edited_user<S: Store>(
         → Plans (edited_user env.entry.now name.now email.now (S.history disk.old)) result }
     ensures words { KeepsToWords (bad_person name.now email.now) result }
     ensures unwritten { IsTrue S.tells → S.history disk.new ≡ S.history disk.old }
+    ensures reads { IsTrue S.tells
+        → ReadsVersions (files_of (S.history disk.old)) env.entry.now.folder (IsOk result)
+        (S.object_reads disk.old) (S.object_reads disk.new) }
     ensures caused { KeepsFaults S.never_fails S.faults (IsErrOf result Stop.Disk)
         disk.old disk.new }
 {
@@ -135,6 +145,7 @@ pub fn user_set<S: Store>(alloc: Global, disk: &mut S, env: &Env, word: &str) ->
         → DoingAnswers (set_user env.entry.now word.now (S.history disk.old))
         (S.history disk.old) (S.history disk.new) result }
     ensures words { KeepsToWords None result }
+    ensures reads { S.object_reads disk.new ≡ S.object_reads disk.old }
     ensures caused { KeepsFaults S.never_fails S.faults (IsErrOf result Stop.Disk)
         disk.old disk.new }
 {
@@ -148,6 +159,7 @@ fn plan_set_user<S: Store>(alloc: Global, disk: &mut S, env: &Env, word: &str) -
         → Plans (set_user env.entry.now word.now (S.history disk.old)) result }
     ensures words { KeepsToWords None result }
     ensures unwritten { IsTrue S.tells → S.history disk.new ≡ S.history disk.old }
+    ensures reads { S.object_reads disk.new ≡ S.object_reads disk.old }
     ensures caused { KeepsFaults S.never_fails S.faults (IsErrOf result Stop.Disk)
         disk.old disk.new }
 {

@@ -1,8 +1,9 @@
 //! Whether a chain has room for one version more.
-ghost use Rattle.std.specs.Prelude.{◌≡◌, None, IsTrue, IsErrOf};
+ghost use Rattle.std.specs.Prelude.{◌≡◌, ◌≤◌, ◌+◌, ◌*◌, None, IsTrue, IsErrOf, OnOk};
 ghost use Rattle.gb_store.specs.Faults.{KeepsFaults};
 ghost use Rattle.gb_store.specs.Files.{files_of};
 ghost use Rattle.repo_steps.specs.Answers.{KeepsToWords};
+ghost use Rattle.repo_edit.specs.Reads.{ReadsRoom};
 ghost use Rattle.repo_edit.specs.Room.{ChainStops, HasRoom};
 
 use commit_chain::MOST_COMMITS;
@@ -25,6 +26,10 @@ pub fn check_room<S: Store>(
         → HasRoom (files_of (S.history disk.old)) folder.now entry.now result }
     ensures words { KeepsToWords None result }
     ensures unwritten { IsTrue S.tells → S.history disk.new ≡ S.history disk.old }
+    ensures reads { S.object_reads disk.new ≤ S.object_reads disk.old + 3 * MOST_COMMITS }
+    ensures once { IsTrue S.tells → OnOk result
+        (ReadsRoom (files_of (S.history disk.old)) folder.now entry.now
+        (S.object_reads disk.old) (S.object_reads disk.new)) }
     ensures caused { KeepsFaults S.never_fails S.faults (IsErrOf result Stop.Disk)
         disk.old disk.new }
 {

@@ -1,5 +1,5 @@
 //! The version that a command makes, and the writes that add it to an identity.
-ghost use Rattle.std.specs.Prelude.{◌≡◌, ◌++◌, None, IsTrue, IfOk, IsErrOf};
+ghost use Rattle.std.specs.Prelude.{◌≡◌, ◌≤◌, ◌+◌, ◌++◌, length, None, IsTrue, IfOk, IsErrOf};
 ghost use Rattle.gb_store.specs.Faults.{KeepsFaults};
 ghost use Rattle.repo_state.specs.Users.{user_write};
 ghost use Rattle.repo_steps.specs.Answers.{KeepsToWords};
@@ -40,6 +40,8 @@ pub fn version_writes<S: Store>(
         → AddsVersion folder.now id.now version.now (S.history disk.old) result }
     ensures words { KeepsToWords None result }
     ensures unwritten { IsTrue S.tells → S.history disk.new ≡ S.history disk.old }
+    ensures reads { S.object_reads disk.new
+        ≤ S.object_reads disk.old + length version.now.objects }
     ensures caused { KeepsFaults S.never_fails S.faults (IsErrOf result Stop.Disk)
         disk.old disk.new }
 {

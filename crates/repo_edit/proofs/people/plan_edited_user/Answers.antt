@@ -1,5 +1,6 @@
-use Rattle.std.proofs.Common.{◌≡◌, ◌∙◌, ℕ, List, Option, Some, Ok, Result, Err, sym, subst, rules}
-use Rattle.gb_store.specs.Files.{Files, files_of}
+use Rattle.std.proofs.Common.{◌≡◌, ◌∙◌, ℕ, List, length, Option, Some, Ok, Result, Err, ap, sym, subst, rules, arith}
+use Rattle.gb_store.specs.Files.{Files, History, files_of}
+use Rattle.identity.specs.declared.making.VersionPlan.{VersionPlan}
 use Rattle.repo_state.specs.Answers.{FindsUser}
 use Rattle.repo_state.specs.Stops.{stop_of_put}
 use Rattle.repo_state.specs.declared.refusal.Stop.{Stop}
@@ -7,6 +8,8 @@ use Rattle.repo_state.specs.declared.side.HeadEntry.{HeadEntry}
 use Rattle.repo_steps.specs.Answers.{Plans}
 use Rattle.repo_steps.specs.PeopleDoings.{edited_user}
 use Rattle.repo_steps.specs.declared.edit.Plan.{Plan}
+use Rattle.repo_edit.specs.Reads.{ReadsRoom}
+use Rattle.repo_state.proofs.EntryLemmas.{entry_is}
 use Rattle.repo_edit.proofs.PlanLemmas.{edit_damaged, edit_full, edit_nobody, edit_planned, edit_refused, edit_taken, good_words, plan_at}
 use Rattle.repo_edit.proofs.people.plan_edited_user.Goals as goal
 
@@ -78,3 +81,23 @@ returns-clause-answers g c = λ tells.
     (plan_at c.args.env.now c.args.name.now c.args.email.now c.nonce_from-nonce.result (Some c.in-Some-2.user.name) (Ok c.in_ok-version.version) c.nonce_from-nonce.ensures c.in_ok-version.ensures)
     (g.S.Store.history c.check_room.new.disk) (c.check_room.ensures.unwritten tells ∙ c.user_head.ensures.unwritten tells) c.in_ok-writes.writes c.from_vec.result
     (c.in_ok-writes.ensures.answers tells) c.from_vec.ensures
+
+pub returns-clause-reads : goal.returns-clause-reads
+returns-clause-reads g c = λ tells.
+    let files = files_of (g.S.Store.history c.args.disk.now) in
+    let folder = c.args.env.now.folder in
+    let user = c.in-Some-2.user in
+    let found = found_user folder files user c.in_ok-user.field-0 c.in-Some-2.is (c.in_ok-user.ensures.answers tells) in
+    let room : ReadsRoom files folder user (g.S.Store.object_reads c.user_head.new.disk) (g.S.Store.object_reads c.check_room.new.disk) =
+    subst (λ (h : History). ReadsRoom (files_of h) folder user (g.S.Store.object_reads c.user_head.new.disk) (g.S.Store.object_reads c.check_room.new.disk))
+    (c.user_head.ensures.unwritten tells) (c.in_ok-check_room.ensures.once tells) in
+    let three : length c.in_ok-version.version.objects ≡ 3 = ap (λ (v : VersionPlan). length v.objects) c.in_ok-version.ensures.0 in
+    record {
+      most = omega (arith, room.room, room.few, three, c.user_head.ensures.reads, c.version_writes.ensures.reads);
+      made = λ is. record {
+        user = user;
+        is_user = entry_is files folder user.id user.name found.0 found.1;
+        chain = room.chain;
+        few = omega (arith, room.few, three, c.user_head.ensures.reads, c.version_writes.ensures.reads);
+      };
+    }
