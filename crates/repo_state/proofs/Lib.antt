@@ -2,6 +2,7 @@ pub mod BugLemmas
 pub mod BugListLemmas
 pub mod BugSoundLemmas
 pub mod ClockFileLemmas
+pub mod EmptyLemmas
 pub mod EntryLemmas
 pub mod FoundLemmas
 pub mod HeadIdLemmas

@@ -1,10 +1,11 @@
 //! Laws of a folder's state, each the contract of a function that does nothing.
-ghost use Rattle.std.specs.Prelude.{◌≡◌, ◌≢◌, ◌↔◌, ◌≤◌, [], List, ℕ, IsTrue, Some, codes, map};
+ghost use Rattle.std.specs.Prelude.{◌≡◌, ◌≢◌, ◌↔◌, ◌≤◌, [], List, ℕ, IsTrue, Some, None, codes, map};
 ghost use Rattle.std.specs.List.{repeat};
 ghost use Rattle.gb_text.specs.Digits.{IsId, IsName};
+ghost use Rattle.gb_text.specs.Folder.{joined};
 ghost use Rattle.gb_text.specs.declared.id.Id.{Id};
 ghost use Rattle.gb_text.specs.declared.id.Name.{Name};
-ghost use Rattle.gb_store.specs.Files.{Files, files_of, written};
+ghost use Rattle.gb_store.specs.Files.{Files, written};
 ghost use Rattle.git_object.specs.declared.frame.Kind.TheVariants as kinds;
 ghost use Rattle.object_store.specs.Held.{objects_in};
 ghost use Rattle.object_batch.specs.Needs.{IsHeldAs, LeadsTo, Reference};
@@ -20,9 +21,10 @@ ghost use Rattle.repo_state.specs.declared.side.HeadEntry.{HeadEntry};
 ghost use Rattle.repo_state.specs.declared.side.Side.{Side as SideValue};
 ghost use Rattle.repo_state.specs.declared.side.Side.TheVariants as side;
 
-/// An empty folder is sound.
+/// A folder below which no file stands is sound, whatever stands elsewhere.
 pub fn an_empty_folder_is_sound()
-    ensures { (folder : List ℕ) → IsSound folder (files_of []) }
+    ensures { (folder : List ℕ) (files : Files)
+        → ((place : List ℕ) → files (joined folder place) ≡ None) → IsSound folder files }
 {}
 
 /// In a sound folder the head of each ref, also of one of a remote with such a name as remotes have, is
