@@ -32,7 +32,7 @@ use Rattle.repo_steps.specs.Checks.{AllPass, AreClear, Check, FirstFails, IsClea
 use Rattle.repo_steps.specs.BugDoings.{HasBug, addition_objects, bad_bug, begun_bug, bug_check, bug_reads, bug_says, clock_room, commit_room, edit_adds, later_by, longer_bug, new_bug, new_operation, op_ids, root_addition, some_id}
 use Rattle.repo_steps.specs.BugEdits.{bad_edit, edit_op}
 use Rattle.repo_steps.specs.Doing.{found, fresh, names, sizes, some_user, user_file, words}
-use Rattle.repo_steps.specs.Doings.{MayStep, Refused}
+use Rattle.repo_steps.specs.Doings.{MayStep, Refused, doing_of}
 use Rattle.repo_steps.specs.NewOps.{MayWriteOp, create_op, op_id}
 use Rattle.repo_steps.specs.PeopleDoings.{HasBadChain, HasUser, MayWrite, bad_person, edited_user, new_made, new_objects, new_user, set_user, user_chain, user_room}
 use Rattle.repo_state.proofs.BugLemmas.{bug_not_damaged, one_bug, one_entity}
@@ -55,6 +55,11 @@ one_number (check ∷ checks) r s clear (inl one) (inl two) = clear.0.one r s on
 one_number (check ∷ checks) r s clear (inl one) (inr two) = absurd (clear.0.apart r one two.0)
 one_number (check ∷ checks) r s clear (inr one) (inl two) = absurd (clear.0.apart s two one.0)
 one_number (check ∷ checks) r s clear (inr one) (inr two) = one_number checks r s clear.1 one.1 two.1
+
+-- clear checks behind clear ones
+clear_over : (checks rest : List Check) → AreClear checks → AreClear rest → AreClear (checks ++ rest)
+clear_over [] rest clear then = then
+clear_over (check ∷ checks) rest clear then = (clear.0, clear_over checks rest clear.1 then)
 
 -- the same of two lists of checks that begin with the same clear ones, where it is so of their rests
 never_over : (checks ones twos : List Check) → AreClear checks → ((r : Refusal) → FirstFails ones r → AllPass twos → ⊥)
@@ -220,6 +225,13 @@ module _ (env : Env) (files : Files) (word : List ℕ) (e : BugEdit) where
       let both : left op ≡ right r = sym first ∙ says_one one two ∙ second in
       cc both
 
+  -- so with one operation the check is clear
+  edit_adds_clear : (op : BugOp) → IsClear (edit_adds env files word e op)
+  edit_adds_clear op = record {
+    apart = λ r fails passes. never_adds op r passes.0 fails.0 passes.1 fails.1;
+    one = λ r s one two. ap number_of (refuses_one r s one.0 two.0 one.1 two.1);
+  }
+
 -- ---- an edit of a bug that stands
 
 module _ (env : Env) (word : List ℕ) (e : BugEdit) (old : History) where
@@ -255,6 +267,10 @@ module _ (env : Env) (word : List ℕ) (e : BugEdit) (old : History) where
   then_clear op =
       let objects = addition_objects env.now (option_and_then (later_by env.folder before word op) (some_id (user_at before env.folder))) in
       (clock_room_clear env.folder before word, (commit_room_clear env.folder before word, (sizes_clear objects, (new_operation_clear env.folder before word op, (names_clear env.folder objects old, tt)))))
+
+  -- with one operation all of them are clear
+  longer_clear : (op : BugOp) → AreClear (longer_bug env e word op old).checks
+  longer_clear op = clear_over first_checks (edit_adds env before word e op ∷ then_checks op) first_clear (edit_adds_clear env before word e op, then_clear op)
 
   rest_never : (op other : BugOp) (r : Refusal) → FirstFails (edit_adds env before word e op ∷ then_checks op) r → AllPass (edit_adds env before word e other ∷ then_checks other) → ⊥
   rest_never op other r (inl fails) passes = never_adds env before word e other r passes.0.0 fails.0 passes.0.1 fails.1
@@ -310,6 +326,14 @@ user_edit_clear env name email old =
 
 user_set_clear : (env : Env) (word : List ℕ) (old : History) → AreClear (set_user env word old).checks
 user_set_clear env word old = (found_clear env.folder (files_of old) side.Identities word, tt)
+
+-- the checks of each command are clear, whatever the operation
+pub checks_clear : (env : Env) (command : Edit) (op : BugOp) (old : History) → AreClear (doing_of env command op old).checks
+checks_clear env (edit.UserNew name email) op old = user_new_clear env name email old
+checks_clear env (edit.UserEdit name email) op old = user_edit_clear env name email old
+checks_clear env (edit.UserSet word) op old = user_set_clear env word old
+checks_clear env (edit.New title message) op old = begun_clear env (bad_bug title message) (create_op env title message) old
+checks_clear env (edit.OfBug word e) op old = longer_clear env word e old op
 
 -- no command both may be done and is refused
 pub never_refused : (env : Env) (command : Edit) (old : History) (r : Refusal) → MayStep env command old → Refused env command old r → ⊥

@@ -11,6 +11,7 @@ pub mod KeptLemmas
 pub mod LossLemmas
 pub mod OnlyLemmas
 pub mod PlaceLemmas
+pub mod RankLemmas
 pub mod SayLemmas
 pub mod SoundBugLemmas
 pub mod SoundLemmas

@@ -10,5 +10,6 @@ pub mod Kept
 pub mod Kinds
 pub mod NewOps
 pub mod PeopleDoings
+pub mod Ranks
 pub mod Steps
 pub mod WordRules

@@ -44,8 +44,10 @@ ghost use Rattle.repo_state.specs.declared.refusal.Refusal.TheVariants as refusa
 ghost use Rattle.repo_state.specs.declared.refusal.Stop.{Stop as StopValue};
 ghost use Rattle.repo_state.specs.declared.side.Side.{Side as SideValue};
 ghost use Rattle.repo_state.specs.declared.side.Side.TheVariants as side;
+ghost use Rattle.repo_steps.specs.Checks.{FirstFails};
+ghost use Rattle.repo_steps.specs.Ranks.{SomeFails, rank_of};
 ghost use Rattle.repo_steps.specs.Doing.{nonce_from};
-ghost use Rattle.repo_steps.specs.Doings.{Done, EditAnswers, MayStep, Refused, bad_word_of};
+ghost use Rattle.repo_steps.specs.Doings.{Done, EditAnswers, MayStep, Refused, bad_word_of, doing_of};
 ghost use Rattle.repo_steps.specs.WordRules.{IsFirstBad, IsOfTheMoment, all_keep, words_keep};
 ghost use Rattle.repo_steps.specs.Kept.{LosesNothing};
 ghost use Rattle.repo_steps.specs.Kinds.{IsPlace, IsWrite, is_dotless};
@@ -286,6 +288,17 @@ pub fn refusals_are_determined()
         (first second : RefusalValue)
         → Refused env command old first → Refused env command old second
         → number_of first ≡ number_of second }
+{}
+
+/// Of the causes that hold, one that comes first in the order of refusals is told: words, the user,
+/// what a word finds, what would not change, clocks, sizes, what stands already, names of objects.
+/// Damage is told where a file is read, and has no place in it.
+pub fn refusals_are_told_in_order()
+    ensures { (env : EnvValue) (command : EditValue) (op : OpValue) (old : History)
+        (told other : RefusalValue) (first later : ℕ)
+        → FirstFails (doing_of env command op old).checks told
+        → SomeFails (doing_of env command op old).checks other
+        → rank_of told ≡ Some first → rank_of other ≡ Some later → first ≤ later }
 {}
 
 /// In a sound folder no command is refused for damage. So there it is done wherever no other reason to
