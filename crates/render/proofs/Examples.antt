@@ -8,7 +8,7 @@ use Rattle.json.proofs.OnLiterals.{json_on_literals}
 use Rattle.gb_text.specs.declared.id.Id.{Id}
 use Rattle.gb_text.specs.declared.id.Name.{Name}
 use Rattle.bug_ops.specs.declared.op.BugOp.{BugOp}
-use Rattle.bug_ops.specs.declared.op.BugStatus.TheVariants.{Closed}
+use Rattle.bug_ops.specs.declared.op.BugStatus.TheVariants.{Closed, Opened}
 use Rattle.bug_ops.specs.declared.snapshot.Snapshot.{Snapshot}
 use Rattle.combined_id.specs.Combined.{combined_from}
 use Rattle.dag_entity.specs.declared.entity.Placed.{Placed}
@@ -40,6 +40,11 @@ no_user : users_text_of (bo ∷ []) None ≡ repeat 32 (codes "b0") ++ codes "\t
 unfolding hex_on_literals
 no_user = refl
 
+-- with an email or without
+user_with_email : users_text_of (ana ∷ []) (Some (id_of 160)) ≡ repeat 32 (codes "a0") ++ codes "\tAna\tana@x\t*\n"
+unfolding hex_on_literals
+user_with_email = refl
+
 -- a commit with an empty pack at this clock
 abbrev placed_at : ℕ → ℕ → Placed BugOp
 placed_at byte edit = record {
@@ -50,6 +55,17 @@ placed_at byte edit = record {
 log : log_text_of (placed_at 238 2 ∷ placed_at 15 10 ∷ []) ≡ codes "2 " ++ repeat 20 (codes "ee") ++ codes "\n10 " ++ repeat 20 (codes "0f") ++ codes "\n"
 unfolding digits hex_on_literals
 log = refl
+
+-- the edit clock is told, also of a pack that has a create clock
+abbrev root_at : ℕ → ℕ → ℕ → Placed BugOp
+root_at byte create edit = record {
+  commit = name_of byte;
+  pack = record { id = id_of byte; version = 4; edit = edit; create = Some create; author = id_of 0; ops = [] };
+}
+
+log_of_a_root : log_text_of (root_at 238 7 3 ∷ []) ≡ codes "3 " ++ repeat 20 (codes "ee") ++ codes "\n"
+unfolding digits hex_on_literals
+log_of_a_root = refl
 
 -- a closed bug with a label of two words, an actor whom nobody knows, metadata with a quote and a line feed, and a comment of two lines with an empty one between
 abbrev bug : Snapshot
@@ -78,3 +94,35 @@ shown : show_text_of bug (ana ∷ bo ∷ []) ≡
     ++ codes "comment abababaaab" ++ repeat 10 (codes "aaaab") ++ codes "aaaa Bo 7\n    one\n    \n    two\n"
 unfolding digits hex_on_literals json_on_literals combined_from
 shown = refl
+
+-- an open bug without labels and metadata, and two comments, the second of which is empty
+abbrev open_bug : Snapshot
+open_bug = record {
+  row = record {
+    id = id_of 170;
+    title = codes "t";
+    status = Opened;
+    labels = [];
+    author = id_of 176;
+    actors = id_of 176 ∷ [];
+    participants = [];
+    create = 1;
+    edit = 1;
+    first = 2;
+    last = 2;
+    comments = 2;
+    metadata = [];
+  };
+  list =
+    record { id = id_of 187; author = id_of 176; time = 2; message = codes "m" }
+    ∷ record { id = id_of 204; author = id_of 160; time = 3; message = [] }
+    ∷ [];
+}
+
+shown_open : show_text_of open_bug (ana ∷ bo ∷ []) ≡
+    codes "bug " ++ repeat 32 (codes "aa")
+    ++ codes "\ntitle t\nstatus open\nauthor Bo\ncreated 1 2\nedited 1 2\nactor Bo\n"
+    ++ codes "comment abababaaab" ++ repeat 10 (codes "aaaab") ++ codes "aaaa Bo 2\n    m\n"
+    ++ codes "comment acacacaaac" ++ repeat 10 (codes "aaaac") ++ codes "aaaa Ana 3\n    \n"
+unfolding digits hex_on_literals json_on_literals combined_from
+shown_open = refl
