@@ -1,12 +1,15 @@
 -- What a command answers is determined by the files, the words, the moment and the seed.
-use Rattle.std.proofs.Common.{◌≡◌, Ok, Err, sym, ◌∙◌}
-use Rattle.gb_store.specs.Files.{History, files_of}
+use Rattle.std.proofs.Common.{◌≡◌, Ok, Err, sym, ◌∙◌, subst}
+use Rattle.gb_store.specs.Files.{Files, History, files_of}
 use Rattle.repo_state.specs.declared.env.Env.{Env}
 use Rattle.repo_state.specs.declared.refusal.Refusal.{Refusal}
 use Rattle.repo_state.specs.declared.refusal.Stop.TheVariants as stop
 use Rattle.repo_steps.proofs.ClearLemmas.{never_refused}
 use Rattle.repo_steps.proofs.DoneLemmas.{done_steps}
 use Rattle.repo_steps.proofs.StepLemmas.{steps-same}
+use Rattle.repo_steps.specs.Steps.{Steps}
+use Rattle.repo_view.specs.Log.{LogAnswers}
+use Rattle.repo_view.specs.Shown.{ShowAnswers, UsersAnswers}
 use Rattle.repo_view.proofs.LawLemmas.{no_refusal, one_log}
 use Rattle.repo_view.proofs.ShownLemmas.{one_show, one_users, show_not_refused, users_not_refused}
 use Rattle.bug_run.specs.Run.{CommandAnswers}
@@ -19,16 +22,20 @@ same_said : (first second : Said) → first.text ≡ second.text → first.refus
 same_said first second text here there = let counts : first.refused ≡ second.refused = here ∙ sym there in λ i. record { text = text i; refused = counts i }
 
 -- a command that is done tells one text
-pub one_told : (env : Env) (command : Command) (old one two : History) (first second : Said)
-    → CommandAnswers env command old one (Ok first) → CommandAnswers env command old two (Ok second) → first ≡ second
-one_told env Users old one two first second here there =
-    same_said first second (one_users (files_of old) env.folder first.text second.text here.0.0 there.0.0) here.0.1 there.0.1
-one_told env (Show bug) old one two first second here there =
-    same_said first second (one_show (files_of old) env.folder bug first.text second.text here.0.0 there.0.0) here.0.1 there.0.1
-one_told env (Log bug) old one two first second here there =
-    same_said first second (one_log (files_of old) env.folder bug first.text second.text here.0.0 there.0.0) here.0.1 there.0.1
-one_told env (Edit edit) old one two first second (id, here, is) (other, there, also) =
-    let told : id ≡ other = (steps-same env edit (files_of old) (files_of one) (files_of two) id other (done_steps env edit old one id here) (done_steps env edit old two other there)).told in
+pub one_told : (env : Env) (command : Command) (old elder one two : History) (first second : Said) → files_of old ≡ files_of elder
+    → CommandAnswers env command old one (Ok first) → CommandAnswers env command elder two (Ok second) → first ≡ second
+one_told env Users old elder one two first second same here there =
+    let there' = subst (λ (files : Files). UsersAnswers files env.folder (Ok second.text)) (sym same) there.0.0 in
+    same_said first second (one_users (files_of old) env.folder first.text second.text here.0.0 there') here.0.1 there.0.1
+one_told env (Show bug) old elder one two first second same here there =
+    let there' = subst (λ (files : Files). ShowAnswers files env.folder bug (Ok second.text)) (sym same) there.0.0 in
+    same_said first second (one_show (files_of old) env.folder bug first.text second.text here.0.0 there') here.0.1 there.0.1
+one_told env (Log bug) old elder one two first second same here there =
+    let there' = subst (λ (files : Files). LogAnswers files env.folder bug (Ok second.text)) (sym same) there.0.0 in
+    same_said first second (one_log (files_of old) env.folder bug first.text second.text here.0.0 there') here.0.1 there.0.1
+one_told env (Edit edit) old elder one two first second same (id, here, is) (other, there, also) =
+    let step = subst (λ (files : Files). Steps env edit files (files_of two) other) (sym same) (done_steps env edit elder two other there) in
+    let told : id ≡ other = (steps-same env edit (files_of old) (files_of one) (files_of two) id other (done_steps env edit old one id here) step).told in
     cc (told, is, also)
 
 -- and has no refusal

@@ -103,7 +103,7 @@ unread call old before asks = each call.asked asks
 
 -- words that ask for nothing
 pub unasked : (call : Call) (old : History) (before after : List ℕ) (answer : Status) → call.asked ≡ None
-    → Printed call.sink_tells usage_text status.Usage before after answer → RunAnswers call old old before after answer
+    → Printed call.sink_tells call.takes_memory usage_text status.Usage before after answer → RunAnswers call old old before after answer
 unasked call old before after answer none printed =
     subst (λ (asked : Option Request). AskedAnswers asked call old old before after answer) (sym none) ((λ tells. refl), printed)
 
@@ -111,7 +111,7 @@ unasked call old before after answer none printed =
 
 -- what a request that was read answers
 pub answered : (call : Call) (request : Request) (old new : History) (before after : List ℕ) (answer : Status) (result : Result Said Stop) → call.asked ≡ Some request
-    → RequestAnswers call.store_tells request call.now call.seed old new result → Printed call.sink_tells (text_of result) (status_of result) before after answer
+    → RequestAnswers call.store_tells request call.now call.seed old new result → Printed call.sink_tells call.takes_memory (text_of result) (status_of result) before after answer
     → RunAnswers call old new before after answer
 answered call request old new before after answer result is done printed =
     subst (λ (asked : Option Request). AskedAnswers asked call old new before after answer) (sym is) (result, done, printed)

@@ -41,7 +41,7 @@ asked_keeps asked folder old new place wrote = each (request_asks asked)
 -- a run keeps a folder at the moment where it stops
 run_keeps : (folder : List ℕ) (old new : History) → IsRun folder old new → (IsSound folder (files_of old) → IsSound folder (files_of new)) × LosesNothing folder (files_of old) (files_of new)
 run_keeps folder old new run =
-    let kept = asked_keeps (request_of run.words) folder old run.end run.place (run_wrote (call_of true run.sink_tells run.words run.now run.seed) old run.end run.before run.after run.status refl run.answers) in
+    let kept = asked_keeps (request_of run.words) folder old run.end run.place (run_wrote (call_of true run.sink_tells run.takes_memory run.words run.now run.seed) old run.end run.before run.after run.status refl run.answers) in
     ((λ sound. (keeps_sound folder old run.end kept.parts sound).each new run.stop), kept.kept.each new run.stop)
 
 -- so do any number of runs

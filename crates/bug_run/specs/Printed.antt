@@ -9,8 +9,17 @@ pub record PrintedFront (tells : Bool) (text old new : List ℕ) : Type 0 where
   pub some_left : count < length text
   pub printed : IsTrue tells → new ≡ old ++ take count text
 
--- a text was printed, and its status told; or the sink refused, or memory ran out, and a front of the text was printed
-abbrev pub Printed : Bool → List ℕ → Status → List ℕ → List ℕ → Status → Type 0
-Printed tells text told old new answer =
+-- a status was told, but where the sink refused or memory ran out
+abbrev pub IsTold : Status → Status → Type 0
+IsTold told answer = (answer ≡ told) ⊎ ((answer ≡ status.OutFault) ⊎ (answer ≡ status.Memory))
+
+-- nothing was printed; or a front of a text, by a sink that may itself answer want of memory
+abbrev pub RanOut : Bool → Bool → List ℕ → List ℕ → List ℕ → Type 0
+RanOut tells takes_memory text old new = (IsTrue tells → new ≡ old) ⊎ (IsTrue takes_memory × PrintedFront tells text old new)
+
+-- a text was printed, and its status told; or the sink refused, and a front of the text was printed; or memory ran out
+abbrev pub Printed : Bool → Bool → List ℕ → Status → List ℕ → List ℕ → Status → Type 0
+Printed tells takes_memory text told old new answer =
     ((answer ≡ told) × (IsTrue tells → new ≡ old ++ text))
-    ⊎ (((answer ≡ status.OutFault) ⊎ (answer ≡ status.Memory)) × PrintedFront tells text old new)
+    ⊎ (((answer ≡ status.OutFault) × PrintedFront tells text old new)
+    ⊎ ((answer ≡ status.Memory) × RanOut tells takes_memory text old new))

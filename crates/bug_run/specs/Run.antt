@@ -32,18 +32,19 @@ abbrev pub moment : ℤ → ℕ
 moment (pos n) = n
 moment (negsuc n) = 0
 
--- What stands still in a run: whether the store tells its files and the sink what was written to it, what the words ask,
--- the moment and the seed.
+-- What stands still in a run: whether the store tells its files and the sink what was written to it, whether the sink may
+-- answer want of memory, what the words ask, the moment and the seed.
 pub record Call : Type 0 where
   pub store_tells : Bool
   pub sink_tells : Bool
+  pub takes_memory : Bool
   pub asked : Option Request
   pub now : ℕ
   pub seed : List ℕ
 
-abbrev pub call_of : Bool → Bool → List (List ℕ) → ℤ → List ℕ → Call
-call_of store_tells sink_tells words now seed =
-    record { store_tells = store_tells; sink_tells = sink_tells; asked = request_of words; now = moment now; seed = seed }
+abbrev pub call_of : Bool → Bool → Bool → List (List ℕ) → ℤ → List ℕ → Call
+call_of store_tells sink_tells takes_memory words now seed =
+    record { store_tells = store_tells; sink_tells = sink_tells; takes_memory = takes_memory; asked = request_of words; now = moment now; seed = seed }
 
 -- ---- the answer
 
@@ -116,10 +117,10 @@ text_of (Err (stop.Refused refused)) = refusal_line refused
 -- what a run answers to words that ask this, or nothing, and writes for it; then what it printed of that
 abbrev pub AskedAnswers : Option Request → Call → History → History → List ℕ → List ℕ → Status → Type 0
 AskedAnswers None call old new before after answer =
-    (IsTrue call.store_tells → new ≡ old) × Printed call.sink_tells usage_text status.Usage before after answer
+    (IsTrue call.store_tells → new ≡ old) × Printed call.sink_tells call.takes_memory usage_text status.Usage before after answer
 AskedAnswers (Some request) call old new before after answer =
     (result : Result Said Stop) × RequestAnswers call.store_tells request call.now call.seed old new result
-    × Printed call.sink_tells (text_of result) (status_of result) before after answer
+    × Printed call.sink_tells call.takes_memory (text_of result) (status_of result) before after answer
 
 abbrev pub RunAnswers : Call → History → History → List ℕ → List ℕ → Status → Type 0
 RunAnswers call old new before after answer = AskedAnswers call.asked call old new before after answer

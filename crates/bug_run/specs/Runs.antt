@@ -17,10 +17,11 @@ pub record IsRun (folder : List ℕ) (old new : History) : Type 0 where
   pub seed : List ℕ
   pub end : History
   pub sink_tells : Bool
+  pub takes_memory : Bool
   pub before : List ℕ
   pub after : List ℕ
   pub status : Status
-  pub answers : RunAnswers (call_of true sink_tells words now seed) old end before after status
+  pub answers : RunAnswers (call_of true sink_tells takes_memory words now seed) old end before after status
   pub stop : IsMoment old end new
 
 -- any number of such runs

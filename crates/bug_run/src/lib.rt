@@ -9,6 +9,6 @@ mod told;
 mod top;
 mod words;
 
-pub use laws::{answers_are_determined, runs_keep_folders};
+pub use laws::{answers_are_determined, runs_keep_folders, words_decide_first};
 pub use status::Status;
 pub use top::run;

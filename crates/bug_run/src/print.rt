@@ -8,10 +8,11 @@ use gb_store::{Sink, SinkFault, write_whole};
 use std::alloc::Global;
 
 /// Prints the whole text, and answers the status that was to be told, which is another than the
-/// sink's. Where the sink refuses, the answer is its refusal, and a front of the text was printed.
+/// sink's. Where the sink refuses, or itself wants memory, that is the answer, and a front of the text
+/// was printed.
 pub fn print<K: Sink>(alloc: Global, out: &mut K, text: &[u8], told: Status) -> Status
     requires { told ≢ Status.OutFault }
-    ensures printed { Printed K.tells text.now told
+    ensures printed { Printed K.tells K.takes_memory text.now told
         (K.written out.old) (K.written out.new) result }
     ensures caused { KeepsFaults K.never_fails K.faults (result ≡ Status.OutFault)
         out.old out.new }

@@ -12,7 +12,8 @@ pub enum Status {
     Usage,
     /// The store failed. Nothing was printed.
     DiskFault,
-    /// Memory ran out. A front of the text was printed, or nothing.
+    /// Memory ran out. Nothing was printed, or a front of the text where the sink itself wanted
+    /// memory.
     Memory,
     /// The sink failed. A front of the text was printed.
     OutFault,

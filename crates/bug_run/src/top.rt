@@ -1,9 +1,11 @@
 //! The top call.
-ghost use Rattle.std.specs.Prelude.{◌≡◌, ◌↔◌, ◌≤◌, IsTrue, IsErrOf, map, string_bytes};
+ghost use Rattle.std.specs.Prelude.{◌≡◌, ◌↔◌, ◌≤◌, IsTrue, IsErrOf, IsOk, Some, map, string_bytes};
 ghost use Rattle.gb_store.specs.Faults.{KeepsFaults};
+ghost use Rattle.gb_store.specs.Files.{files_of};
 ghost use Rattle.gb_store.specs.Moments.{WroteIf};
 ghost use Rattle.repo_steps.specs.Answers.{KeepsToWords};
 ghost use Rattle.bug_run.specs.Printed.{Printed};
+ghost use Rattle.bug_run.specs.Reads.{ReadsAsked, ReadsCommand};
 ghost use Rattle.bug_run.specs.Run.{CommandAnswers, RequestAnswers, RunAnswers, RunStaysSound, RunWrites, bad_word_in, call_of, moment, status_for, status_of, text_of};
 ghost use Rattle.bug_run.specs.Told.{as_said, told_text};
 ghost use Rattle.bug_run.specs.Words.{request_of};
@@ -33,13 +35,16 @@ pub fn run<S: Store, K: Sink>(
     seed: [u8; 32],
 ) -> Status
     ensures answers { RunAnswers
-        (call_of S.tells K.tells (map string_bytes words.now) now seed)
+        (call_of S.tells K.tells K.takes_memory (map string_bytes words.now) now seed)
         (S.history disk.old) (S.history disk.new)
         (K.written out.old) (K.written out.new) result }
     ensures wrote { WroteIf S.tells (RunWrites (request_of (map string_bytes words.now)))
         (S.history disk.old) (S.history disk.new) }
     ensures sound { IsTrue S.tells → RunStaysSound (request_of (map string_bytes words.now))
         (S.history disk.old) (S.history disk.new) }
+    ensures reads { IsTrue S.tells → ReadsAsked (request_of (map string_bytes words.now))
+        (files_of (S.history disk.old)) (result ≡ Status.Done)
+        (S.object_reads disk.old) (S.object_reads disk.new) }
     ensures disk { KeepsFaults S.never_fails S.faults (result ≡ Status.DiskFault)
         disk.old disk.new }
     ensures sink { KeepsFaults K.never_fails K.faults (result ≡ Status.OutFault)
@@ -77,6 +82,9 @@ fn perform<S: Store>(
     requires moment { now ≤ LIMIT }
     ensures answers { RequestAnswers S.tells request.now now seed
         (S.history disk.old) (S.history disk.new) (as_said result) }
+    ensures reads { IsTrue S.tells → ReadsAsked (Some request.now)
+        (files_of (S.history disk.old)) (IsOk result)
+        (S.object_reads disk.old) (S.object_reads disk.new) }
     ensures caused { KeepsFaults S.never_fails S.faults (IsErrOf result Stop.Disk)
         disk.old disk.new }
 {
@@ -100,6 +108,9 @@ fn carry_out<S: Store>(
     ensures answers { IsTrue S.tells → CommandAnswers env.entry.now command.now
         (S.history disk.old) (S.history disk.new) (as_said result) }
     ensures words { KeepsToWords (bad_word_in command.now) (as_said result) }
+    ensures reads { IsTrue S.tells → ReadsCommand (files_of (S.history disk.old))
+        env.entry.now.folder command.now (IsOk result)
+        (S.object_reads disk.old) (S.object_reads disk.new) }
     ensures caused { KeepsFaults S.never_fails S.faults (IsErrOf result Stop.Disk)
         disk.old disk.new }
 {
@@ -132,7 +143,8 @@ fn all_done(told: Told) -> Answer
 
 // Tells the text of an answer, and answers its status.
 fn tell<K: Sink>(alloc: Global, out: &mut K, outcome: Result<Answer, Stop>) -> Status
-    ensures answers { Printed K.tells (text_of (as_said outcome)) (status_of (as_said outcome))
+    ensures answers { Printed K.tells K.takes_memory
+        (text_of (as_said outcome)) (status_of (as_said outcome))
         (K.written out.old) (K.written out.new) result }
     ensures disk { result ≡ Status.DiskFault ↔ IsErrOf outcome Stop.Disk }
     ensures caused { KeepsFaults K.never_fails K.faults (result ≡ Status.OutFault)
@@ -156,7 +168,8 @@ fn tell<K: Sink>(alloc: Global, out: &mut K, outcome: Result<Answer, Stop>) -> S
 
 // Tells what a command that was done tells.
 fn tell_answer<K: Sink>(alloc: Global, out: &mut K, answer: Answer) -> Status
-    ensures answers { Printed K.tells (told_text answer.told) (status_for answer.refused)
+    ensures answers { Printed K.tells K.takes_memory
+        (told_text answer.told) (status_for answer.refused)
         (K.written out.old) (K.written out.new) result }
     ensures disk { result ≡ Status.DiskFault → ⊥ }
     ensures caused { KeepsFaults K.never_fails K.faults (result ≡ Status.OutFault)

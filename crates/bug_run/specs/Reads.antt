@@ -1,0 +1,23 @@
+-- How many objects a run reads.
+use Rattle.std.specs.Prelude.{◌≡◌, ◌⊎◌, ℕ, List, Option}
+use Rattle.gb_store.specs.Files.{Files}
+use Rattle.repo_state.specs.Answers.{ReadsPeople}
+use Rattle.repo_edit.specs.Reads.{ReadsFor}
+use Rattle.repo_view.specs.Log.{ReadsLog}
+use Rattle.repo_view.specs.Shown.{ReadsShow}
+use Rattle.bug_run.specs.Run.{AsksIn}
+use Rattle.bug_run.specs.declared.words.Command.{Command}
+use Rattle.bug_run.specs.declared.words.Command.TheVariants.{Edit, Log, Show, Users}
+use Rattle.bug_run.specs.declared.words.Request.{Request}
+
+-- of a command, those of the one call that it makes, by whether it was done
+abbrev pub ReadsCommand : Files → List ℕ → Command → Type 0 → ℕ → ℕ → Type 0
+ReadsCommand files folder Users IsDone before after = ReadsPeople files folder before after
+ReadsCommand files folder (Show bug) IsDone before after = ReadsShow files folder bug before after
+ReadsCommand files folder (Log bug) IsDone before after = ReadsLog files folder bug before after
+ReadsCommand files folder (Edit edit) IsDone before after = ReadsFor files folder edit IsDone before after
+
+-- of words that ask this, or nothing: none, or those of the command in the folder for which they ask
+abbrev pub ReadsAsked : Option Request → Files → Type 0 → ℕ → ℕ → Type 0
+ReadsAsked asked files IsDone before after =
+    (after ≡ before) ⊎ ((folder : List ℕ) × (asks : AsksIn asked folder) × ReadsCommand files folder asks.request.command IsDone before after)
