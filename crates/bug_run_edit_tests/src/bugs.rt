@@ -58,8 +58,8 @@ const SESSION: &[Row] = &[
     ),
 ];
 
-// What is shown of it then.
-const SHOWN: &str =
+/// What is shown of it then.
+pub const SHOWN: &str =
     "bug b946b7380c3eb77a68d0dc6a49f8fb74554aad7c4dc3167cb4fe898d15cbfc63\ntitle Login fails\nstatus open\nauthor Ana\ncreated 1 102\nedited 3 104\nactor Ana\nparticipant Ana\ncomment bb99446b76380cb3eb777a683d0dc86a490f8fbc745534aade7c4dbc31677cb4 Ana 102\n    Since monday\ncomment be94496b73380c53eb707a681d0dc66a49cf8fbe745544aad77c4d9c31677cb4 Ana 103\n    hi\n";
 
 const USERS: &str =

@@ -9,4 +9,6 @@ mod calls;
 #[cfg(test)]
 mod changes;
 #[cfg(test)]
+mod damage;
+#[cfg(test)]
 mod people;
