@@ -1,6 +1,6 @@
 -- What each write of a folder leaves of its objects, refs, user and clocks.
 use Rattle.std.proofs.Common.{◌≡◌, ◌≢◌, ◌≤◌, ◌⊎◌, inl, inr, ℕ, Bool, true, false, IsTrue, cond, List, [], ◌∷◌, ◌++◌, length, decimal, Option, Some, None, refl, sym, ◌∙◌, ap, subst, arith}
-use Rattle.std.specs.Prelude.{is_some, nat_le}
+use Rattle.std.specs.Prelude.{is_some, nat_le, nat_lt, reverse}
 use Rattle.std.proofs.lemmas.Bool.Decides.{nat_tests}
 use Rattle.std.proofs.lemmas.Fmt.{length-decimal-le}
 use Rattle.std.specs.Str.{bytes_eq}
@@ -12,20 +12,20 @@ use Rattle.gb_text.specs.LineEnd.{line_of}
 use Rattle.gb_text.specs.declared.id.Id.{Id}
 use Rattle.gb_text.specs.declared.id.Name.{Name}
 use Rattle.gb_text.proofs.DigitLemmas.{id_of-encode_lower}
-use Rattle.gb_store.specs.Files.{Files, Put, written}
+use Rattle.gb_store.specs.Files.{Files, History, Put, files_of, written}
 use Rattle.gb_store.specs.ObjectPath.{object_place}
 use Rattle.gb_store.specs.declared.store.Change.{Change}
 use Rattle.git_object.specs.Grammar.{object_name}
 use Rattle.object_store.specs.Held.{objects_in}
 use Rattle.object_store.specs.Puts.{object_write}
-use Rattle.lamport.specs.Clock.{clock_of, number_of}
+use Rattle.lamport.specs.Clock.{clock_of, number_of, seen_by}
 use Rattle.lamport.specs.declared.clock.TheConstants.{CAP}
 use Rattle.lamport.proofs.ClockLemmas.{clock_of-decimal}
 use Rattle.ref_store.specs.Refs.{Ref, Head, head_or_bad, ref_of}
 use Rattle.ref_store.specs.Setting.{ref_write}
 use Rattle.ref_store.proofs.MapLemmas.{joined-same, set_ref_reads, written-other, written-same}
 use Rattle.ref_store.proofs.RefLemmas.{line_of-more}
-use Rattle.repo_state.specs.Clocks.{clock_at, clock_in, clock_place, clock_write}
+use Rattle.repo_state.specs.Clocks.{clock_at, clock_in, clock_place, clock_write, see_writes}
 use Rattle.repo_state.specs.Sides.{has_ref, head_at, is_there, ref_place}
 use Rattle.repo_state.specs.Sound.{IsNamedSide}
 use Rattle.repo_state.specs.Users.{BadUser, User, id_line, local_user, user_at, user_of, user_place, user_write}
@@ -245,3 +245,24 @@ clock_at-capped files folder which = at_file (files (joined folder (clock_place 
     at_file : (o : Option (List ℕ)) → clock_in o ≤ CAP
     at_file None = omega arith
     at_file (Some text) = decide text (nat_le (length text) MOST_BYTES)
+
+-- ---- a clock that sees a number
+
+module _ (old : History) (folder : List ℕ) (which : ClockFile) (number : ℕ) where
+  abbrev clock : ℕ
+  clock = clock_at (files_of old) folder which
+
+  abbrev seen : ℕ
+  seen = seen_by clock number
+
+  -- where it is written it reads as it was written, since no clock is above 2^62
+  rose : clock_at (written (files_of old) (clock_write folder which seen)) folder which ≡ seen
+  rose = clock_at-set (files_of old) folder which seen (omega (arith, clock_at-capped (files_of old) folder which))
+
+  -- so it reads as one that has seen the number, also where nothing was written
+  pub clock_at-seen : clock_at (files_of (reverse (see_writes folder which clock number) ++ old)) folder which ≡ seen
+  clock_at-seen = decide (nat_lt clock seen) refl
+    where
+      decide : (b : Bool) → nat_lt clock seen ≡ b → clock_at (files_of (reverse (see_writes folder which clock number) ++ old)) folder which ≡ seen
+      decide true h = rw h rose
+      decide false h = rw h (grind (arith, nat_tests, h))

@@ -1,18 +1,19 @@
 //! Laws of a folder's state, each the contract of a function that does nothing.
-ghost use Rattle.std.specs.Prelude.{◌≡◌, ◌≢◌, ◌↔◌, ◌≤◌, [], List, ℕ, IsTrue, Some, None, codes, map};
+ghost use Rattle.std.specs.Prelude.{◌≡◌, ◌≢◌, ◌↔◌, ◌≤◌, ◌++◌, [], List, ℕ, IsTrue, Some, None, codes, map, reverse};
 ghost use Rattle.std.specs.List.{repeat};
 ghost use Rattle.gb_text.specs.Digits.{IsId, IsName};
 ghost use Rattle.gb_text.specs.Folder.{joined};
 ghost use Rattle.gb_text.specs.declared.id.Id.{Id};
 ghost use Rattle.gb_text.specs.declared.id.Name.{Name};
-ghost use Rattle.gb_store.specs.Files.{Files, written};
+ghost use Rattle.gb_store.specs.Files.{Files, History, files_of, written};
 ghost use Rattle.git_object.specs.declared.frame.Kind.TheVariants as kinds;
 ghost use Rattle.object_store.specs.Held.{objects_in};
 ghost use Rattle.object_batch.specs.Needs.{IsHeldAs, LeadsTo, Reference};
 ghost use Rattle.ref_store.specs.Refs.{Head};
 ghost use Rattle.ref_store.specs.Setting.{ref_write};
+ghost use Rattle.lamport.specs.Clock.{seen_by};
 ghost use Rattle.lamport.specs.declared.clock.TheConstants.{CAP};
-ghost use Rattle.repo_state.specs.Clocks.{clock_at, clock_write};
+ghost use Rattle.repo_state.specs.Clocks.{clock_at, clock_write, see_writes};
 ghost use Rattle.repo_state.specs.Sides.{AllRead, AreHeads, AreIds, has_ref, head_at, ref_place};
 ghost use Rattle.repo_state.specs.Sound.{IsNamedSide, IsRemoteName, IsSound};
 ghost use Rattle.repo_state.specs.Users.{BadUser, User, user_at, user_entry, user_write};
@@ -118,4 +119,13 @@ pub fn heads_and_user_are_a_map()
     ensures clocks_by_user { (files : Files) (folder : List ℕ) (user : Id) (which : ClockFile)
         → clock_at (written files (user_write folder user)) folder which
         ≡ clock_at files folder which }
+{}
+
+/// A clock that was let see a number reads as one that has seen it, whatever its file said before and
+/// however great the number is, also where it need not be written.
+pub fn clocks_read_as_they_were_seen()
+    ensures { (old : History) (folder : List ℕ) (which : ClockFile) (number : ℕ)
+        → clock_at (files_of (reverse (see_writes folder which
+        (clock_at (files_of old) folder which) number) ++ old)) folder which
+        ≡ seen_by (clock_at (files_of old) folder which) number }
 {}
