@@ -61,12 +61,17 @@ head_at-other : (files : Files) (change : Change) (folder : List ℕ) (of : Side
     → head_at (written files change) folder of id ≡ head_at files folder of id
 head_at-other files change folder of id other = ap ref_of (written-other files change (joined folder (ref_place of id)) other)
 
--- a write of an object leaves each head
-pub head_at-object_write : (files : Files) (folder text : List ℕ) (of : Side) (id : Id) → head_at (written files (object_write folder text)) folder of id ≡ head_at files folder of id
-head_at-object_write files folder text of id =
-    head_at-other files (object_write folder text) folder of id (λ e. ref-not_object folder of id (object_name text) (sym e))
+-- a file that is put at the path of an object leaves each head
+pub head_at-object_put : (files : Files) (folder text : List ℕ) (of : Side) (id : Id) (name : Name)
+    → head_at (written files (Put (joined folder (object_place name)) text)) folder of id ≡ head_at files folder of id
+head_at-object_put files folder text of id name =
+    head_at-other files (Put (joined folder (object_place name)) text) folder of id (λ e. ref-not_object folder of id name (sym e))
 
--- so does a write of the user
+-- so does a write of an object
+pub head_at-object_write : (files : Files) (folder text : List ℕ) (of : Side) (id : Id) → head_at (written files (object_write folder text)) folder of id ≡ head_at files folder of id
+head_at-object_write files folder text of id = head_at-object_put files folder text of id (object_name text)
+
+-- and a write of the user
 pub head_at-user_write : (files : Files) (folder : List ℕ) (of : Side) (id user : Id) → head_at (written files (user_write folder user)) folder of id ≡ head_at files folder of id
 head_at-user_write files folder of id user = head_at-other files (user_write folder user) folder of id (λ e. ref-not_user folder of id (sym e))
 
@@ -163,37 +168,39 @@ user_at-set files folder id is stands =
     still : IsTrue (has_ref (written files (user_write folder id)) folder side.Identities id)
     still = stands-put files (joined folder user_place) (id_line id) (joined folder (ref_place side.Identities id)) stands
 
--- a write of a clock leaves the user, even one of whom no ref stands
-pub user_at-clock_write : (files : Files) (folder : List ℕ) (which : ClockFile) (n : ℕ) → user_at (written files (clock_write folder which n)) folder ≡ user_at files folder
-user_at-clock_write files folder which n =
-    ap (user_of (written files (clock_write folder which n)) folder) (written-other files (clock_write folder which n) (joined folder user_place) (clock-not_user folder which))
-    ∙ at_file (files (joined folder user_place))
+-- the user is who it was, even one of whom no ref stands, where its file and the refs of identities are the same
+pub user_at-same : (old new : Files) (folder : List ℕ) → new (joined folder user_place) ≡ old (joined folder user_place)
+    → ((id : Id) → head_at new folder side.Identities id ≡ head_at old folder side.Identities id) → user_at new folder ≡ user_at old folder
+user_at-same old new folder same heads = ap (user_of new folder) same ∙ at_file (old (joined folder user_place))
   where
-    at_id : (o : Option Id) → local_user (written files (clock_write folder which n)) folder o ≡ local_user files folder o
+    at_id : (o : Option Id) → local_user new folder o ≡ local_user old folder o
     at_id None = refl
-    at_id (Some id) = ap (λ (ref : Ref). cond (is_there ref) (User id) BadUser) (head_at-clock_write files folder side.Identities id which n)
+    at_id (Some id) = ap (λ (ref : Ref). cond (is_there ref) (User id) BadUser) (heads id)
 
-    at_file : (o : Option (List ℕ)) → user_of (written files (clock_write folder which n)) folder o ≡ user_of files folder o
+    at_file : (o : Option (List ℕ)) → user_of new folder o ≡ user_of old folder o
     at_file None = refl
     at_file (Some text) = at_id (id_of (line_of text))
 
--- so does the head of another side than that of identities, even one that names nobody
+-- so a write of a clock leaves the user
+pub user_at-clock_write : (files : Files) (folder : List ℕ) (which : ClockFile) (n : ℕ) → user_at (written files (clock_write folder which n)) folder ≡ user_at files folder
+user_at-clock_write files folder which n =
+    user_at-same files (written files (clock_write folder which n)) folder (written-other files (clock_write folder which n) (joined folder user_place) (clock-not_user folder which))
+    (λ id. head_at-clock_write files folder side.Identities id which n)
+
+-- and a file that is put at the path of an object
+pub user_at-object_put : (files : Files) (folder text : List ℕ) (name : Name) → user_at (written files (Put (joined folder (object_place name)) text)) folder ≡ user_at files folder
+user_at-object_put files folder text name =
+    user_at-same files (written files (Put (joined folder (object_place name)) text)) folder
+    (written-other files (Put (joined folder (object_place name)) text) (joined folder user_place) (λ e. user-not_object folder name (sym e)))
+    (λ id. head_at-object_put files folder text side.Identities id name)
+
+-- and the head of another side than that of identities
 pub user_at-other_side : (files : Files) (folder : List ℕ) (of : Side) (id : Id) (head : Name) → IsNamedSide of → of ≢ side.Identities
     → user_at (written files (ref_write folder (ref_place of id) head)) folder ≡ user_at files folder
 user_at-other_side files folder of id head named other =
-    ap (user_of new folder) (written-other files (ref_write folder (ref_place of id) head) (joined folder user_place) (ref-not_user folder of id))
-    ∙ at_file (files (joined folder user_place))
-  where
-    new : Files
-    new = written files (ref_write folder (ref_place of id) head)
-
-    at_id : (o : Option Id) → local_user new folder o ≡ local_user files folder o
-    at_id None = refl
-    at_id (Some user) = ap (λ (ref : Ref). cond (is_there ref) (User user) BadUser) (head_at-other_side files folder of side.Identities id user head named tt other)
-
-    at_file : (o : Option (List ℕ)) → user_of new folder o ≡ user_of files folder o
-    at_file None = refl
-    at_file (Some text) = at_id (id_of (line_of text))
+    user_at-same files (written files (ref_write folder (ref_place of id) head)) folder
+    (written-other files (ref_write folder (ref_place of id) head) (joined folder user_place) (ref-not_user folder of id))
+    (λ user. head_at-other_side files folder of side.Identities id user head named tt other)
 
 -- ---- clocks
 
@@ -202,12 +209,17 @@ clock_at-elsewhere : (files : Files) (change : Change) (folder : List ℕ) (whic
     → clock_at (written files change) folder which ≡ clock_at files folder which
 clock_at-elsewhere files change folder which other = ap clock_in (written-other files change (joined folder (clock_place which)) other)
 
--- a write of an object leaves each clock
-pub clock_at-object_write : (files : Files) (folder text : List ℕ) (which : ClockFile) → clock_at (written files (object_write folder text)) folder which ≡ clock_at files folder which
-clock_at-object_write files folder text which =
-    clock_at-elsewhere files (object_write folder text) folder which (λ e. clock-not_object folder which (object_name text) (sym e))
+-- a file that is put at the path of an object leaves each clock
+pub clock_at-object_put : (files : Files) (folder text : List ℕ) (which : ClockFile) (name : Name)
+    → clock_at (written files (Put (joined folder (object_place name)) text)) folder which ≡ clock_at files folder which
+clock_at-object_put files folder text which name =
+    clock_at-elsewhere files (Put (joined folder (object_place name)) text) folder which (λ e. clock-not_object folder which name (sym e))
 
--- so does a head that is set
+-- so does a write of an object
+pub clock_at-object_write : (files : Files) (folder text : List ℕ) (which : ClockFile) → clock_at (written files (object_write folder text)) folder which ≡ clock_at files folder which
+clock_at-object_write files folder text which = clock_at-object_put files folder text which (object_name text)
+
+-- and a head that is set
 pub clock_at-ref_write : (files : Files) (folder : List ℕ) (of : Side) (id : Id) (head : Name) (which : ClockFile) → clock_at (written files (ref_write folder (ref_place of id) head)) folder which ≡ clock_at files folder which
 clock_at-ref_write files folder of id head which = clock_at-elsewhere files (ref_write folder (ref_place of id) head) folder which (ref-not_clock folder of id which)
 

@@ -5,7 +5,8 @@ ghost use Rattle.gb_text.specs.Digits.{IsId, IsName};
 ghost use Rattle.gb_text.specs.Folder.{joined};
 ghost use Rattle.gb_text.specs.declared.id.Id.{Id};
 ghost use Rattle.gb_text.specs.declared.id.Name.{Name};
-ghost use Rattle.gb_store.specs.Files.{Files, History, files_of, written};
+ghost use Rattle.gb_store.specs.Files.{Files, History, Put, files_of, written};
+ghost use Rattle.gb_store.specs.ObjectPath.{object_place};
 ghost use Rattle.git_object.specs.declared.frame.Kind.TheVariants as kinds;
 ghost use Rattle.object_store.specs.Held.{objects_in};
 ghost use Rattle.object_batch.specs.Needs.{IsHeldAs, LeadsTo, Reference};
@@ -128,4 +129,27 @@ pub fn clocks_read_as_they_were_seen()
         → clock_at (files_of (reverse (see_writes folder which
         (clock_at (files_of old) folder which) number) ++ old)) folder which
         ≡ seen_by (clock_at (files_of old) folder which) number }
+{}
+
+/// A file that is put at the path of an object, of any name and any text, leaves each head, the user,
+/// also one that names nobody, and each clock. A head, a user or a clock that is set leaves all that
+/// stands at the paths of objects.
+pub fn objects_and_state_are_apart()
+    ensures heads { (files : Files) (folder text : List ℕ) (of : SideValue) (id : Id) (name : Name)
+        → head_at (written files (Put (joined folder (object_place name)) text)) folder of id
+        ≡ head_at files folder of id }
+    ensures user { (files : Files) (folder text : List ℕ) (name : Name)
+        → user_at (written files (Put (joined folder (object_place name)) text)) folder
+        ≡ user_at files folder }
+    ensures clocks { (files : Files) (folder text : List ℕ) (which : ClockFile) (name : Name)
+        → clock_at (written files (Put (joined folder (object_place name)) text)) folder which
+        ≡ clock_at files folder which }
+    ensures by_head { (files : Files) (folder : List ℕ) (of : SideValue) (id : Id) (head : Name)
+        → objects_in (written files (ref_write folder (ref_place of id) head)) folder
+        ≡ objects_in files folder }
+    ensures by_user { (files : Files) (folder : List ℕ) (user : Id)
+        → objects_in (written files (user_write folder user)) folder ≡ objects_in files folder }
+    ensures by_clock { (files : Files) (folder : List ℕ) (which : ClockFile) (n : ℕ)
+        → objects_in (written files (clock_write folder which n)) folder
+        ≡ objects_in files folder }
 {}

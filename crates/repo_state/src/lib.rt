@@ -17,8 +17,8 @@ pub use clocks::{ClockFile, clock, clock_changes, see};
 pub use env::Env;
 pub use laws::{
     an_empty_folder_is_sound, clocks_read_as_they_were_seen, heads_and_user_are_a_map,
-    ids_are_those_of_the_heads, remote_names_are_known, sound_folders_hold_what_heads_lead_to,
-    users_have_their_heads,
+    ids_are_those_of_the_heads, objects_and_state_are_apart, remote_names_are_known,
+    sound_folders_hold_what_heads_lead_to, users_have_their_heads,
 };
 pub use operations::ops_of;
 pub use people::names;
