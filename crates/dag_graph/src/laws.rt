@@ -1,10 +1,11 @@
 //! Laws of graphs, each the contract of a function that does nothing.
-ghost use Rattle.std.specs.Prelude.{◌≡◌, ◌<◌, ◌↔◌, ◌⊎◌, ◌++◌, ◌∷◌, [], ℕ, List, length, Contains};
+ghost use Rattle.std.specs.Prelude.{◌≡◌, ◌≢◌, ◌<◌, ◌≤◌, ◌+◌, ◌↔◌, ◌⊎◌, ◌++◌, ◌∷◌, [], ℕ, List, length, Contains};
 ghost use Rattle.gb_text.specs.declared.id.Name.{Name};
 ghost use Rattle.dag_graph.specs.Below.{IsAncestor, IsBelow, IsRing, added};
-ghost use Rattle.dag_graph.specs.Faults.{ClocksRise, HasClockOrder, IsFaultless, IsRoot};
+ghost use Rattle.dag_graph.specs.Faults.{ClocksRise, GraphFaultHolds, HasClockOrder, IsFaultless, IsRoot};
 ghost use Rattle.dag_graph.specs.Nodes.{AreNodes, node_at};
 ghost use Rattle.dag_graph.specs.Order.{IsOrder, ParentsComeFirst, listed};
+ghost use Rattle.dag_graph.specs.declared.fault.GraphFault.TheVariants as fault;
 ghost use Rattle.dag_graph.specs.declared.node.Node.{Node};
 
 /// Below is reflexive and transitive, and so is being an ancestor.
@@ -40,6 +41,29 @@ pub fn ancestors_have_lesser_clocks()
 pub fn a_ring_has_a_clock_fault()
     ensures { (nodes : List Node) (name : Name) → AreNodes nodes → IsRing nodes name
         → (high : Name) × (low : Name) × HasClockOrder nodes high low }
+{}
+
+/// What is wrong with a graph, each with the name that is told first: a commit without parents beside
+/// another; one whose clock is not greater than a parent's; one with a clock that is more than 1,000,000
+/// above that of its one parent, and no other; and one of two parents or more that has an operation.
+pub fn graph_faults_are_known()
+    ensures root { (nodes : List Node) (one other : Node) → Contains nodes one
+        → Contains nodes other → one.name ≢ other.name → one.parents ≡ [] → other.parents ≡ []
+        → GraphFaultHolds nodes (fault.SecondRoot one.name) }
+    ensures order { (nodes : List Node) (child parent : Node) → Contains nodes child
+        → Contains nodes parent → Contains child.parents parent.name → child.edit ≤ parent.edit
+        → GraphFaultHolds nodes (fault.ClockOrder child.name parent.name) }
+    ensures jump { (nodes : List Node) (child parent : Node) → Contains nodes child
+        → Contains nodes parent → child.parents ≡ parent.name ∷ []
+        → parent.edit + 1000000 < child.edit
+        → GraphFaultHolds nodes (fault.ClockJump child.name parent.name) }
+    ensures near { (nodes : List Node) (high low : Name)
+        → ((child parent : Node) → Contains nodes child → Contains nodes parent
+        → child.parents ≡ parent.name ∷ [] → child.edit ≤ parent.edit + 1000000)
+        → GraphFaultHolds nodes (fault.ClockJump high low) → ⊥ }
+    ensures merge { (nodes : List Node) (commit : Node) → Contains nodes commit
+        → 2 ≤ length commit.parents → 1 ≤ commit.count
+        → GraphFaultHolds nodes (fault.MergeHasOperations commit.name) }
 {}
 
 /// Where no fault holds there is exactly one root, and every node leads to it.

@@ -15,6 +15,6 @@ pub use graph::Graph;
 pub use laws::{
     a_graph_without_faults_has_one_root, a_later_node_stands_at_the_end, a_ring_has_a_clock_fault,
     ancestors_have_lesser_clocks, below_is_transitive, below_is_what_adding_parents_gives,
-    orders_are_determined, parents_stand_before_children,
+    graph_faults_are_known, orders_are_determined, parents_stand_before_children,
 };
 pub use node::{Node, Rank};
