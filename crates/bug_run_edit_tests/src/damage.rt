@@ -6,6 +6,7 @@ use gb_text::Id;
 use repo_state::{Refusal, Stop, read_bug};
 use run_fixtures::Row::{self, Done, Refused};
 use run_fixtures::{DONE, REFUSED, hold, run_into, run_words, sink};
+use std::alloc::Global;
 use std::test::Fail;
 
 const BUG: &str = "b946b7380c3eb77a68d0dc6a49f8fb74554aad7c4dc3167cb4fe898d15cbfc63";
@@ -163,30 +164,32 @@ fn a_bug_is_shown_to_many(rt: HostRuntime) -> Result<(), Fail> {
     hold(&mut disk, SHOWN_TO_MANY)
 }
 
+// A text of so many letters.
+fn letters(alloc: Global, count: u32) -> Result<String, Fail> {
+    let mut text = String::new(alloc);
+    for _ in 0..count {
+        text.push('a')?;
+    }
+    Ok(text)
+}
+
 #[test]
 fn long_and_empty_words_are_written(rt: HostRuntime) -> Result<(), Fail> {
-    let mut disk = Disk::new(rt.alloc())?;
+    let alloc = rt.alloc();
+    let mut disk = Disk::new(alloc)?;
     hold(&mut disk, BEGUN)?;
-    let mut message = String::new(disk.alloc);
-    for _ in 0..4_194_304 {
-        message.push('a')?;
-    }
-    let mut sink = sink(disk.alloc);
-    let words = ["f", "comment", BUG, message.as_str()];
+    let mut sink = sink(alloc);
+    let largest = letters(alloc, 4_194_304)?;
+    let words = ["f", "comment", BUG, largest.as_str()];
     assert_eq!(rt; run_into(&mut disk, &mut sink, &words, 5)?, REFUSED);
     assert!(rt; sink.bytes() == b"refused 13 too large 4194305\n".as_slice());
-    message.truncate(100_000);
-    let words = ["f", "comment", BUG, message.as_str()];
+    let long = letters(alloc, 100_000)?;
+    let words = ["f", "comment", BUG, long.as_str()];
     assert_eq!(rt; run_words(&mut disk, &words, 6)?, DONE);
-    assert_eq!(rt;
-        run_words(&mut disk, &["f", "meta", BUG, "k", ""], 7)?,
-        DONE
-    );
-    message.truncate(1_000);
-    assert_eq!(rt;
-        run_words(&mut disk, &[message.as_str(), "users"], 8)?,
-        DONE
-    );
+    let words = ["f", "meta", BUG, "k", ""];
+    assert_eq!(rt; run_words(&mut disk, &words, 7)?, DONE);
+    let words = [long.as_str(), "users"];
+    assert_eq!(rt; run_words(&mut disk, &words, 8)?, DONE);
     assert_eq!(rt; disk.store.writes(), 32);
     Ok(())
 }
