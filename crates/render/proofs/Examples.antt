@@ -114,9 +114,9 @@ open_bug = record {
     metadata = [];
   };
   list =
-    record { id = id_of 187; author = id_of 176; time = 2; message = codes "m" }
-    ∷ record { id = id_of 204; author = id_of 160; time = 3; message = [] }
-    ∷ [];
+      record { id = id_of 187; author = id_of 176; time = 2; message = codes "m" }
+      ∷ record { id = id_of 204; author = id_of 160; time = 3; message = [] }
+      ∷ [];
 }
 
 shown_open : show_text_of open_bug (ana ∷ bo ∷ []) ≡
