@@ -174,23 +174,42 @@ fn letters(alloc: Global, count: u32) -> Result<String, Fail> {
 }
 
 #[test]
-fn long_and_empty_words_are_written(rt: HostRuntime) -> Result<(), Fail> {
-    let alloc = rt.alloc();
-    let mut disk = Disk::new(alloc)?;
+fn a_comment_of_four_megabytes_is_too_large(rt: HostRuntime) -> Result<(), Fail> {
+    let mut disk = Disk::new(rt.alloc())?;
     hold(&mut disk, BEGUN)?;
-    let mut sink = sink(alloc);
-    let largest = letters(alloc, 4_194_304)?;
-    let words = ["f", "comment", BUG, largest.as_str()];
+    let message = letters(disk.alloc, 4_194_304)?;
+    let words = ["f", "comment", BUG, message.as_str()];
+    let mut sink = sink(disk.alloc);
     assert_eq!(rt; run_into(&mut disk, &mut sink, &words, 5)?, REFUSED);
     assert!(rt; sink.bytes() == b"refused 13 too large 4194305\n".as_slice());
-    let long = letters(alloc, 100_000)?;
-    let words = ["f", "comment", BUG, long.as_str()];
+    Ok(())
+}
+
+#[test]
+fn a_long_comment_is_written(rt: HostRuntime) -> Result<(), Fail> {
+    let mut disk = Disk::new(rt.alloc())?;
+    hold(&mut disk, BEGUN)?;
+    let message = letters(disk.alloc, 100_000)?;
+    let words = ["f", "comment", BUG, message.as_str()];
     assert_eq!(rt; run_words(&mut disk, &words, 6)?, DONE);
+    Ok(())
+}
+
+#[test]
+fn an_empty_value_is_written(rt: HostRuntime) -> Result<(), Fail> {
+    let mut disk = Disk::new(rt.alloc())?;
+    hold(&mut disk, BEGUN)?;
     let words = ["f", "meta", BUG, "k", ""];
     assert_eq!(rt; run_words(&mut disk, &words, 7)?, DONE);
-    let words = [long.as_str(), "users"];
+    Ok(())
+}
+
+#[test]
+fn a_folder_with_a_long_word_is_read(rt: HostRuntime) -> Result<(), Fail> {
+    let mut disk = Disk::new(rt.alloc())?;
+    let folder = letters(disk.alloc, 100_000)?;
+    let words = [folder.as_str(), "users"];
     assert_eq!(rt; run_words(&mut disk, &words, 8)?, DONE);
-    assert_eq!(rt; disk.store.writes(), 32);
     Ok(())
 }
 
