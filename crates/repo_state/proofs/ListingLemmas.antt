@@ -1,22 +1,27 @@
 -- The refs of a side are the ids whose refs stand, and the heads of the refs that read.
-use Rattle.std.proofs.Common.{◌≡◌, ℕ, zero, suc, List, [], ◌∷◌, map, Some, Err, refl, sym, ◌∙◌, ap, subst, arith}
+use Rattle.std.proofs.Common.{◌≡◌, ℕ, inl, inr, zero, suc, List, [], ◌∷◌, ◌++◌, map, Some, Err, refl, sym, ◌∙◌, ap, subst, arith}
 use Rattle.std.specs.Prelude.{Contains, IsTrue}
+use Rattle.std.specs.List.{AllByRecursion}
+use Rattle.std.specs.declared.cmp.Ordering.TheVariants.{Less}
+use Rattle.std.proofs.lemmas.Cmp.{nat_list_cmp_total, tied_itself}
+use Rattle.std.proofs.lemmas.List.{map-append}
+use Rattle.std.proofs.lemmas.List.Elements.{All-contains, All-from_recursion, Contains-append_cases, Contains-append_left, Contains-append_right}
 use Rattle.std.proofs.lemmas.Simd.{map-map}
 use Rattle.std.specs.Cmp.Lexicographic.{slice_cmp}
 use Rattle.std.specs.List.Sorted.{IsStrictlySortedBy}
 use Rattle.std.specs.Ordering.{nat_cmp}
 use Rattle.gb_text.specs.Digits.{IsId}
-use Rattle.gb_text.specs.Folder.{joined}
 use Rattle.gb_text.specs.declared.id.Id.{Id}
 use Rattle.gb_text.specs.declared.id.Name.{Name}
 use Rattle.gb_store.specs.Files.{Files}
+use Rattle.object_batch.proofs.ClashLemmas.{Contains-cons_cases, Contains-first}
 use Rattle.ref_store.specs.Listing.{IsRefList, found_of}
 use Rattle.ref_store.specs.Refs.{Ref, Absent, Head, Bad}
 use Rattle.ref_store.specs.declared.listing.RefEntry.{RefEntry}
 use Rattle.ref_store.specs.declared.listing.RefFound.{RefFound}
 use Rattle.ref_store.specs.declared.listing.RefFound.TheVariants as found
-use Rattle.repo_state.specs.Answers.{HasBadRef, HeadsOf, Reads, as_entry}
-use Rattle.repo_state.specs.Sides.{AreHeads, AreIds, dir_of, has_ref, head_at, is_there, ref_place}
+use Rattle.repo_state.specs.Answers.{HasBadRef, HeadsOf, IsBehind, Reads, as_entry}
+use Rattle.repo_state.specs.Sides.{AreHeads, AreIds, IsBefore, IsFirst, dir_of, has_ref, head_at, is_there}
 use Rattle.repo_state.specs.declared.refusal.Refusal.TheVariants as refusal
 use Rattle.repo_state.specs.declared.refusal.Stop.{Stop}
 use Rattle.repo_state.specs.declared.refusal.Stop.TheVariants as stop
@@ -40,6 +45,21 @@ Contains-from_map f (z ∷ xs) y (zero, lt, e) = (z, (0, omega arith, refl), e)
 Contains-from_map f (z ∷ xs) y (suc k, lt, e) =
     let later = Contains-from_map f xs y (k, omega arith, e) in
     (later.0, (suc later.1.0, omega (arith, later.1.1), later.1.2), later.2)
+
+-- ---- order
+
+-- in a list that ascends what stands behind is greater
+behind : (xs : List (List ℕ)) (x : List ℕ) (ys : List (List ℕ)) → IsStrictlySortedBy (slice_cmp nat_cmp) (xs ++ x ∷ ys) → AllByRecursion (λ y. slice_cmp nat_cmp x y ≡ Less) ys
+unfolding IsStrictlySortedBy
+behind [] x ys rising = rising.0
+behind (z ∷ xs) x ys rising = behind xs x ys rising.1
+
+-- nothing is before itself, and of two that are each before the other there are none
+not_before_itself : (x : List ℕ) → slice_cmp nat_cmp x x ≡ Less → ⊥
+not_before_itself x less = let tied = tied_itself nat_list_cmp_total x in cc (less, tied)
+
+not_both_before : (x y : List ℕ) → slice_cmp nat_cmp x y ≡ Less → slice_cmp nat_cmp y x ≡ Less → ⊥
+not_both_before x y one other = let turned = nat_list_cmp_total.antisymm x y in cc (one, other, turned)
 
 -- ---- refs
 
@@ -121,15 +141,72 @@ module _ (files : Files) (folder : List ℕ) (of : Side) (entries : List RefEntr
         as_entry-reads from.0 id from.2;
   }
 
-  -- a ref that does not read
-  bad_of_refs : (id : Id) (path : List ℕ) → Contains entries (record { id = id; found = found.Bad }) → path ≡ joined folder (ref_place of id) → HasBadRef files folder of path
-  bad_of_refs id path has at =
-      let member = (are.members (record { id = id; found = found.Bad })).0 has in
-      (id, member.0, (at, bad_found (head_at files folder of id) member.1))
+  -- what stands behind an entry is greater
+  later_is_greater : (heads : List HeadEntry) (entry : RefEntry) (rest : List RefEntry) → entries ≡ map as_entry heads ++ entry ∷ rest
+      → (later : RefEntry) → Contains rest later → slice_cmp nat_cmp entry.id.bytes later.id.bytes ≡ Less
+  later_is_greater heads entry rest is later has =
+      let bytes : RefEntry → List ℕ = λ e. e.id.bytes in
+      let rising : IsStrictlySortedBy (slice_cmp nat_cmp) (map bytes (map as_entry heads) ++ bytes entry ∷ map bytes rest) =
+      subst (IsStrictlySortedBy (slice_cmp nat_cmp)) (ap (map bytes) is ∙ map-append bytes (map as_entry heads) (entry ∷ rest)) are.rising in
+      All-contains (λ y. slice_cmp nat_cmp entry.id.bytes y ≡ Less) (map bytes rest) (bytes later)
+      (All-from_recursion (λ y. slice_cmp nat_cmp entry.id.bytes y ≡ Less) (map bytes rest) (behind (map bytes (map as_entry heads)) (bytes entry) (map bytes rest) rising))
+      (Contains-map bytes rest later has)
 
-  -- the refusal for one
+  -- an entry that stands behind some is one of the refs
+  standing_entry : (heads : List HeadEntry) (entry : RefEntry) → IsBehind entries heads entry → IsId entry.id × (found_of (head_at files folder of entry.id) ≡ Some entry.found)
+  standing_entry heads entry (rest, is) =
+      (are.members entry).0 (subst (λ (es : List RefEntry). Contains es entry) (sym is) (Contains-append_right (map as_entry heads) (entry ∷ rest) entry (Contains-first entry rest)))
+
+  -- the heads before it read
+  pub sooner_reads : (heads : List HeadEntry) (entry : RefEntry) → IsBehind entries heads entry → (e : HeadEntry) → Contains heads e → head_at files folder of e.id ≡ Head e.name
+  sooner_reads heads entry (rest, is) e has =
+      let member : Contains entries (as_entry e) =
+      subst (λ (es : List RefEntry). Contains es (as_entry e)) (sym is) (Contains-append_left (map as_entry heads) (entry ∷ rest) (as_entry e) (Contains-map as_entry heads e has)) in
+      head_found (head_at files folder of e.id) e.name ((are.members (as_entry e)).0 member).1
+
+  -- what an entry of a ref that stands says is what the ref is
+  pub entry_reads : (heads : List HeadEntry) (entry : RefEntry) → IsBehind entries heads entry → (name : Name) → entry.found ≡ found.Head name → head_at files folder of entry.id ≡ Head name
+  entry_reads heads entry behind name is = head_found (head_at files folder of entry.id) name ((standing_entry heads entry behind).1 ∙ ap Some is)
+
+  pub entry_is_bad : (heads : List HeadEntry) (entry : RefEntry) → IsBehind entries heads entry → entry.found ≡ found.Bad → head_at files folder of entry.id ≡ Bad
+  entry_is_bad heads entry behind is = bad_found (head_at files folder of entry.id) ((standing_entry heads entry behind).1 ∙ ap Some is)
+
+  -- an entry of which something is so that is not so of those before it, and only so of refs that stand, is the first
+  pub first_of_refs : (IsSo : Id → Type 0) → ((id : Id) → IsSo id → IsTrue (has_ref files folder of id)) → (heads : List HeadEntry) (entry : RefEntry)
+      → IsBehind entries heads entry → IsSo entry.id → ((e : HeadEntry) → Contains heads e → IsSo e.id → ⊥) → IsFirst IsSo entry.id
+  first_of_refs IsSo stands heads entry (rest, is) so none = record {
+    is_id = (standing_entry heads entry (rest, is)).0;
+    is_so = so;
+    none_before = not_before;
+  }
+    where
+      greater : (other : RefEntry) → Contains (entry ∷ rest) other → IsBefore other.id entry.id → ⊥
+      greater other has before = elim (Contains-cons_cases entry rest other has) [
+        | inl same ↦ not_before_itself entry.id.bytes (subst (λ (e : RefEntry). slice_cmp nat_cmp e.id.bytes entry.id.bytes ≡ Less) (sym same) before)
+        | inr later ↦ not_both_before entry.id.bytes other.id.bytes (later_is_greater heads entry rest is other later) before
+      ]
+
+      not_before : (other : Id) → IsId other → IsSo other → IsBefore other entry.id → ⊥
+      not_before other is_id other_so before =
+          let found = stands_found (head_at files folder of other) (stands other other_so) in
+          let e : RefEntry = record { id = other; found = found.0 } in
+          let has : Contains (map as_entry heads ++ entry ∷ rest) e = subst (λ (es : List RefEntry). Contains es e) is ((are.members e).1 (is_id, found.1)) in
+          elim (Contains-append_cases (map as_entry heads) (entry ∷ rest) e has) [
+            | inl sooner ↦ (
+                let from = Contains-from_map as_entry heads e sooner in
+                let same : from.0.id ≡ other = ap (λ (x : RefEntry). x.id) from.2 in
+                none from.0 from.1 (subst IsSo (sym same) other_so))
+            | inr later ↦ greater e later before
+          ]
+
+  -- the refusal for the first that does not read
   pub stops_at_bad_ref : (s : Stop) → HeadsOf folder of entries (Err s) → Reads {T = List HeadEntry} (AreHeads files folder of) (HasBadRef files folder of) (Err s)
   stops_at_bad_ref stop.Memory h = h
   stops_at_bad_ref stop.Disk h = absurd h
-  stops_at_bad_ref (stop.Refused (refusal.Damaged path)) h = bad_of_refs h.0 path h.1 h.2
+  stops_at_bad_ref (stop.Refused (refusal.Damaged path)) (id, heads, before, at) =
+      let entry : RefEntry = record { id = id; found = found.Bad } in
+      let stands : (one : Id) → head_at files folder of one ≡ Bad → IsTrue (has_ref files folder of one) = λ one bad. ap is_there bad in
+      let none : (e : HeadEntry) → Contains heads e → head_at files folder of e.id ≡ Bad → ⊥ =
+      λ e has bad. let both : Head e.name ≡ Bad = sym (sooner_reads heads entry before e has) ∙ bad in cc (both) in
+      (id, first_of_refs (λ one. head_at files folder of one ≡ Bad) stands heads entry before (entry_is_bad heads entry before refl) none, at)
   stops_at_bad_ref (stop.Refused _) h = h

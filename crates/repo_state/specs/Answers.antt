@@ -1,24 +1,24 @@
 -- The answers to reads and writes of a folder's state, each with what is so of the files. Want of memory and
 -- faults of the disk have no cause here.
-use Rattle.std.specs.Prelude.{◌≡◌, ◌≤◌, ◌+◌, ◌*◌, ◌⊎◌, ⊤, ℕ, List, ◌∷◌, ◌++◌, reverse, length, map, Contains, Vec, Option, Some, None, Result, Ok, Err}
+use Rattle.std.specs.Prelude.{◌≡◌, ◌≤◌, ◌+◌, ◌*◌, ◌⊎◌, ⊤, ℕ, List, ◌∷◌, ◌++◌, reverse, length, map, Vec, Option, Some, None, Result, Ok, Err}
 use Rattle.std.specs.declared.alloc.Global.{Global}
-use Rattle.gb_text.specs.Digits.{IsId}
 use Rattle.gb_text.specs.Folder.{joined}
 use Rattle.gb_text.specs.declared.id.Id.{Id}
 use Rattle.gb_text.specs.declared.id.Name.{Name}
 use Rattle.gb_store.specs.Files.{Files, History, files_of}
 use Rattle.gb_store.specs.Moments.{MaybeWrote, WroteSome}
 use Rattle.gb_store.specs.declared.store.Change.{Change}
-use Rattle.object_store.specs.Held.{objects_in}
+use Rattle.object_store.specs.Held.{Objects, objects_in}
 use Rattle.ref_store.specs.Refs.{Ref, Absent, Head, Bad}
 use Rattle.ref_store.specs.declared.listing.RefEntry.{RefEntry}
+use Rattle.ref_store.specs.declared.listing.RefFound.{RefFound}
 use Rattle.ref_store.specs.declared.listing.RefFound.TheVariants as found
 use Rattle.identity.specs.Commits.{HasNoVersion}
 use Rattle.identity.specs.Persons.{Shows}
 use Rattle.identity.specs.declared.chain.Person.{Person}
 use Rattle.identity.specs.declared.fault.IdentityFault.{IdentityFault}
 use Rattle.repo_state.specs.Clocks.{clock_at, see_writes}
-use Rattle.repo_state.specs.Sides.{AreHeads, found_by, head_at, ref_place}
+use Rattle.repo_state.specs.Sides.{AreIds, IsFirst, found_by, head_at, ref_place}
 use Rattle.repo_state.specs.Users.{UserFound, NoUser, User, BadUser, user_at, user_place, user_write}
 use Rattle.repo_state.specs.People.{AllShow}
 use Rattle.repo_state.specs.declared.clocks.ClockFile.{ClockFile}
@@ -79,9 +79,9 @@ IsHeadAt files folder of id (Some name) = head_at files folder of id ≡ Head na
 abbrev pub IsBadRef : Files → List ℕ → Side → Id → List ℕ → Type 0
 IsBadRef files folder of id path = (path ≡ joined folder (ref_place of id)) × (head_at files folder of id ≡ Bad)
 
--- some ref of the side, at this path, is no ref text
+-- the first ref of the side, in the order of ids, that is no ref text stands at this path
 abbrev pub HasBadRef : Files → List ℕ → Side → List ℕ → Type 0
-HasBadRef files folder of path = (id : Id) × IsId id × IsBadRef files folder of id path
+HasBadRef files folder of path = (id : Id) × IsFirst (λ one. head_at files folder of one ≡ Bad) id × (path ≡ joined folder (ref_place of id))
 
 -- the user, or none where no user file stands
 abbrev pub IsUser : Files → List ℕ → Option Id → Type 0
@@ -92,16 +92,19 @@ IsUser files folder (Some id) = user_at files folder ≡ User id
 abbrev pub IsBadUser : Files → List ℕ → List ℕ → Type 0
 IsBadUser files folder path = (path ≡ joined folder user_place) × (user_at files folder ≡ BadUser)
 
--- some identity's ref, at this path, is no ref text, or its head has no version
+-- an identity's ref is no ref text, or its head has no version
+abbrev pub IsBadPerson : Files → List ℕ → Id → Type 0
+IsBadPerson files folder id = (head_at files folder side.Identities id ≡ Bad)
+    ⊎ ((head : Name) × (head_at files folder side.Identities id ≡ Head head) × (fault : IdentityFault) × HasNoVersion (objects_in files folder) head fault)
+
+-- the ref of the first identity, in the order of ids, of which this is so stands at this path
 abbrev pub HasBadPerson : Files → List ℕ → List ℕ → Type 0
-HasBadPerson files folder path = (id : Id) × IsId id × (path ≡ joined folder (ref_place side.Identities id))
-    × ((head_at files folder side.Identities id ≡ Bad)
-    ⊎ ((head : Name) × (head_at files folder side.Identities id ≡ Head head) × (fault : IdentityFault) × HasNoVersion (objects_in files folder) head fault))
+HasBadPerson files folder path = (id : Id) × IsFirst (IsBadPerson files folder) id × (path ≡ joined folder (ref_place side.Identities id))
 
 -- at most three objects were read for each local identity, or none
 abbrev pub ReadsPeople : Files → List ℕ → ℕ → ℕ → Type 0
 ReadsPeople files folder old new =
-    (new ≡ old) ⊎ ((heads : List HeadEntry) × AreHeads files folder side.Identities heads × (new ≤ old + 3 * length heads))
+    (new ≡ old) ⊎ ((ids : List Id) × AreIds files folder side.Identities ids × (new ≤ old + 3 * length ids))
 
 -- the answer to a write, and whether it was made
 abbrev pub PutAnswers : Change → History → History → Result Unit Stop → Type 0
@@ -204,27 +207,56 @@ HeadOf folder of entry (Err stop.Memory) = ⊤
 HeadOf folder of entry (Err (stop.Refused (refusal.Damaged path))) = (entry.found ≡ found.Bad) × (path ≡ joined folder (ref_place of entry.id))
 HeadOf folder of entry (Err _) = ⊥
 
--- the heads of these refs, all of which read; or the path of one that is no ref text
+-- refs that read, and behind them this one
+abbrev pub IsBehind : List RefEntry → List HeadEntry → RefEntry → Type 0
+IsBehind entries heads entry = (rest : List RefEntry) × (entries ≡ map as_entry heads ++ entry ∷ rest)
+
+-- the heads of these refs, all of which read; or the path of the first that is no ref text
 abbrev pub HeadsOf : List ℕ → Side → List RefEntry → Result (Vec HeadEntry Global) Stop → Type 0
 HeadsOf folder of entries (Ok heads) = map as_entry heads.items ≡ entries
 HeadsOf folder of entries (Err stop.Memory) = ⊤
-HeadsOf folder of entries (Err (stop.Refused (refusal.Damaged path))) = (id : Id) × Contains entries (record { id = id; found = found.Bad }) × (path ≡ joined folder (ref_place of id))
+HeadsOf folder of entries (Err (stop.Refused (refusal.Damaged path))) =
+    (id : Id) × (heads : List HeadEntry) × IsBehind entries heads (record { id = id; found = found.Bad }) × (path ≡ joined folder (ref_place of id))
 HeadsOf folder of entries (Err _) = ⊥
 
--- the person of an identity's head, or its ref's path where the head has no version
-abbrev pub PersonOf : Files → List ℕ → HeadEntry → Result Person Stop → Type 0
-PersonOf files folder e (Ok person) = Shows (objects_in files folder) e.id e.name person
-PersonOf files folder e (Err stop.Memory) = ⊤
-PersonOf files folder e (Err stop.Disk) = ⊤
-PersonOf files folder e (Err (stop.Refused (refusal.Damaged path))) =
-    (path ≡ joined folder (ref_place side.Identities e.id)) × (fault : IdentityFault) × HasNoVersion (objects_in files folder) e.name fault
-PersonOf files folder e (Err _) = ⊥
+-- the head that a person was read of
+abbrev pub head_shown : Person → HeadEntry
+head_shown person = record { id = person.id; name = person.head }
 
--- the people of these heads, or the path of one's ref
-abbrev pub PeopleOf : Files → List ℕ → List HeadEntry → Result (Vec Person Global) Stop → Type 0
-PeopleOf files folder heads (Ok people) = AllShow (objects_in files folder) heads people.items
-PeopleOf files folder heads (Err stop.Memory) = ⊤
-PeopleOf files folder heads (Err stop.Disk) = ⊤
-PeopleOf files folder heads (Err (stop.Refused (refusal.Damaged path))) =
-    (e : HeadEntry) × Contains heads e × (path ≡ joined folder (ref_place side.Identities e.id)) × (fault : IdentityFault) × HasNoVersion (objects_in files folder) e.name fault
-PeopleOf files folder heads (Err _) = ⊥
+-- a ref is no ref text, or its head has no version
+abbrev pub IsBadFound : Objects → RefFound → Type 0
+IsBadFound objects found.Bad = ⊤
+IsBadFound objects (found.Head name) = (fault : IdentityFault) × HasNoVersion objects name fault
+
+-- the person of an identity's head, or its ref's path where the head has no version
+abbrev pub PersonAt : Files → List ℕ → HeadEntry → Result Person Stop → Type 0
+PersonAt files folder e (Ok person) = Shows (objects_in files folder) e.id e.name person
+PersonAt files folder e (Err stop.Memory) = ⊤
+PersonAt files folder e (Err stop.Disk) = ⊤
+PersonAt files folder e (Err (stop.Refused (refusal.Damaged path))) =
+    (path ≡ joined folder (ref_place side.Identities e.id)) × (fault : IdentityFault) × HasNoVersion (objects_in files folder) e.name fault
+PersonAt files folder e (Err _) = ⊥
+
+-- the person of an identity's ref, or the ref's path where it is no ref text or its head has no version
+abbrev pub PersonOf : Files → List ℕ → RefEntry → Result Person Stop → Type 0
+PersonOf files folder entry (Ok person) = (as_entry (head_shown person) ≡ entry) × Shows (objects_in files folder) person.id person.head person
+PersonOf files folder entry (Err stop.Memory) = ⊤
+PersonOf files folder entry (Err stop.Disk) = ⊤
+PersonOf files folder entry (Err (stop.Refused (refusal.Damaged path))) =
+    (path ≡ joined folder (ref_place side.Identities entry.id)) × IsBadFound (objects_in files folder) entry.found
+PersonOf files folder entry (Err _) = ⊥
+
+-- people of the heads that they were read of, which are those of the first of some refs
+pub record ArePersons (objects : Objects) (entries : List RefEntry) (people : List Person) : Type 0 where
+  pub heads : map as_entry (map head_shown people) ≡ entries
+  pub shown : AllShow objects (map head_shown people) people
+
+-- the people of these refs, or the path of the first that is damaged
+abbrev pub PeopleOf : Files → List ℕ → List RefEntry → Result (Vec Person Global) Stop → Type 0
+PeopleOf files folder entries (Ok people) = ArePersons (objects_in files folder) entries people.items
+PeopleOf files folder entries (Err stop.Memory) = ⊤
+PeopleOf files folder entries (Err stop.Disk) = ⊤
+PeopleOf files folder entries (Err (stop.Refused (refusal.Damaged path))) =
+    (people : List Person) × (entry : RefEntry) × IsBehind entries (map head_shown people) entry × AllShow (objects_in files folder) (map head_shown people) people
+    × (path ≡ joined folder (ref_place side.Identities entry.id)) × IsBadFound (objects_in files folder) entry.found
+PeopleOf files folder entries (Err _) = ⊥

@@ -1,5 +1,6 @@
 -- The refs of a folder: where those of each side stand, and what they read as.
 use Rattle.std.specs.Prelude.{◌≡◌, ◌↔◌, ℕ, List, ◌++◌, codes, map, Contains, Bool, true, false, IsTrue, Option, Some, None, option_and_then, if◌then◌else◌}
+use Rattle.std.specs.declared.cmp.Ordering.TheVariants.{Less}
 use Rattle.std.specs.Cmp.Lexicographic.{slice_cmp}
 use Rattle.std.specs.List.Sorted.{IsStrictlySortedBy}
 use Rattle.std.specs.Ordering.{nat_cmp}
@@ -59,3 +60,13 @@ pub record AreHeads (files : Files) (folder : List ℕ) (of : Side) (heads : Lis
   pub rising : IsStrictlySortedBy (slice_cmp nat_cmp) (map (λ (e : HeadEntry). e.id.bytes) heads)
   pub members : (e : HeadEntry) → Contains heads e ↔ (IsId e.id × (head_at files folder of e.id ≡ Head e.name))
   pub none_bad : AllRead files folder of
+
+-- an id stands before another in the order of their bytes
+abbrev pub IsBefore : Id → Id → Type 0
+IsBefore one other = slice_cmp nat_cmp one.bytes other.bytes ≡ Less
+
+-- the first id, in that order, of which something is so
+pub record IsFirst (IsSo : Id → Type 0) (id : Id) : Type 0 where
+  pub is_id : IsId id
+  pub is_so : IsSo id
+  pub none_before : (other : Id) → IsId other → IsSo other → IsBefore other id → ⊥

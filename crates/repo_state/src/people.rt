@@ -2,20 +2,21 @@
 ghost use Rattle.std.specs.Prelude.{◌≡◌, ◌≤◌, ◌+◌, ◌*◌, length, IsTrue, IsErrOf};
 ghost use Rattle.gb_store.specs.Faults.{KeepsFaults};
 ghost use Rattle.gb_store.specs.Files.{files_of};
-ghost use Rattle.repo_state.specs.Answers.{HasBadPerson, OnlyDamaged, PeopleOf, PersonOf, Reads, ReadsPeople};
+ghost use Rattle.repo_state.specs.Answers.{HasBadPerson, OnlyDamaged, PeopleOf, PersonAt, PersonOf, Reads, ReadsPeople};
 ghost use Rattle.repo_state.specs.People.{ArePeople};
 
-use crate::refs::{damaged, heads};
+use crate::refs::{damaged, entries, head_of};
 use crate::refusal::Stop;
 use crate::side::{HeadEntry, Side};
 use gb_store::Store;
 use gb_text::{Folder, List};
 use identity::{IdentityFault, Person, read_last};
+use ref_store::RefEntry;
 use std::alloc::Global;
 
 /// The people of the folder: whom the last version of each local identity shows, in the order of
-/// ids. At most three objects are read for each. `Damaged`, with the path of the ref, only where a
-/// ref is no ref text or its head has no version.
+/// ids. At most three objects are read for each. `Damaged`, with the path of the ref, of the first
+/// identity in that order whose ref is no ref text or whose head has no version.
 pub fn names<S: Store>(alloc: Global, disk: &mut S, folder: &Folder) -> Result<List<Person>, Stop>
     ensures answers { IsTrue S.tells
         → Reads (ArePeople (files_of (S.history disk.old)) folder.now) (HasBadPerson (files_of
@@ -28,42 +29,61 @@ pub fn names<S: Store>(alloc: Global, disk: &mut S, folder: &Folder) -> Result<L
     ensures caused { KeepsFaults S.never_fails S.faults
         (IsErrOf result Stop.Disk) disk.old disk.new }
 {
-    let heads = heads(alloc, disk, folder, &Side::Identities)?;
-    let people = people_of(alloc, disk, folder, heads.as_slice())?;
+    let entries = entries(alloc, disk, folder, &Side::Identities)?;
+    let people = people_of(alloc, disk, folder, entries.as_slice())?;
     Ok(List::from_vec(people))
 }
 
-// The people of these heads.
+// The people of these refs.
 fn people_of<S: Store>(
     alloc: Global,
     disk: &mut S,
     folder: &Folder,
-    heads: &[HeadEntry],
+    entries: &[RefEntry],
 ) -> Result<Vec<Person>, Stop>
     ensures answers { IsTrue S.tells
-        → PeopleOf (files_of (S.history disk.old)) folder.now heads.now result }
+        → PeopleOf (files_of (S.history disk.old)) folder.now entries.now result }
     ensures only_damaged { OnlyDamaged result }
     ensures unwritten { IsTrue S.tells → S.history disk.new ≡ S.history disk.old }
-    ensures reads { S.object_reads disk.new ≤ S.object_reads disk.old + 3 * length heads.now }
+    ensures reads { S.object_reads disk.new ≤ S.object_reads disk.old + 3 * length entries.now }
     ensures caused { KeepsFaults S.never_fails S.faults
         (IsErrOf result Stop.Disk) disk.old disk.new }
 {
     let mut people = Vec::new(alloc);
-    for entry in heads {
+    for entry in entries {
         people.push(person_of(alloc, disk, folder, entry)?)?;
     }
     Ok(people)
 }
 
-// The person that a head shows.
+// The person that the head of a ref shows.
 fn person_of<S: Store>(
+    alloc: Global,
+    disk: &mut S,
+    folder: &Folder,
+    entry: &RefEntry,
+) -> Result<Person, Stop>
+    ensures answers { IsTrue S.tells
+        → PersonOf (files_of (S.history disk.old)) folder.now entry.now result }
+    ensures only_damaged { OnlyDamaged result }
+    ensures unwritten { IsTrue S.tells → S.history disk.new ≡ S.history disk.old }
+    ensures reads { S.object_reads disk.new ≤ S.object_reads disk.old + 3 }
+    ensures caused { KeepsFaults S.never_fails S.faults
+        (IsErrOf result Stop.Disk) disk.old disk.new }
+{
+    let head = head_of(alloc, folder, &Side::Identities, entry)?;
+    person_at(alloc, disk, folder, &head)
+}
+
+// The person that a head shows.
+fn person_at<S: Store>(
     alloc: Global,
     disk: &mut S,
     folder: &Folder,
     entry: &HeadEntry,
 ) -> Result<Person, Stop>
     ensures answers { IsTrue S.tells
-        → PersonOf (files_of (S.history disk.old)) folder.now entry.now result }
+        → PersonAt (files_of (S.history disk.old)) folder.now entry.now result }
     ensures only_damaged { OnlyDamaged result }
     ensures unwritten { IsTrue S.tells → S.history disk.new ≡ S.history disk.old }
     ensures reads { S.object_reads disk.new ≤ S.object_reads disk.old + 3 }

@@ -195,8 +195,8 @@ pub fn head<S: Store>(
     Ok(read_ref(alloc, disk, folder, side, id)?)
 }
 
-/// The heads of a side, with their ids and in the order of these. `Damaged`, with the path of a ref
-/// that is no ref text, exactly where there is one.
+/// The heads of a side, with their ids and in the order of these. `Damaged`, with the path of the
+/// first ref that is no ref text, exactly where there is one.
 pub fn heads<S: Store>(
     alloc: Global,
     disk: &mut S,
@@ -314,8 +314,8 @@ fn read_ref<S: Store>(
     ref_store::get(alloc, disk, folder, place.as_str())
 }
 
-// The refs of a side.
-fn entries<S: Store>(
+// The refs of a side, in the order of ids.
+pub(crate) fn entries<S: Store>(
     alloc: Global,
     disk: &mut S,
     folder: &Folder,
@@ -361,7 +361,12 @@ fn heads_of(
 }
 
 // The head of a ref.
-fn head_of(alloc: Global, folder: &Folder, side: &Side, entry: &RefEntry) -> Result<HeadEntry, Stop>
+pub(crate) fn head_of(
+    alloc: Global,
+    folder: &Folder,
+    side: &Side,
+    entry: &RefEntry,
+) -> Result<HeadEntry, Stop>
     ensures { HeadOf folder.now side.now entry.now result }
 {
     match entry.found {
