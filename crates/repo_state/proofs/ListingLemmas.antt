@@ -2,14 +2,17 @@
 use Rattle.std.proofs.Common.{◌≡◌, ℕ, inl, inr, zero, suc, List, [], ◌∷◌, ◌++◌, map, Some, Err, refl, sym, ◌∙◌, ap, subst, arith}
 use Rattle.std.specs.Prelude.{Contains, IsTrue}
 use Rattle.std.specs.List.{AllByRecursion}
-use Rattle.std.specs.declared.cmp.Ordering.TheVariants.{Less}
+use Rattle.std.specs.declared.cmp.Ordering.{Ordering}
+use Rattle.std.specs.declared.cmp.Ordering.TheVariants.{Equal, Greater, Less}
 use Rattle.std.proofs.lemmas.Cmp.{nat_list_cmp_total, tied_itself}
 use Rattle.std.proofs.lemmas.List.{map-append}
 use Rattle.std.proofs.lemmas.List.Elements.{All-contains, All-from_recursion, Contains-append_cases, Contains-append_left, Contains-append_right}
 use Rattle.std.proofs.lemmas.Simd.{map-map}
 use Rattle.std.specs.Cmp.Lexicographic.{slice_cmp}
 use Rattle.std.specs.List.Sorted.{IsStrictlySortedBy}
-use Rattle.std.specs.Ordering.{nat_cmp}
+use Rattle.std.specs.Ordering.{is_eq, nat_cmp, ordering_reverse}
+use Rattle.std.proofs.lemmas.Map.Text.{is_eq-slice_cmp}
+use Rattle.std.proofs.lemmas.Slice.Eq.{bytes_eq-Decides}
 use Rattle.gb_text.specs.Digits.{IsId}
 use Rattle.gb_text.specs.declared.id.Id.{Id}
 use Rattle.gb_text.specs.declared.id.Name.{Name}
@@ -60,6 +63,17 @@ not_before_itself x less = let tied = tied_itself nat_list_cmp_total x in cc (le
 
 not_both_before : (x y : List ℕ) → slice_cmp nat_cmp x y ≡ Less → slice_cmp nat_cmp y x ≡ Less → ⊥
 not_both_before x y one other = let turned = nat_list_cmp_total.antisymm x y in cc (one, other, turned)
+
+-- there is one first id of which something is so
+pub one_first : (IsSo : Id → Type 0) (one two : Id) → IsFirst IsSo one → IsFirst IsSo two → one ≡ two
+one_first IsSo one two first second = by_order (slice_cmp nat_cmp one.bytes two.bytes) refl
+  where
+    by_order : (o : Ordering) → slice_cmp nat_cmp one.bytes two.bytes ≡ o → one ≡ two
+    by_order Less is = absurd (second.none_before one first.is_id first.is_so is)
+    by_order Equal is =
+        let same = (bytes_eq-Decides one.bytes two.bytes).0 (sym (is_eq-slice_cmp one.bytes two.bytes) ∙ ap is_eq is) in
+        λ i. record { bytes = same i }
+    by_order Greater is = absurd (first.none_before two second.is_id second.is_so (nat_list_cmp_total.antisymm two.bytes one.bytes ∙ ap ordering_reverse is))
 
 -- ---- refs
 

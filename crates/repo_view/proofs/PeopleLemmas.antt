@@ -2,6 +2,7 @@
 use Rattle.std.proofs.Common.{◌≡◌, ℕ, inl, inr, List, [], ◌∷◌, map, Contains, Option, Some, None, refl, sym, ◌∙◌, ap, subst, arith}
 use Rattle.std.proofs.lemmas.Cmp.{nat_list_cmp_total}
 use Rattle.std.proofs.lemmas.Option.{same_Some}
+use Rattle.gb_text.specs.Folder.{joined}
 use Rattle.gb_text.specs.declared.id.Id.{Id}
 use Rattle.gb_text.proofs.SortedLemmas.{same_elements}
 use Rattle.gb_store.specs.Files.{Files}
@@ -13,14 +14,14 @@ use Rattle.identity.specs.Version.{person_name}
 use Rattle.identity.specs.declared.chain.Person.{Person}
 use Rattle.identity.specs.declared.version.Version.{Version}
 use Rattle.identity.proofs.NoFaultLemmas.{no_fault_at}
-use Rattle.repo_state.specs.Answers.{HasBadPerson, IsBadUser, IsUser}
+use Rattle.repo_state.specs.Answers.{HasBadPerson, IsBadPerson, IsBadUser, IsUser}
 use Rattle.repo_state.specs.People.{AllShow, ArePeople}
-use Rattle.repo_state.specs.Sides.{AreHeads, head_at}
+use Rattle.repo_state.specs.Sides.{AreHeads, head_at, ref_place}
 use Rattle.repo_state.specs.Users.{BadUser, NoUser, User}
 use Rattle.repo_state.specs.declared.side.HeadEntry.{HeadEntry}
 use Rattle.repo_state.specs.declared.side.Side.{Side}
 use Rattle.repo_state.specs.declared.side.Side.TheVariants as side
-use Rattle.repo_state.proofs.ListingLemmas.{Contains-from_map, Contains-map}
+use Rattle.repo_state.proofs.ListingLemmas.{Contains-from_map, Contains-map, one_first}
 
 -- ---- one list of heads
 
@@ -89,11 +90,19 @@ shown_at objects (h ∷ hs) (p ∷ ps) e shown has = elim (Contains-cons_cases h
 ]
 
 pub no_bad_among : (files : Files) (folder path : List ℕ) (people : List Person) → ArePeople files folder people → HasBadPerson files folder path → ⊥
-no_bad_among files folder path people are (id, is, at, inl bad) = are.are_heads.none_bad id is bad
-no_bad_among files folder path people are (id, is, at, inr (head, has, fault, none)) =
-    let e : HeadEntry = record { id = id; name = head } in
-    let shows = shown_at (objects_in files folder) are.heads people e are.shown ((are.are_heads.members e).1 (is, has)) in
-    no_fault_at (objects_in files folder) head shows.1.version fault shows.1.has none
+no_bad_among files folder path people are (id, first, at) = not_bad first.is_so
+  where
+    not_bad : IsBadPerson files folder id → ⊥
+    not_bad (inl bad) = are.are_heads.none_bad id first.is_id bad
+    not_bad (inr (head, has, fault, none)) =
+        let e : HeadEntry = record { id = id; name = head } in
+        let shows = shown_at (objects_in files folder) are.heads people e are.shown ((are.are_heads.members e).1 (first.is_id, has)) in
+        no_fault_at (objects_in files folder) head shows.1.version fault shows.1.has none
+
+-- one path is told of a damaged person
+pub one_bad_person : (files : Files) (folder one two : List ℕ) → HasBadPerson files folder one → HasBadPerson files folder two → one ≡ two
+one_bad_person files folder one two (id, first, at) (other, second, there) =
+    at ∙ ap (λ (i : Id). joined folder (ref_place side.Identities i)) (one_first (IsBadPerson files folder) id other first second) ∙ sym there
 
 -- ---- the user
 

@@ -22,7 +22,7 @@ use Rattle.snapshot.specs.LastMention.{IsBugList, actors_of, author_of, commente
 use Rattle.render.specs.Lines.{name_among, told_line}
 use Rattle.render.specs.Show.{comment_lines, person_line, person_lines, show_text_of}
 use Rattle.render.specs.Users.{users_text_of}
-use Rattle.repo_state.specs.Answers.{HasBadPerson}
+use Rattle.repo_state.specs.Answers.{HasBadPerson, IsBadPerson}
 use Rattle.repo_state.specs.Bugs.{AreLocal, FindsBug, IsDamagedBug}
 use Rattle.repo_state.specs.Sides.{found_by, ref_place}
 use Rattle.repo_state.specs.Sound.{IsSound, IsSoundIdentity}
@@ -35,7 +35,7 @@ use Rattle.repo_state.specs.declared.side.Side.TheVariants as side
 use Rattle.repo_state.proofs.BugLemmas.{bug_no_fault, bug_not_damaged, one_bug}
 use Rattle.repo_state.proofs.UndamagedLemmas.{no_bad_found}
 use Rattle.repo_view.specs.Shown.{AgreeOnAuthors, HaveSameCommits, IsShown, ShowAnswers, UsersAnswers}
-use Rattle.repo_view.proofs.PeopleLemmas.{no_bad_among, one_people, one_user, user_not_bad}
+use Rattle.repo_view.proofs.PeopleLemmas.{no_bad_among, one_bad_person, one_people, one_user, user_not_bad}
 
 -- ---- lists
 
@@ -202,11 +202,14 @@ one_users files folder one two first second =
 
 -- each identity's ref reads, and its head has a version
 no_bad_person : (files : Files) (folder path : List ℕ) → IsSound folder files → HasBadPerson files folder path → ⊥
-no_bad_person files folder path sound (id, is, at, inl bad) = subst (IsSoundIdentity (objects_in files folder) id) bad (sound parts.Identities id is)
-no_bad_person files folder path sound (id, is, at, inr (head, has, fault, none)) =
-    let chain : IsChain (objects_in files folder) id head = subst (IsSoundIdentity (objects_in files folder) id) has (sound parts.Identities id is) in
-    let version = chain.each head (record { above = []; chain = refl; near = omega arith }) in
-    no_fault_at (objects_in files folder) head version.0 fault version.1 none
+no_bad_person files folder path sound (id, first, at) = not_bad first.is_so
+  where
+    not_bad : IsBadPerson files folder id → ⊥
+    not_bad (inl bad) = subst (IsSoundIdentity (objects_in files folder) id) bad (sound parts.Identities id first.is_id)
+    not_bad (inr (head, has, fault, none)) =
+        let chain : IsChain (objects_in files folder) id head = subst (IsSoundIdentity (objects_in files folder) id) has (sound parts.Identities id first.is_id) in
+        let version = chain.each head (record { above = []; chain = refl; near = omega arith }) in
+        no_fault_at (objects_in files folder) head version.0 fault version.1 none
 
 -- so no bug is refused for damage
 pub show_not_damaged : (files : Files) (folder word path : List ℕ) → IsSound folder files → ShowAnswers files folder word (Err (stop.Refused (refusal.Damaged path))) → ⊥

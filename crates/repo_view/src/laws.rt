@@ -33,11 +33,14 @@ pub fn a_log_has_no_fault()
         → LogAnswers files folder word (Err (stop.Refused refusal)) → ⊥ }
 {}
 
-/// `log` may answer one text at most for the same files, folder and word.
+/// `log` may answer one text at most, and one refusal, for the same files, folder and word.
 pub fn logs_are_determined()
-    ensures { (files : Files) (folder word one two : List ℕ)
+    ensures told { (files : Files) (folder word one two : List ℕ)
         → LogAnswers files folder word (Ok one) → LogAnswers files folder word (Ok two)
         → one ≡ two }
+    ensures refused { (files : Files) (folder word : List ℕ) (one two : Refusal)
+        → LogAnswers files folder word (Err (stop.Refused one))
+        → LogAnswers files folder word (Err (stop.Refused two)) → one ≡ two }
 {}
 
 /// In a sound folder `log` is not refused for damage.
@@ -79,14 +82,20 @@ pub fn the_first_damage_is_told()
         → HasBadPerson files folder path }
 {}
 
-/// `show` may answer one text at most for the same files, folder and word, and `users` one for the
-/// same files and folder.
+/// `show` may answer one text at most, and one refusal, for the same files, folder and word, and
+/// `users` one of each for the same files and folder. So of several damaged identities one is told.
 pub fn shown_texts_are_determined()
     ensures show { (files : Files) (folder word one two : List ℕ)
         → ShowAnswers files folder word (Ok one) → ShowAnswers files folder word (Ok two)
         → one ≡ two }
     ensures users { (files : Files) (folder one two : List ℕ)
         → UsersAnswers files folder (Ok one) → UsersAnswers files folder (Ok two) → one ≡ two }
+    ensures show_refused { (files : Files) (folder word : List ℕ) (one two : Refusal)
+        → ShowAnswers files folder word (Err (stop.Refused one))
+        → ShowAnswers files folder word (Err (stop.Refused two)) → one ≡ two }
+    ensures users_refused { (files : Files) (folder : List ℕ) (one two : Refusal)
+        → UsersAnswers files folder (Err (stop.Refused one))
+        → UsersAnswers files folder (Err (stop.Refused two)) → one ≡ two }
 {}
 
 /// Bugs with the same operation commits are shown as the same text, in whatever folders they stand,
