@@ -4,6 +4,7 @@ pub mod BugSoundLemmas
 pub mod ClockFileLemmas
 pub mod EmptyLemmas
 pub mod EntryLemmas
+pub mod Examples
 pub mod FoundLemmas
 pub mod HeadIdLemmas
 pub mod IdLemmas

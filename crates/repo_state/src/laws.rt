@@ -1,6 +1,6 @@
 //! Laws of a folder's state, each the contract of a function that does nothing.
-ghost use Rattle.std.specs.Prelude.{◌≡◌, ◌≢◌, ◌↔◌, ◌≤◌, ◌++◌, [], List, ℕ, IsTrue, Some, None, codes, map, reverse};
-ghost use Rattle.std.specs.List.{repeat};
+ghost use Rattle.std.specs.Prelude.{◌≡◌, ◌≢◌, ◌↔◌, ◌≤◌, ◌++◌, [], ◌∷◌, List, ℕ, IsTrue, Some, None, codes, map, reverse};
+ghost use Rattle.std.specs.List.{AllByRecursion, repeat};
 ghost use Rattle.gb_text.specs.Digits.{IsId, IsName};
 ghost use Rattle.gb_text.specs.Folder.{joined};
 ghost use Rattle.gb_text.specs.declared.id.Id.{Id};
@@ -60,7 +60,8 @@ pub fn users_have_their_heads()
         → user_entry files folder ≡ Some (record { id = id; name = head }) }
 {}
 
-/// The name of a remote has 1 to 64 bytes, among them letters, digits, `_` and `-`, and no dot or slash.
+/// The name of a remote has 1 to 64 bytes. By their edges: letters, digits, `_` and `-` are among these,
+/// and what stands beside them is not, nor are white space, dots, slashes and bytes above 127.
 pub fn remote_names_are_known()
     ensures longest { IsRemoteName (repeat 64 (codes "a")) }
     ensures longer { IsRemoteName (repeat 65 (codes "a")) → ⊥ }
@@ -68,6 +69,9 @@ pub fn remote_names_are_known()
     ensures signs { IsRemoteName (codes "Az_-09") }
     ensures dots { IsRemoteName (codes "a.b") → ⊥ }
     ensures slashes { IsRemoteName (codes "a/b") → ⊥ }
+    ensures edges { IsRemoteName (codes "09AZaz_-") }
+    ensures beside { AllByRecursion (λ c. IsRemoteName (c ∷ []) → ⊥)
+        (0 ∷ 10 ∷ 32 ∷ 44 ∷ 46 ∷ 47 ∷ 58 ∷ 64 ∷ 91 ∷ 94 ∷ 96 ∷ 123 ∷ 127 ∷ 128 ∷ 195 ∷ []) }
 {}
 
 /// A head that was set reads as it was set, and every other head, the user and the clocks as before;
