@@ -1,16 +1,19 @@
 -- Worked examples of the definitions, computed.
-use Rattle.std.specs.Prelude.{◌≡◌, ◌++◌, codes, [], ◌∷◌, Some, None, pos, negsuc}
+use Rattle.std.specs.Prelude.{◌≡◌, ◌++◌, ℕ, List, codes, map, [], ◌∷◌, Some, None, Ok, Err, pos, negsuc}
 use Rattle.std.specs.Fmt.{digits}
 use Rattle.std.specs.List.{repeat}
 use Rattle.std.proofs.Common.{refl}
 use Rattle.hex.proofs.OnLiterals.{hex_on_literals}
-use Rattle.repo_state.specs.declared.refusal.Refusal.TheVariants.{BadFolder, BadText, ClockFull, Damaged, EntityExists, NameTaken, NoLabelChange, NoUser, NotFound, RepeatedOperation, SameStatus, TooLarge}
+use Rattle.repo_state.specs.declared.refusal.Refusal.TheVariants.{BadFolder, BadText, ClockFull, Damaged, EntityExists, NameTaken, NoLabelChange, NoUser, NotFound, RepeatedOperation, SameStatus, SomeRefused, TooLarge}
+use Rattle.repo_state.specs.Users.{id_line}
+use Rattle.repo_state.specs.declared.refusal.Stop.TheVariants as stop
 use Rattle.bug_ops.specs.declared.op.BugStatus.TheVariants.{Closed, Opened}
 use Rattle.repo_steps.specs.declared.edit.BugEdit.TheVariants.{AddLabels, Comment, Metadata, Noop, RemoveLabels, Status, Title}
 use Rattle.repo_steps.specs.declared.edit.Edit.TheVariants.{New, OfBug, UserEdit, UserNew, UserSet}
-use Rattle.bug_run.specs.Refusals.{refusal_line}
-use Rattle.bug_run.specs.Run.{moment}
+use Rattle.bug_run.specs.Refusals.{refusal_line, usage_text}
+use Rattle.bug_run.specs.Run.{moment, status_of, text_of}
 use Rattle.bug_run.specs.Words.{request_of}
+use Rattle.bug_run.specs.declared.status.Status.TheVariants as status
 use Rattle.bug_run.specs.declared.words.Command.TheVariants.{Edit, Log, Show, Users}
 
 -- what words ask
@@ -77,6 +80,18 @@ words_labels = refl
 words_label_off : request_of (codes "f" ∷ codes "label-rm" ∷ codes "b" ∷ codes "x" ∷ []) ≡ Some (record { folder = codes "f"; command = Edit (OfBug (codes "b") (RemoveLabels (codes "x" ∷ []))) })
 words_label_off = refl
 
+words_labels_off : request_of (codes "f" ∷ codes "label-rm" ∷ codes "b" ∷ codes "x" ∷ codes "y" ∷ codes "x" ∷ []) ≡ Some (record { folder = codes "f"; command = Edit (OfBug (codes "b") (RemoveLabels (codes "x" ∷ codes "y" ∷ codes "x" ∷ []))) })
+words_labels_off = refl
+
+words_no_label_off : request_of (codes "f" ∷ codes "label-rm" ∷ codes "b" ∷ []) ≡ None
+words_no_label_off = refl
+
+words_of_other_commands : map (λ (word : List ℕ). request_of (codes "f" ∷ word ∷ codes "b" ∷ [])) (codes "ls" ∷ codes "merge" ∷ codes "edit" ∷ codes "board" ∷ codes "log " ∷ [] ∷ []) ≡ repeat 6 (None ∷ [])
+words_of_other_commands = refl
+
+words_of_other_commands_alone : map (λ (word : List ℕ). request_of (codes "f" ∷ word ∷ [])) (codes "ls" ∷ codes "user" ∷ codes "user-ls" ∷ codes "board" ∷ [] ∷ []) ≡ repeat 5 (None ∷ [])
+words_of_other_commands_alone = refl
+
 words_no_label : request_of (codes "f" ∷ codes "label-add" ∷ codes "b" ∷ []) ≡ None
 words_no_label = refl
 
@@ -89,6 +104,27 @@ moment_now = refl
 
 moment_before : moment (negsuc 0) ≡ 0
 moment_before = refl
+
+moment_long_before : moment (negsuc 9223372036854775807) ≡ 0
+moment_long_before = refl
+
+-- what is told where the words give no command
+usage_line : usage_text ≡ codes "usage: gitbug FOLDER COMMAND ARGUMENTS\n"
+usage_line = refl
+
+-- what an edit tells: the digits of its id, and no refusal; each with its status
+edit_line : text_of (Ok (record { text = id_line (record { bytes = repeat 32 (10 ∷ []) }); refused = 0 })) ≡ repeat 32 (codes "0a") ++ codes "\n"
+unfolding hex_on_literals
+edit_line = refl
+
+status_of_one_done : status_of (Ok (record { text = codes "x\n"; refused = 0 })) ≡ status.Done
+status_of_one_done = refl
+
+status_of_refused_lines : status_of (Ok (record { text = codes "x\n"; refused = 2 })) ≡ status.Refused (SomeRefused 2)
+status_of_refused_lines = refl
+
+status_of_a_fault : status_of (Err stop.Disk) ≡ status.DiskFault
+status_of_a_fault = refl
 
 -- lines of refusals
 line_of_a_text : refusal_line (BadText 2) ≡ codes "refused 4 bad text 2\n"

@@ -126,3 +126,39 @@ shown_open : show_text_of open_bug (ana ∷ bo ∷ []) ≡
     ++ codes "comment acacacaaac" ++ repeat 10 (codes "aaaac") ++ codes "aaaa Ana 3\n    \n"
 unfolding digits hex_on_literals json_on_literals combined_from
 shown_open = refl
+
+-- a stranger, whose id begins with unlike digits, and two persons with one id, of whom the first is named; two labels, two pairs and two participants in the
+-- order given; and a message with a return, which stays, and a line feed at its end, behind which an empty line stands
+abbrev stranger : Id
+stranger = record { bytes = 1 ∷ 35 ∷ 69 ∷ 103 ∷ repeat 28 (137 ∷ []) }
+
+abbrev other_ana : Person
+other_ana = record { id = id_of 160; head = name_of 1; name = codes "Other"; email = [] }
+
+abbrev strange_bug : Snapshot
+strange_bug = record {
+  row = record {
+    id = id_of 170;
+    title = codes "t";
+    status = Opened;
+    labels = codes "b" ∷ codes "a" ∷ [];
+    author = stranger;
+    actors = stranger ∷ [];
+    participants = id_of 160 ∷ stranger ∷ [];
+    create = 1;
+    edit = 3;
+    first = 0;
+    last = 9;
+    comments = 1;
+    metadata = record { key = codes "k"; value = codes "\"v\"" } ∷ record { key = codes "j"; value = [] } ∷ [];
+  };
+  list = record { id = id_of 187; author = stranger; time = 0; message = codes "a\r\n" } ∷ [];
+}
+
+shown_stranger : show_text_of strange_bug (bo ∷ ana ∷ other_ana ∷ []) ≡
+    codes "bug " ++ repeat 32 (codes "aa")
+    ++ codes "\ntitle t\nstatus open\nlabel b\nlabel a\nauthor 0123456\ncreated 1 0\nedited 3 9\nactor 0123456\nparticipant Ana\nparticipant 0123456\n"
+    ++ codes "metadata \"k\" \"\\\"v\\\"\"\nmetadata \"j\" \"\"\n"
+    ++ codes "comment abababaaab" ++ repeat 10 (codes "aaaab") ++ codes "aaaa 0123456 0\n    a\r\n    \n"
+unfolding digits hex_on_literals json_on_literals combined_from
+shown_stranger = refl

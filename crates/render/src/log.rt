@@ -3,12 +3,19 @@ ghost use Rattle.std.specs.Prelude.{◌≡◌, ◌++◌, IfOk, OnOk, string_byte
 ghost use Rattle.render.specs.Log.{log_line, log_text_of};
 
 use bug_ops::BugOp;
-use dag_entity::Placed;
+use dag_entity::{Entity, Placed};
 use gb_text::{Memory, Text, push_line_end, push_name, push_number};
 use std::alloc::{AllocError, Global};
 
-/// The lines of these packs: of each its edit clock and the name of its commit.
-pub fn log_text(alloc: Global, packs: &[Placed<BugOp>]) -> Result<Text, Memory>
+/// A line for each commit of the entity, in the order of its packs: the edit clock and the name.
+pub fn log_text(alloc: Global, entity: &Entity<BugOp>) -> Result<Text, Memory>
+    ensures { IfOk result (λ text. text ≡ log_text_of entity.now.packs) }
+{
+    packs_text(alloc, entity.packs.as_slice())
+}
+
+// The lines of these packs.
+fn packs_text(alloc: Global, packs: &[Placed<BugOp>]) -> Result<Text, Memory>
     ensures { IfOk result (λ text. text ≡ log_text_of packs.now) }
 {
     let mut text = String::new(alloc);

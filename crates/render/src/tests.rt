@@ -1,6 +1,6 @@
 use super::*;
 use bug_ops::{BugOp, BugStatus, Comment, Excerpt, Snapshot};
-use dag_entity::Placed;
+use dag_entity::{Entity, Placed};
 use gb_text::{Id, List, Name, Text};
 use identity::Person;
 use op_kind::Pair;
@@ -245,8 +245,16 @@ fn a_log_has_a_line_for_each_commit(rt: HostRuntime) -> Result<(), Fail> {
     let mut packs = Vec::new(alloc);
     packs.push(placed(alloc, 0xee, 2))?;
     packs.push(placed(alloc, 0x0f, 10))?;
+    let entity = Entity {
+        id: id(0),
+        heads: List::new(alloc),
+        edit: 10,
+        create: 1,
+        commits: 2,
+        packs: List::from_vec(packs),
+    };
     assert_eq!(rt;
-        log_text(alloc, &packs)?.as_str(),
+        log_text(alloc, &entity)?.as_str(),
         "2 eeeeeeeeeeeeeeeeeeeeeeeeeeeeeeeeeeeeeeee\n10 0f0f0f0f0f0f0f0f0f0f0f0f0f0f0f0f0f0f0f0f\n"
     );
     Ok(())

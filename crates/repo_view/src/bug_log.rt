@@ -57,5 +57,5 @@ fn log_of<S: Store>(
         disk.old disk.new }
 {
     let entity = bug_at(alloc, disk, folder, bug)?;
-    Ok(log_text(alloc, entity.packs.as_slice())?)
+    Ok(log_text(alloc, &entity)?)
 }
