@@ -17,7 +17,7 @@ use crate::told::{Answer, Told, id_line};
 use crate::words::{Command, Request, read_words};
 use gb_store::{Sink, Store};
 use gb_text::{Folder, FolderFault, LIMIT};
-use repo_edit::edit;
+use repo_edit::run_edit;
 use repo_state::{Env, Refusal, Stop};
 use repo_view::{log, show, users};
 use std::alloc::Global;
@@ -128,7 +128,7 @@ fn carry_out<S: Store>(
             Ok(all_done(Told::Text(text)))
         }
         Command::Edit(command) => {
-            let id = edit(alloc, disk, env, command)?;
+            let id = run_edit(alloc, disk, env, command)?;
             Ok(all_done(Told::Id(id)))
         }
     }

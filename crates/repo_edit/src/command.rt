@@ -15,7 +15,12 @@ use repo_steps::Edit;
 use std::alloc::Global;
 
 /// Does what a command says, and answers the id that it tells.
-pub fn edit<S: Store>(alloc: Global, disk: &mut S, env: &Env, command: &Edit) -> Result<Id, Stop>
+pub fn run_edit<S: Store>(
+    alloc: Global,
+    disk: &mut S,
+    env: &Env,
+    command: &Edit,
+) -> Result<Id, Stop>
     requires moment { env.now.now ≤ LIMIT }
     ensures answers { IsTrue S.tells
         → EditAnswers env.entry.now command.now (S.history disk.old) (S.history disk.new) result }

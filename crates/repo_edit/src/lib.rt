@@ -14,5 +14,5 @@ mod version;
 
 pub use bugs::{edit_bug, new_bug};
 pub use calls::{comment, label_add, label_rm, meta, noop, set_status, title};
-pub use command::edit;
+pub use command::run_edit;
 pub use people::{user_edit, user_new, user_set};

@@ -5,7 +5,7 @@ use Rattle.repo_steps.specs.BugEdits.{noop_op}
 use Rattle.repo_steps.specs.Doings.{BugEditAnswers, EditAnswers}
 use Rattle.repo_steps.specs.PeopleDoings.{edited_user, new_user, set_user}
 use Rattle.repo_steps.specs.declared.edit.Edit.{Edit}
-use Rattle.repo_edit.proofs.command.edit.Goals as goal
+use Rattle.repo_edit.proofs.command.run_edit.Goals as goal
 
 -- what is said of two texts is said of the words that they are
 by_words : (P : List ℕ → List ℕ → Type 0) (name n email e : List ℕ) → n ≡ name → e ≡ email → P n e → P name email
