@@ -1,5 +1,8 @@
 -- What a command answers is determined by the files, the words, the moment and the seed.
-use Rattle.std.proofs.Common.{◌≡◌, Ok, Err, sym, ◌∙◌, subst}
+use Rattle.std.proofs.Common.{◌≡◌, ◌++◌, Ok, Err, refl, sym, ◌∙◌, ap, subst}
+use Rattle.std.specs.Prelude.{codes}
+use Rattle.hex.specs.Hex.{encode_lower}
+use Rattle.gb_text.specs.declared.id.Id.{Id}
 use Rattle.gb_store.specs.Files.{Files, History, files_of}
 use Rattle.repo_state.specs.declared.env.Env.{Env}
 use Rattle.repo_state.specs.declared.refusal.Refusal.{Refusal}
@@ -8,9 +11,11 @@ use Rattle.repo_steps.proofs.ClearLemmas.{never_refused}
 use Rattle.repo_steps.proofs.DoneLemmas.{done_steps}
 use Rattle.repo_steps.proofs.StepLemmas.{steps-same}
 use Rattle.repo_steps.specs.Steps.{Steps}
+use Rattle.repo_steps.specs.declared.edit.Edit.{Edit as Edits}
 use Rattle.repo_view.specs.Log.{LogAnswers}
 use Rattle.repo_view.specs.Shown.{ShowAnswers, UsersAnswers}
 use Rattle.repo_view.proofs.LawLemmas.{no_refusal, one_log}
+use Rattle.repo_view.proofs.RefusalLemmas.{one_log_refusal, one_show_refusal, one_users_refusal}
 use Rattle.repo_view.proofs.ShownLemmas.{one_show, one_users, show_not_refused, users_not_refused}
 use Rattle.bug_run.specs.Run.{CommandAnswers}
 use Rattle.bug_run.specs.Told.{Said}
@@ -45,3 +50,19 @@ done_not_refused env Users old one two said r here there = users_not_refused (fi
 done_not_refused env (Show bug) old one two said r here there = show_not_refused (files_of old) env.folder bug said.text r here.0.0 there.0
 done_not_refused env (Log bug) old one two said r here there = no_refusal (files_of old) env.folder bug said.text r here.0.0 there.0
 done_not_refused env (Edit edit) old one two said r (id, (op, done), is) (other, refused) = never_refused env edit old r (op, done.may) (other, refused.0)
+
+-- one that edits nothing has one refusal
+pub one_refusal : (env : Env) (command : Command) (old elder one two : History) (first second : Refusal) → files_of old ≡ files_of elder
+    → ((edit : Edits) → command ≡ Edit edit → ⊥) → CommandAnswers env command old one (Err (stop.Refused first)) → CommandAnswers env command elder two (Err (stop.Refused second)) → first ≡ second
+one_refusal env Users old elder one two first second same reads here there =
+    one_users_refusal (files_of old) env.folder first second here.0 (subst (λ (files : Files). UsersAnswers files env.folder (Err (stop.Refused second))) (sym same) there.0)
+one_refusal env (Show bug) old elder one two first second same reads here there =
+    one_show_refusal (files_of old) env.folder bug first second here.0 (subst (λ (files : Files). ShowAnswers files env.folder bug (Err (stop.Refused second))) (sym same) there.0)
+one_refusal env (Log bug) old elder one two first second same reads here there =
+    one_log_refusal (files_of old) env.folder bug first second here.0 (subst (λ (files : Files). LogAnswers files env.folder bug (Err (stop.Refused second))) (sym same) there.0)
+one_refusal env (Edit edit) old elder one two first second same reads here there = absurd (reads edit refl)
+
+-- one that edits and is done tells the line of the id of its step
+pub tells_its_id : (env : Env) (edit : Edits) (old new : History) (said : Said) → CommandAnswers env (Edit edit) old new (Ok said)
+    → (id : Id) × Steps env edit (files_of old) (files_of new) id × (said.text ≡ encode_lower id.bytes ++ codes "\n") × (said.refused ≡ 0)
+tells_its_id env edit old new said (id, answers, is) = (id, done_steps env edit old new id answers, ap (λ (s : Said). s.text) is, ap (λ (s : Said). s.refused) is)

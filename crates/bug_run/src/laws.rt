@@ -1,9 +1,13 @@
 //! Laws of runs, each the contract of a function that does nothing.
-ghost use Rattle.std.specs.Prelude.{◌≡◌, List, ℕ, Some, None, Ok, Err};
+ghost use Rattle.std.specs.Prelude.{◌≡◌, ◌++◌, List, ℕ, Some, None, Ok, Err, codes};
+ghost use Rattle.hex.specs.Hex.{encode_lower};
 ghost use Rattle.gb_text.specs.Folder.{folder_of};
+ghost use Rattle.gb_text.specs.declared.id.Id.{Id};
 ghost use Rattle.gb_store.specs.Files.{History, files_of};
 ghost use Rattle.repo_state.specs.Sound.{IsSound};
 ghost use Rattle.repo_steps.specs.Kept.{LosesNothing};
+ghost use Rattle.repo_steps.specs.Steps.{Steps};
+ghost use Rattle.repo_steps.specs.declared.edit.Edit.{Edit as Edits};
 ghost use Rattle.repo_state.specs.declared.env.Env.{Env};
 ghost use Rattle.repo_state.specs.declared.refusal.Refusal.{Refusal};
 ghost use Rattle.repo_state.specs.declared.refusal.Refusal.TheVariants as refusal;
@@ -15,6 +19,7 @@ ghost use Rattle.bug_run.specs.Told.{Said};
 ghost use Rattle.bug_run.specs.declared.status.Status.{Status as StatusValue};
 ghost use Rattle.bug_run.specs.declared.status.Status.TheVariants as status;
 ghost use Rattle.bug_run.specs.declared.words.Command.{Command};
+ghost use Rattle.bug_run.specs.declared.words.Command.TheVariants as ask;
 ghost use Rattle.bug_run.specs.declared.words.Request.{Request};
 
 /// Whatever is run over a folder and over folders that do not overlap it, by whatever words, and
@@ -29,7 +34,8 @@ pub fn runs_keep_folders()
 
 /// From the same files and with the same words, moment and seed a command tells one text at most,
 /// whatever writes left the files so. And where it may be done, no refusal has a cause: so whether it is
-/// done or refused is determined, but for want of memory and faults of the disk.
+/// done or refused is determined, but for want of memory and faults of the disk. A command that edits
+/// nothing has one refusal too, so that all that it tells is determined.
 pub fn answers_are_determined()
     ensures told { (env : Env) (command : Command) (old elder one two : History)
         (first second : Said) → files_of old ≡ files_of elder
@@ -38,6 +44,20 @@ pub fn answers_are_determined()
     ensures refused { (env : Env) (command : Command) (old one two : History) (said : Said)
         (refusal : Refusal) → CommandAnswers env command old one (Ok said)
         → CommandAnswers env command old two (Err (stop.Refused refusal)) → ⊥ }
+    ensures one_refusal { (env : Env) (command : Command) (old elder one two : History)
+        (first second : Refusal) → files_of old ≡ files_of elder
+        → ((edit : Edits) → command ≡ ask.Edit edit → ⊥)
+        → CommandAnswers env command old one (Err (stop.Refused first))
+        → CommandAnswers env command elder two (Err (stop.Refused second)) → first ≡ second }
+{}
+
+/// A command that edits and is done tells the line of the id of what it made, and no line of it is a
+/// refusal.
+pub fn edits_tell_what_they_made()
+    ensures { (env : Env) (edit : Edits) (old new : History) (said : Said)
+        → CommandAnswers env (ask.Edit edit) old new (Ok said)
+        → (id : Id) × Steps env edit (files_of old) (files_of new) id
+        × (said.text ≡ encode_lower id.bytes ++ codes "\n") × (said.refused ≡ 0) }
 {}
 
 /// What the words alone decide, over every store: the usage is told exactly where they give no

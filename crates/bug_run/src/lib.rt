@@ -9,6 +9,8 @@ mod told;
 mod top;
 mod words;
 
-pub use laws::{answers_are_determined, runs_keep_folders, words_decide_first};
+pub use laws::{
+    answers_are_determined, edits_tell_what_they_made, runs_keep_folders, words_decide_first,
+};
 pub use status::Status;
 pub use top::run;
