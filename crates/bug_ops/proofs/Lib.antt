@@ -7,3 +7,4 @@ pub mod Folds
 pub mod KeyOrder
 pub mod LabelSets
 pub mod PairMaps
+pub mod Examples
