@@ -62,7 +62,8 @@ module _ (e : Common) (target : Id) (new : List ℕ) (files : _) where
   in_edited (NoOp c) later = refl
   in_edited (SetMetadata c t pairs) later = refl
 
-  all_edited : (ops : List BugOp) → comments_of (ops ++ EditComment e target new files ∷ []) ≡ map (edited target new) (comments_of ops)
+  -- The comments with an edit behind all others.
+  pub all_edited : (ops : List BugOp) → comments_of (ops ++ EditComment e target new files ∷ []) ≡ map (edited target new) (comments_of ops)
   all_edited [] = refl
   all_edited (p ∷ later) =
       ap (λ cs. cs ++ comments_of (later ++ EditComment e target new files ∷ [])) (in_edited p later)

@@ -4,3 +4,4 @@ pub mod LabelLemmas
 pub mod CommentLemmas
 pub mod MetadataLemmas
 pub mod StepLemmas
+pub mod EditLemmas

@@ -245,6 +245,7 @@ values_behind (p ∷ ps) qs key = by (is_at (by_bytes key) p.key) (values_behind
     by true rest = refl
     by false rest = rest
 
+-- An id is told to be itself.
 pub own_id : (id : Id) → same_id id id ≡ true
 own_id id = (bytes_eq-Decides id.bytes id.bytes).1 refl
 
@@ -269,7 +270,8 @@ pairs_set (o ∷ later) common pairs key bug =
     set_behind first later (SetMetadata common first.place.id pairs) key
     ∙ ap (λ (b : Bool). option_or (first_value (metadata_of first later) key) (first_value (if b then pairs else []) key)) (own_id first.place.id)
 
-other_id : (one other : Id) → one ≢ other → same_id one other ≡ false
+-- Ids that differ are told apart.
+pub other_id : (one other : Id) → one ≢ other → same_id one other ≡ false
 other_id one other differ = decide (same_id one other) refl
   where
     of_bytes : List ℕ → Id

@@ -1,1 +1,2 @@
 pub mod LastMention
+pub mod CommentEdits

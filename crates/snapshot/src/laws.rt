@@ -4,6 +4,7 @@ ghost use Rattle.std.specs.List.{AllByRecursion};
 ghost use Rattle.std.specs.List.Sorted.{IsStrictlySortedBy};
 ghost use Rattle.std.specs.Option.{option_or};
 ghost use Rattle.gb_text.specs.declared.id.Id.{Id as IdValue};
+ghost use Rattle.gb_text.specs.declared.id.Name.{Name as NameValue};
 ghost use Rattle.op_kind.specs.Fold.{state_from};
 ghost use Rattle.op_kind.specs.Pairs.{AreInKeyOrder};
 ghost use Rattle.op_kind.specs.declared.place.Common.{Common as CommonValue};
@@ -12,7 +13,10 @@ ghost use Rattle.bug_ops.specs.Kind.{bug_kind};
 ghost use Rattle.bug_ops.specs.Mentions.{is_among, StandOnce};
 ghost use Rattle.bug_ops.specs.Snapshots.{by_bytes, is_seen};
 ghost use Rattle.bug_ops.specs.declared.op.BugOp.{BugOp as OpValue};
+ghost use Rattle.bug_ops.specs.declared.op.BugOp.TheVariants.{SetTitle, SetStatus, EditComment};
 ghost use Rattle.bug_ops.specs.declared.op.BugOp.TheVariants.{NoOp, SetMetadata};
+ghost use Rattle.bug_ops.specs.declared.op.BugStatus.{BugStatus as StatusValue};
+ghost use Rattle.snapshot.specs.CommentEdits.{AreEdited};
 ghost use Rattle.snapshot.specs.LastMention.{IsBugList, IsLater, snapshot_of};
 ghost use Rattle.snapshot.specs.LastMention.{labels_of, label_is_on, each_once};
 ghost use Rattle.snapshot.specs.LastMention.{first_of_each, first_value};
@@ -95,6 +99,38 @@ pub fn persons_stand_once()
         → each_once (ids ++ id ∷ []) ≡ each_once ids ++ id ∷ [] }
     ensures again { (ids : List IdValue) (id : IdValue) → is_seen ids id ≡ true
         → each_once (ids ++ id ∷ []) ≡ each_once ids }
+{}
+
+/// A title, or a status, that was set last is the one that the bug has.
+pub fn what_was_set_last_holds()
+    ensures title { (ops : List OpValue) (common : CommonValue) (title was : List ℕ)
+        → IsBugList ops
+        → (snapshot_of (ops ++ SetTitle common title was ∷ [])).row.title ≡ title }
+    ensures status { (ops : List OpValue) (common : CommonValue) (status : StatusValue)
+        → IsBugList ops
+        → (snapshot_of (ops ++ SetStatus common status ∷ [])).row.status ≡ status }
+{}
+
+/// Behind an edit of a comment each comment stands where it stood, with its id, its author and its
+/// time: its message is that of the edit where its id is the target, and else the one that it had.
+/// Nothing else changes but who acted, and the clock and the time of the last operation.
+pub fn edits_of_comments_reach_their_target()
+    ensures comments { (ops : List OpValue) (common : CommonValue) (target : IdValue)
+        (message : List ℕ) (files : List NameValue) → IsBugList ops
+        → AreEdited target message (snapshot_of ops).list
+        (snapshot_of (ops ++ EditComment common target message files ∷ [])).list }
+    ensures rest { (ops : List OpValue) (common : CommonValue) (target : IdValue)
+        (message : List ℕ) (files : List NameValue) → IsBugList ops
+        → let old = snapshot_of ops in
+        let new = snapshot_of (ops ++ EditComment common target message files ∷ []) in
+        new ≡ record {
+          row = record old.row {
+            actors = new.row.actors;
+            edit = new.row.edit;
+            last = new.row.last;
+          };
+          list = new.list;
+        } }
 {}
 
 /// The comments of fewer than 2^64 operations are counted exactly.

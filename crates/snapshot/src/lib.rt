@@ -6,7 +6,8 @@ mod laws;
 
 pub use bug::{compile, excerpt_of};
 pub use laws::{
-    a_no_op_changes_who_acted_and_when, comments_are_counted, labels_are_those_that_are_on,
-    metadata_have_the_first_value_of_each_key, one_more_operation_is_one_step,
-    operations_that_keep_the_rules_are_a_bug, persons_stand_once, snapshots_are_those_of_the_fold,
+    a_no_op_changes_who_acted_and_when, comments_are_counted, edits_of_comments_reach_their_target,
+    labels_are_those_that_are_on, metadata_have_the_first_value_of_each_key,
+    one_more_operation_is_one_step, operations_that_keep_the_rules_are_a_bug, persons_stand_once,
+    snapshots_are_those_of_the_fold, what_was_set_last_holds,
 };
