@@ -174,3 +174,25 @@ fn a_failed_call_stops_an_edit(rt: HostRuntime) -> Result<(), Fail> {
     assert_eq!(rt; stopped(alloc, 10, false)?.0, DONE);
     Ok(())
 }
+
+// Sets the user of a folder in a store that fails at one call. The ten calls before this run make the
+// person.
+fn set_user_at(alloc: Global, call: u64) -> Result<u8, Fail> {
+    let mut disk = Disk::failing(alloc, &[(call, false)])?;
+    run_words(&mut disk, &["f", "user-new", "Ana", "ana@x"], 1)?;
+    let ana = "a206955f92c7be1bb318733460d3b85e208c8b1c8fb805c6d9991de1e0f35c00";
+    run_words(&mut disk, &["f", "user-set", ana], 1)
+}
+
+#[test]
+fn a_user_is_set_without_a_look_at_the_user_file(rt: HostRuntime) -> Result<(), Fail> {
+    let alloc = rt.alloc();
+    assert_eq!(rt;
+        set_user_at(alloc, 10)?,
+        DISK_FAULT,
+        "the ref of the word is read"
+    );
+    assert_eq!(rt; set_user_at(alloc, 11)?, DISK_FAULT, "the user file is put");
+    assert_eq!(rt; set_user_at(alloc, 12)?, DONE, "and nothing else is asked");
+    Ok(())
+}

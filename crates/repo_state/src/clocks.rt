@@ -17,9 +17,9 @@ use std::alloc::Global;
 /// The clock files of a folder.
 #[derive(Clone, Copy, Debug, PartialEq, Eq)]
 pub enum ClockFile {
-    /// The greatest create clock that was seen of a bug.
+    /// The greatest create clock that was seen of a bug, up to 2^62.
     BugsCreate,
-    /// The greatest edit clock that was seen of one.
+    /// The greatest edit clock that was seen of one, up to 2^62.
     BugsEdit,
 }
 
@@ -45,8 +45,8 @@ pub fn clock<S: Store>(
     }
 }
 
-/// Lets a clock see a number. The file is written, without a line feed, exactly where the clock
-/// changes.
+/// Lets a clock see a number. Where it is done the file was written, without a line feed, exactly where
+/// the clock changes.
 pub fn see<S: Store>(
     alloc: Global,
     disk: &mut S,
