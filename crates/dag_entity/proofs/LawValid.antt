@@ -93,7 +93,7 @@ module _ {Op State Row : Type 0} (k : Meaning Op State Row) where
 module _ {Op State Row : Type 0} (k : Meaning Op State Row) (objects : Objects) (id : Id) (heads : List Name) (authors : List Id) (entity : Entity Op) (was : IsEntity k objects id heads authors entity) where
   -- ---- edit clocks
 
-  has_edit : (name : Name) → IsBelow objects heads name → (edit : ℕ) × (edit_at objects name ≡ Some edit)
+  pub has_edit : (name : Name) → IsBelow objects heads name → (edit : ℕ) × (edit_at objects name ≡ Some edit)
   has_edit name b =
       let at = Contains-from_map (λ (p : Placed Op). p.commit) entity.packs name (was.packs.all name b) in
       (at.0.pack.edit, ap (edit_at objects) (sym at.2) ∙ edit_of_pack k objects at.0.commit at.0.pack (was.packs.each at.0 at.1))

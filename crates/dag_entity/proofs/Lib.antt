@@ -9,6 +9,7 @@ pub mod HeadLemmas
 pub mod JudgeLemmas
 pub mod JudgeSets
 pub mod LawExtending
+pub mod LawFaults
 pub mod LawFirst
 pub mod LawOrders
 pub mod LawRules

@@ -1,23 +1,25 @@
 //! Laws of entities, each the contract of a function that does nothing.
-ghost use Rattle.std.specs.Prelude.{◌≡◌, ◌≢◌, ◌≤◌, ◌<◌, ◌+◌, ◌↔◌, ◌⊎◌, ℕ, true, List, [], ◌∷◌, ◌++◌, map, length, slice_get, Contains, Some};
+ghost use Rattle.std.specs.Prelude.{◌≡◌, ◌≢◌, ◌≤◌, ◌<◌, ◌+◌, ◌-◌, ◌^◌, ◌↔◌, ◌⊎◌, ℕ, true, List, [], ◌∷◌, ◌++◌, map, length, slice_get, Contains, Some};
 ghost use Rattle.gb_text.specs.declared.decimal.TheConstants.{LIMIT};
 ghost use Rattle.gb_text.specs.declared.id.Id.{Id as IdValue};
 ghost use Rattle.gb_text.specs.declared.id.Name.{Name as NameValue};
 ghost use Rattle.git_object.specs.declared.commit.Commit.{Commit as CommitValue};
 ghost use Rattle.lamport.specs.declared.clock.TheConstants.{JUMP};
-ghost use Rattle.object_store.specs.Held.{Objects};
-ghost use Rattle.commit_walk.specs.Below.{IsBelow, IsParent};
+ghost use Rattle.object_store.specs.Held.{IsLarge, Objects};
+ghost use Rattle.commit_walk.specs.Below.{HasCommit, IsBelow, IsParent};
 ghost use Rattle.commit_walk.specs.Distinct.{AreDistinct};
 ghost use Rattle.commit_walk.specs.declared.below.TheConstants.{MOST_COMMITS};
 ghost use Rattle.commit_pack.specs.declared.fault.CommitPackFault.{CommitPackFault as FaultValue};
+ghost use Rattle.commit_pack.specs.declared.fault.CommitPackFault.TheVariants as pack_fault;
 ghost use Rattle.op_pack.specs.declared.pack.Pack.{Pack as PackValue};
 ghost use Rattle.dag_entity.specs.Entities.{AreAllInOrder, AreOperationCommits, IsEntity, IsOperationCommit, IsOperationList, ops_in, with_operations};
 ghost use Rattle.dag_entity.specs.Extending.{Begins, BeginsOnce, ClockRises, Extends, HasPackText, begun, extended};
-ghost use Rattle.dag_entity.specs.Faults.{AreApart, IsValid};
-ghost use Rattle.dag_entity.specs.Nodes.{HasPackFault, IsCommitBelow, IsNodeBelow, edit_at, pack_at};
+ghost use Rattle.dag_entity.specs.Faults.{AreApart, EntityFaultHolds, IsValid};
+ghost use Rattle.dag_entity.specs.Nodes.{HasPackFault, IsCommitBelow, IsNeeded, IsNodeBelow, edit_at, pack_at};
 ghost use Rattle.dag_entity.specs.declared.entity.Entity.{Entity as EntityValue};
 ghost use Rattle.dag_entity.specs.declared.entity.Loaded.{Loaded as LoadedValue};
 ghost use Rattle.dag_entity.specs.declared.entity.Placed.{Placed as PlacedValue};
+ghost use Rattle.dag_entity.specs.declared.fault.EntityFault.TheVariants as fault;
 
 use op_kind::OpKind;
 
@@ -115,6 +117,79 @@ pub fn valid_entities_keep_the_rules<K: OpKind>()
         (one two head : NameValue) → IsValid K.meaning objects id (one ∷ two ∷ []) authors
         → (IsBelow objects (two ∷ []) one → ⊥) → (IsBelow objects (one ∷ []) two → ⊥)
         → Contains (one ∷ two ∷ []) head → edit_at objects head ≢ Some LIMIT }
+{}
+
+/// What the faults of the commits tell, with the names in their order: a commit without parents, and
+/// that there is another; a commit, and a parent of it whose edit clock is as great or greater; and a
+/// commit, and its only parent, above whose edit clock its own lies by more than 1,000,000.
+pub fn faults_tell_what_is_wrong<K: OpKind>()
+    ensures root { (objects : Objects) (id : IdValue) (heads : List NameValue)
+        (authors : List IdValue) (name : NameValue)
+        → EntityFaultHolds K.meaning objects id heads authors (fault.SecondRoot name)
+        ↔ ((commit : CommitValue) × (other : NameValue) × (last : CommitValue)
+        × IsCommitBelow objects heads name commit × (commit.parents ≡ [])
+        × IsCommitBelow objects heads other last × (last.parents ≡ []) × (name ≢ other)) }
+    ensures order { (objects : Objects) (id : IdValue) (heads : List NameValue)
+        (authors : List IdValue) (high low : NameValue)
+        → EntityFaultHolds K.meaning objects id heads authors (fault.ClockOrder high low)
+        ↔ ((above : ℕ) × (beneath : ℕ) × IsBelow objects heads high × IsParent objects high low
+        × (edit_at objects high ≡ Some above) × (edit_at objects low ≡ Some beneath)
+        × (above ≤ beneath)) }
+    ensures jump { (objects : Objects) (id : IdValue) (heads : List NameValue)
+        (authors : List IdValue) (high low : NameValue)
+        → EntityFaultHolds K.meaning objects id heads authors (fault.ClockJump high low)
+        ↔ ((commit : CommitValue) × (above : ℕ) × (beneath : ℕ)
+        × IsCommitBelow objects heads high commit × (commit.parents ≡ low ∷ [])
+        × (edit_at objects high ≡ Some above) × (edit_at objects low ≡ Some beneath)
+        × (beneath + 1000000 < above)) }
+{}
+
+/// What is above a limit is told by the limit and one: commits by 65,537, the operations of a pack by
+/// 4,097, and the bytes of an object that is needed by 4,194,305. Where the names, each once, are those
+/// of all commits below the heads, 65,537 is told of more than 2^16, and of no fewer; but where neither
+/// of two heads lies below the other, it is told of 2^16 too, since the merge commit that they need is
+/// one more. Of such heads one is told as full where its edit clock is 2^63 - 1, and only there.
+pub fn limits_of_entities_are_known<K: OpKind>()
+    ensures numbers { (objects : Objects) (id : IdValue) (heads : List NameValue)
+        (authors : List IdValue) (count : ℕ)
+        → EntityFaultHolds K.meaning objects id heads authors (fault.TooLarge count)
+        → (count ≡ 2 ^ 16 + 1) ⊎ (((count ≡ 2 ^ 12 + 1) × ((name : NameValue)
+        × HasPackFault K.meaning objects heads name (pack_fault.TooLarge count)))
+        ⊎ ((count ≡ 2 ^ 22 + 1) × ((name : NameValue) × IsNeeded objects heads name
+        × IsLarge (objects name)))) }
+    ensures commits { (objects : Objects) (id : IdValue) (heads : List NameValue)
+        (authors : List IdValue) (names : List NameValue) → AreDistinct names
+        → ((name : NameValue) → Contains names name ↔ HasCommit objects heads name)
+        → ((one two : NameValue) → heads ≡ one ∷ two ∷ []
+        → (IsBelow objects (two ∷ []) one → ⊥) → (IsBelow objects (one ∷ []) two → ⊥) → ⊥)
+        → EntityFaultHolds K.meaning objects id heads authors (fault.TooLarge (2 ^ 16 + 1))
+        ↔ (2 ^ 16 < length names) }
+    ensures room { (objects : Objects) (id : IdValue) (one two : NameValue)
+        (authors : List IdValue) (names : List NameValue) → AreDistinct names
+        → ((name : NameValue) → Contains names name
+        ↔ HasCommit objects (one ∷ two ∷ []) name)
+        → (IsBelow objects (two ∷ []) one → ⊥) → (IsBelow objects (one ∷ []) two → ⊥)
+        → EntityFaultHolds K.meaning objects id (one ∷ two ∷ []) authors
+        (fault.TooLarge (2 ^ 16 + 1)) ↔ (2 ^ 16 ≤ length names) }
+    ensures clock { (objects : Objects) (id : IdValue) (heads : List NameValue)
+        (authors : List IdValue) (head : NameValue)
+        → EntityFaultHolds K.meaning objects id heads authors (fault.ClockFull head)
+        ↔ ((one : NameValue) × (two : NameValue) × (heads ≡ one ∷ two ∷ [])
+        × (IsBelow objects (two ∷ []) one → ⊥) × (IsBelow objects (one ∷ []) two → ⊥)
+        × Contains heads head × (edit_at objects head ≡ Some (2 ^ 63 - 1))) }
+{}
+
+/// The edit clock of an entity is that of one of its heads, and each head has one that is not greater.
+pub fn edit_clocks_of_entities_are_the_greatest<K: OpKind>()
+    ensures one { (objects : Objects) (id : IdValue) (heads : List NameValue)
+        (authors : List IdValue) (entity : EntityValue K)
+        → IsEntity K.meaning objects id heads authors entity
+        → (head : NameValue) × Contains heads head
+        × (edit_at objects head ≡ Some entity.edit) }
+    ensures most { (objects : Objects) (id : IdValue) (heads : List NameValue)
+        (authors : List IdValue) (entity : EntityValue K) (head : NameValue)
+        → IsEntity K.meaning objects id heads authors entity → Contains heads head
+        → (clock : ℕ) × (edit_at objects head ≡ Some clock) × (clock ≤ entity.edit) }
 {}
 
 /// Two heads that are apart are so in the other order too.

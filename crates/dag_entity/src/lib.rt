@@ -28,7 +28,9 @@ pub use entity::{Entity, Loaded, Placed};
 pub use fault::EntityFault;
 pub use laws::{
     a_first_commit_is_valid, a_later_commit_is_valid, commits_have_a_pack_or_a_fault,
-    each_operation_stands_once, entities_give_their_operations, heads_are_apart_in_either_order,
-    operations_are_determined, valid_entities_are_well_formed, valid_entities_keep_the_rules,
+    each_operation_stands_once, edit_clocks_of_entities_are_the_greatest,
+    entities_give_their_operations, faults_tell_what_is_wrong, heads_are_apart_in_either_order,
+    limits_of_entities_are_known, operations_are_determined, valid_entities_are_well_formed,
+    valid_entities_keep_the_rules,
 };
 pub use read::read_entity;
