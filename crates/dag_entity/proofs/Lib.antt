@@ -14,6 +14,7 @@ pub mod LawFirst
 pub mod LawOrders
 pub mod LawRules
 pub mod LawTexts
+pub mod LawTogether
 pub mod LawValid
 pub mod LoadLemmas
 pub mod OrderLemmas

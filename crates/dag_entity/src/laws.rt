@@ -14,7 +14,7 @@ ghost use Rattle.commit_pack.specs.declared.fault.CommitPackFault.TheVariants as
 ghost use Rattle.op_pack.specs.declared.pack.Pack.{Pack as PackValue};
 ghost use Rattle.dag_entity.specs.Entities.{AreAllInOrder, AreOperationCommits, IsEntity, IsOperationCommit, IsOperationList, ops_in, with_operations};
 ghost use Rattle.dag_entity.specs.Extending.{Begins, BeginsOnce, ClockRises, Extends, HasPackText, begun, extended};
-ghost use Rattle.dag_entity.specs.Faults.{AreApart, EntityFaultHolds, IsValid};
+ghost use Rattle.dag_entity.specs.Faults.{AreApart, EntityFaultHolds, IsRootCommit, IsValid, RepeatsAcross};
 ghost use Rattle.dag_entity.specs.Nodes.{HasPackFault, IsCommitBelow, IsNeeded, IsNodeBelow, edit_at, pack_at};
 ghost use Rattle.dag_entity.specs.declared.entity.Entity.{Entity as EntityValue};
 ghost use Rattle.dag_entity.specs.declared.entity.Loaded.{Loaded as LoadedValue};
@@ -190,6 +190,22 @@ pub fn edit_clocks_of_entities_are_the_greatest<K: OpKind>()
         (authors : List IdValue) (entity : EntityValue K) (head : NameValue)
         → IsEntity K.meaning objects id heads authors entity → Contains heads head
         → (clock : ℕ) × (edit_at objects head ≡ Some clock) × (clock ≤ entity.edit) }
+{}
+
+/// Two heads are an entity together, also where neither lies below the other, if each is one alone and
+/// nothing is wrong that takes both: they have one root, no operation comes twice, and below them lie
+/// fewer than 2^16 commits, with edit clocks of the heads that are not 2^63 - 1.
+pub fn two_heads_are_valid_together<K: OpKind>()
+    ensures { (objects : Objects) (id : IdValue) (authors : List IdValue) (one two : NameValue)
+        (names : List NameValue) → IsValid K.meaning objects id (one ∷ []) authors
+        → IsValid K.meaning objects id (two ∷ []) authors
+        → ((a b : NameValue) → IsRootCommit objects (one ∷ two ∷ []) a
+        → IsRootCommit objects (one ∷ two ∷ []) b → a ≡ b)
+        → ((found : IdValue) → RepeatsAcross K.meaning objects (one ∷ two ∷ []) found → ⊥)
+        → ((name : NameValue) → HasCommit objects (one ∷ two ∷ []) name
+        → Contains names name) → length names < 2 ^ 16
+        → edit_at objects one ≢ Some (2 ^ 63 - 1) → edit_at objects two ≢ Some (2 ^ 63 - 1)
+        → IsValid K.meaning objects id (one ∷ two ∷ []) authors }
 {}
 
 /// Two heads that are apart are so in the other order too.

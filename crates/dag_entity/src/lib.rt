@@ -30,7 +30,7 @@ pub use laws::{
     a_first_commit_is_valid, a_later_commit_is_valid, commits_have_a_pack_or_a_fault,
     each_operation_stands_once, edit_clocks_of_entities_are_the_greatest,
     entities_give_their_operations, faults_tell_what_is_wrong, heads_are_apart_in_either_order,
-    limits_of_entities_are_known, operations_are_determined, valid_entities_are_well_formed,
-    valid_entities_keep_the_rules,
+    limits_of_entities_are_known, operations_are_determined, two_heads_are_valid_together,
+    valid_entities_are_well_formed, valid_entities_keep_the_rules,
 };
 pub use read::read_entity;
