@@ -4,6 +4,7 @@ pub mod EndLemmas
 pub mod FinishLemmas
 pub mod IndexLemmas
 pub mod KeptLemmas
+pub mod LimitLemmas
 pub mod LoopLemmas
 pub mod MarkLemmas
 pub mod NeedLemmas

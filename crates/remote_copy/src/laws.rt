@@ -1,16 +1,19 @@
 //! Laws of copies, each the contract of a function that does nothing.
-ghost use Rattle.std.specs.Prelude.{◌≡◌, ◌↔◌, ◌^◌, Bool, true, false, ℕ, List};
+ghost use Rattle.std.specs.Prelude.{◌≡◌, ◌≢◌, ◌<◌, ◌+◌, ◌↔◌, ◌⊎◌, ◌^◌, Bool, true, false, ℕ, List, All, Contains, length};
 ghost use Rattle.gb_text.specs.declared.id.Name.{Name};
 ghost use Rattle.gb_store.specs.Files.{History};
 ghost use Rattle.gb_store.specs.Moments.{AllMoments, Wrote};
-ghost use Rattle.git_object.specs.declared.frame.Kind.TheVariants.{Commit};
+ghost use Rattle.git_object.specs.declared.frame.Kind.TheVariants.{Commit, Tree};
 ghost use Rattle.object_store.specs.Growth.{OnlyGrew};
-ghost use Rattle.object_store.specs.Held.{Objects, objects_after, objects_in};
+ghost use Rattle.object_store.specs.Held.{IsLarge, Objects, objects_after, objects_in};
 ghost use Rattle.object_store.specs.Puts.{PutsObject};
-ghost use Rattle.object_batch.specs.Needs.{IsHeldAs, IsWhole, Reference};
+ghost use Rattle.object_batch.specs.Needs.{IsHeldAs, IsWhole, Leads, NamesNext, Reference};
+ghost use Rattle.commit_walk.specs.Distinct.{AreDistinct};
+ghost use Rattle.remote_copy.specs.Causes.{CauseHolds};
 ghost use Rattle.remote_copy.specs.Closure.{HasWholeTrees, IsClosed, IsFollowed, IsInClosure, LeadsPast, StandsAlike, commit_named};
 ghost use Rattle.remote_copy.specs.Copies.{IsCopied};
 ghost use Rattle.remote_copy.specs.Writes.{PutsCopy};
+ghost use Rattle.remote_copy.specs.declared.fault.CopyFault.TheVariants as fault;
 
 use crate::open::MOST_TREES;
 use crate::work::{MOST_COMMITS, MOST_OTHERS};
@@ -89,4 +92,33 @@ pub fn limits_of_copies_are_known()
     ensures commits { MOST_COMMITS ≡ 2 ^ 16 }
     ensures others { MOST_OTHERS ≡ 2 ^ 20 }
     ensures trees { MOST_TREES ≡ 16 }
+{}
+
+/// What is above a limit is told by the limit and one: 4,194,305 where a file of the part has more
+/// bytes, 65,537 where the part has more commits, 1,048,577 where it has more other objects, and 17
+/// where more trees lie below a commit's tree, one below the other.
+pub fn copies_tell_what_is_too_large()
+    ensures numbers { (closed : Bool) (source target : Objects) (head : Name) (count : ℕ)
+        → CauseHolds closed source target head (fault.TooLarge count)
+        → (count ≡ 2 ^ 22 + 1) ⊎ ((count ≡ 2 ^ 16 + 1) ⊎ ((count ≡ 2 ^ 20 + 1) ⊎ (count ≡ 17))) }
+    ensures bytes { (closed : Bool) (source target : Objects) (head : Name)
+        → CauseHolds closed source target head (fault.TooLarge (2 ^ 22 + 1))
+        ↔ ((one : Reference) × IsFollowed closed source target head one
+        × IsLarge (source one.name)) }
+    ensures commits { (closed : Bool) (source target : Objects) (head : Name)
+        → CauseHolds closed source target head (fault.TooLarge (2 ^ 16 + 1))
+        ↔ ((them : List Reference) × AreDistinct them × (2 ^ 16 < length them)
+        × ((one : Reference) → Contains them one → IsFollowed closed source target head one
+        × IsHeldAs source one.name one.kind × (one.kind ≡ Commit))) }
+    ensures others { (closed : Bool) (source target : Objects) (head : Name)
+        → CauseHolds closed source target head (fault.TooLarge (2 ^ 20 + 1))
+        ↔ ((them : List Reference) × AreDistinct them × (2 ^ 20 < length them)
+        × ((one : Reference) → Contains them one → IsFollowed closed source target head one
+        × IsHeldAs source one.name one.kind × (one.kind ≢ Commit))) }
+    ensures trees { (closed : Bool) (source target : Objects) (head : Name)
+        → CauseHolds closed source target head (fault.TooLarge 17)
+        ↔ ((commit : Name) × (tree : Reference) × (path : List Reference) × (last : Reference)
+        × IsFollowed closed source target head (commit_named commit) × (tree.kind ≡ Tree)
+        × NamesNext source (commit_named commit) tree × Leads source tree path last
+        × All (λ (one : Reference). one.kind ≡ Tree) path × (16 < length path)) }
 {}
