@@ -1,5 +1,5 @@
 //! Laws of copies, each the contract of a function that does nothing.
-ghost use Rattle.std.specs.Prelude.{◌≡◌, ◌≢◌, ◌<◌, ◌+◌, ◌↔◌, ◌⊎◌, ◌^◌, Bool, true, false, ℕ, List, All, Contains, length};
+ghost use Rattle.std.specs.Prelude.{◌≡◌, ◌≢◌, ◌≤◌, ◌<◌, ◌+◌, ◌*◌, ◌↔◌, ◌⊎◌, ◌^◌, Bool, true, false, ℕ, List, All, Contains, length};
 ghost use Rattle.gb_text.specs.declared.id.Name.{Name};
 ghost use Rattle.gb_store.specs.Files.{History};
 ghost use Rattle.gb_store.specs.Moments.{AllMoments, Wrote};
@@ -10,8 +10,8 @@ ghost use Rattle.object_store.specs.Puts.{PutsObject};
 ghost use Rattle.object_batch.specs.Needs.{IsHeldAs, IsWhole, Leads, NamesNext, Reference};
 ghost use Rattle.commit_walk.specs.Distinct.{AreDistinct};
 ghost use Rattle.remote_copy.specs.Causes.{CauseHolds};
-ghost use Rattle.remote_copy.specs.Closure.{HasWholeTrees, IsClosed, IsFollowed, IsInClosure, LeadsPast, StandsAlike, commit_named};
-ghost use Rattle.remote_copy.specs.Copies.{IsCopied};
+ghost use Rattle.remote_copy.specs.Closure.{HasWholeTrees, IsAsked, IsClosed, IsFollowed, IsInClosure, LeadsPast, StandsAlike, commit_named};
+ghost use Rattle.remote_copy.specs.Copies.{IsCopied, ReadsEach};
 ghost use Rattle.remote_copy.specs.Writes.{PutsCopy};
 ghost use Rattle.remote_copy.specs.declared.fault.CopyFault.TheVariants as fault;
 
@@ -121,4 +121,14 @@ pub fn copies_tell_what_is_too_large()
         × IsFollowed closed source target head (commit_named commit) × (tree.kind ≡ Tree)
         × NamesNext source (commit_named commit) tree × Leads source tree path last
         × All (λ (one : Reference). one.kind ≡ Tree) path × (16 < length path)) }
+{}
+
+/// What a copy reads are at most two objects, in both folders together, for each of some different
+/// objects that it asks for.
+pub fn copies_read_two_objects_for_each()
+    ensures { (closed : Bool) (source target : Objects) (head : Name) (before after : ℕ)
+        → ReadsEach closed source target head before after
+        → (them : List Reference) × AreDistinct them
+        × ((one : Reference) → Contains them one → IsAsked closed source target head one)
+        × (after ≤ before + 2 * length them) }
 {}

@@ -15,9 +15,9 @@ pub use closure::copy;
 pub use fault::CopyFault;
 pub use laws::{
     closed_folders_stay_closed, copied_heads_have_their_closure, copies_put_objects,
-    copies_tell_what_is_too_large, heads_that_stand_are_not_copied, limits_of_copies_are_known,
-    the_part_is_what_paths_lead_to, whole_copies_are_alike, whole_folders_stay_whole,
-    whole_trees_stay_whole,
+    copies_read_two_objects_for_each, copies_tell_what_is_too_large,
+    heads_that_stand_are_not_copied, limits_of_copies_are_known, the_part_is_what_paths_lead_to,
+    whole_copies_are_alike, whole_folders_stay_whole, whole_trees_stay_whole,
 };
 pub use open::MOST_TREES;
 pub use work::{MOST_COMMITS, MOST_OTHERS};
