@@ -65,7 +65,7 @@ pub record Seen (folder : List ℕ) (which : ClockFile) (number : ℕ) (mid new 
   pub only : OnlyChanges folder (clock_place which ∷ []) (files_of mid) (files_of new)
   pub wrote : Wrote (IsWrite folder) mid new
 
-module _ (folder : List ℕ) (which : ClockFile) (number : ℕ) (mid : History) (bug : HeadEntry) (is_head : head_at (files_of mid) folder side.Bugs bug.id ≡ Head bug.name)
+module _ (folder : List ℕ) (which : ClockFile) (number : ℕ) (mid : History) (bug : HeadEntry) (is_id : IsId bug.id) (is_head : head_at (files_of mid) folder side.Bugs bug.id ≡ Head bug.name)
     (is : IsClockOf which (objects_in (files_of mid) folder) bug.name number) where
   abbrev present : ℕ
   present = clock_at (files_of mid) folder which
@@ -79,7 +79,7 @@ module _ (folder : List ℕ) (which : ClockFile) (number : ℕ) (mid : History) 
     heads = λ of id. head_at-clock_write (files_of mid) folder of id which (seen_by present number);
     only = OnlyChanges-put folder (clock_place which) _ (files_of mid) (clock-not_object folder which);
     wrote = Wrote-one (IsWrite folder) (clock_write folder which (seen_by present number)) mid (clock_write folder which (seen_by present number) ∷ mid)
-        (a_clock (record { bug = bug; is_head = is_head; which = which; number = number; is = is; rises = rises; write = refl })) (inr refl);
+        (a_clock (record { bug = bug; is_id = is_id; is_head = is_head; which = which; number = number; is = is; rises = rises; write = refl })) (inr refl);
   }
 
   -- it stayed

@@ -223,7 +223,7 @@ module _ (env : Env) (old : History) (op : BugOp) (rules : MayWriteOp op) (momen
   created = reverse (see_writes env.folder file.BugsCreate create_was (root_time_of create_was)) ++ head_set
 
   create_seen : Seen env.folder file.BugsCreate (root_time_of create_was) head_set created
-  create_seen = see_made env.folder file.BugsCreate (root_time_of create_was) head_set bug head_reads bug_set.is.create create_was (clocks_stay file.BugsCreate)
+  create_seen = see_made env.folder file.BugsCreate (root_time_of create_was) head_set bug is_id head_reads bug_set.is.create create_was (clocks_stay file.BugsCreate)
 
   -- and the edit clock
   abbrev edited : History
@@ -233,7 +233,7 @@ module _ (env : Env) (old : History) (op : BugOp) (rules : MayWriteOp op) (momen
   edit_says = ap (λ (o : Objects). edit_at o bug.name) create_seen.objects ∙ head_edit (objects_in (files_of head_set) env.folder) bug.name entity.edit bug_set.is.edit
 
   edit_seen : Seen env.folder file.BugsEdit (root_time_of edit_was) created edited
-  edit_seen = see_made env.folder file.BugsEdit (root_time_of edit_was) created bug (create_seen.heads side.Bugs (op_id op) ∙ head_reads) edit_says edit_was
+  edit_seen = see_made env.folder file.BugsEdit (root_time_of edit_was) created bug is_id (create_seen.heads side.Bugs (op_id op) ∙ head_reads) edit_says edit_was
       (create_seen.other file.BugsEdit (λ e. cc e) ∙ clocks_stay file.BugsEdit)
 
   all : edited ≡ reverse (addition_writes env (files_of old) (Some a)) ++ old
@@ -387,7 +387,7 @@ module _ (env : Env) (old : History) (edit : BugEdit) (word : List ℕ) (op : Bu
   then_says = head_edit (objects_in (files_of then_set) env.folder) later_bug.name longer.edit longer_set.is.edit
 
   then_seen : Seen env.folder file.BugsEdit edit_now then_set then_edited
-  then_seen = see_made env.folder file.BugsEdit edit_now then_set later_bug then_reads then_says edit_before
+  then_seen = see_made env.folder file.BugsEdit edit_now then_set later_bug is_id then_reads then_says edit_before
       (set_clock env old added moment added_may added_can local.is_id added_parents free file.BugsEdit)
 
   then_all : then_edited ≡ reverse (addition_writes env (files_of old) (Some added)) ++ old

@@ -80,6 +80,7 @@ IsClockOf file.BugsEdit objects head number = edit_at objects head ≡ Some numb
 -- a clock, which rises by seeing that of a bug's head
 pub record IsClockWrite (folder : List ℕ) (files : Files) (change : Change) : Type 0 where
   pub bug : HeadEntry
+  pub is_id : IsId bug.id
   pub is_head : head_at files folder side.Bugs bug.id ≡ Head bug.name
   pub which : ClockFile
   pub number : ℕ
