@@ -9,7 +9,7 @@ use Rattle.gb_text.specs.declared.id.Id.{Id}
 use Rattle.gb_store.specs.Files.{History, files_of}
 use Rattle.op_kind.specs.declared.place.Common.{Common}
 use Rattle.bug_ops.specs.declared.op.BugOp.{BugOp}
-use Rattle.bug_ops.specs.declared.op.BugOp.TheVariants.{SetTitle}
+use Rattle.bug_ops.specs.declared.op.BugOp.TheVariants.{LabelChange, SetTitle}
 use Rattle.bug_ops.specs.declared.snapshot.Snapshot.{Snapshot}
 use Rattle.repo_state.specs.Sides.{found_by}
 use Rattle.repo_state.specs.Users.{User, user_at}
@@ -109,28 +109,42 @@ made_of_the_moment env made op is has = subst (IsOfTheMoment env) is has
 
 pub of_the_moment : (env : Env) (e : BugEdit) (bug : Snapshot) (op : BugOp) → edit_op env e bug ≡ Ok op → IsOfTheMoment env op
 of_the_moment env (kind.Comment message) bug op is =
-    let made = comment_op env message in made_of_the_moment env made op (added_is made op is) (record { time = refl; nonce = refl; bare = refl })
-of_the_moment env kind.Noop bug op is = let made = noop_op env in made_of_the_moment env made op (added_is made op is) (record { time = refl; nonce = refl; bare = refl })
+    let made = comment_op env message in made_of_the_moment env made op (added_is made op is) (record { time = refl; nonce = refl; bare = refl; no_files = refl })
+of_the_moment env kind.Noop bug op is = let made = noop_op env in made_of_the_moment env made op (added_is made op is) (record { time = refl; nonce = refl; bare = refl; no_files = refl })
 of_the_moment env (kind.Title title) bug op is =
-    let made = title_op env title bug.row.title in made_of_the_moment env made op (added_is made op is) (record { time = refl; nonce = refl; bare = refl })
+    let made = title_op env title bug.row.title in made_of_the_moment env made op (added_is made op is) (record { time = refl; nonce = refl; bare = refl; no_files = refl })
 of_the_moment env (kind.Status status) bug op is =
     let made = status_op env status in
-    made_of_the_moment env made op (status_is (same_status bug.row.status status) made op is) (record { time = refl; nonce = refl; bare = refl })
+    made_of_the_moment env made op (status_is (same_status bug.row.status status) made op is) (record { time = refl; nonce = refl; bare = refl; no_files = refl })
 of_the_moment env (kind.AddLabels labels) bug op is =
     let changed = named_off bug.row.labels labels in
     let made = labels_op env changed [] in
-    made_of_the_moment env made op (change_is changed made op is) (record { time = refl; nonce = refl; bare = refl })
+    made_of_the_moment env made op (change_is changed made op is) (record { time = refl; nonce = refl; bare = refl; no_files = refl })
 of_the_moment env (kind.RemoveLabels labels) bug op is =
     let changed = named_on bug.row.labels labels in
     let made = labels_op env [] changed in
-    made_of_the_moment env made op (change_is changed made op is) (record { time = refl; nonce = refl; bare = refl })
+    made_of_the_moment env made op (change_is changed made op is) (record { time = refl; nonce = refl; bare = refl; no_files = refl })
 of_the_moment env (kind.Metadata key value) bug op is =
-    let made = metadata_op env bug.row.id key value in made_of_the_moment env made op (added_is made op is) (record { time = refl; nonce = refl; bare = refl })
+    let made = metadata_op env bug.row.id key value in made_of_the_moment env made op (added_is made op is) (record { time = refl; nonce = refl; bare = refl; no_files = refl })
 
 -- a new title names the one before
 pub names_the_one_before : (env : Env) (title : List ℕ) (bug : Snapshot) (op : BugOp) → edit_op env (kind.Title title) bug ≡ Ok op
     → (common : Common) × (op ≡ SetTitle common title bug.row.title)
 names_the_one_before env title bug op is = (new_common env 2, sym (added_is (title_op env title bug.row.title) op is))
+
+-- labels that change are the operation's: those to put on
+pub writes_what_is_put_on : (env : Env) (labels : List (List ℕ)) (bug : Snapshot) (op : BugOp) → edit_op env (kind.AddLabels labels) bug ≡ Ok op
+    → (common : Common) × (op ≡ LabelChange common (named_off bug.row.labels labels) [])
+writes_what_is_put_on env labels bug op is =
+    let changed = named_off bug.row.labels labels in
+    (new_common env 5, sym (change_is changed (labels_op env changed []) op is))
+
+-- and those to take off
+pub writes_what_is_taken_off : (env : Env) (labels : List (List ℕ)) (bug : Snapshot) (op : BugOp) → edit_op env (kind.RemoveLabels labels) bug ≡ Ok op
+    → (common : Common) × (op ≡ LabelChange common [] (named_on bug.row.labels labels))
+writes_what_is_taken_off env labels bug op is =
+    let changed = named_on bug.row.labels labels in
+    (new_common env 5, sym (change_is changed (labels_op env [] changed) op is))
 
 -- ---- a word that finds nothing
 

@@ -2,8 +2,10 @@
 use Rattle.std.specs.Prelude.{◌≡◌, ◌+◌, ℕ, Bool, true, false, List, [], ◌∷◌, ◌++◌, length, map}
 use Rattle.std.specs.List.{list_all}
 use Rattle.gb_text.specs.Rules.{is_line_text, is_message_text, is_title_text}
+use Rattle.gb_text.specs.declared.id.Name.{Name}
 use Rattle.bug_ops.specs.Kind.{bug_kind}
 use Rattle.bug_ops.specs.declared.op.BugOp.{BugOp}
+use Rattle.bug_ops.specs.declared.op.BugOp.TheVariants.{AddComment, Create, EditComment, LabelChange, NoOp, SetMetadata, SetStatus, SetTitle}
 use Rattle.repo_state.specs.declared.env.Env.{Env}
 use Rattle.repo_steps.specs.Doing.{nonce_from}
 use Rattle.repo_steps.specs.declared.edit.BugEdit.{BugEdit}
@@ -40,8 +42,20 @@ pub record IsFirstBad (kept : List Bool) (place : ℕ) : Type 0 where
   pub all_before : all_keep before ≡ true
   pub counted : place ≡ length before + 1
 
--- the operation is of the moment, by the seed, and has no metadata of its own
+-- the files that belong to the message of an operation
+abbrev pub attached_to : BugOp → List Name
+attached_to (Create common title message files) = files
+attached_to (SetTitle common title was) = []
+attached_to (AddComment common message files) = files
+attached_to (SetStatus common status) = []
+attached_to (LabelChange common added removed) = []
+attached_to (EditComment common target message files) = files
+attached_to (NoOp common) = []
+attached_to (SetMetadata common target pairs) = []
+
+-- the operation is of the moment, by the seed, and has neither metadata of its own nor files
 pub record IsOfTheMoment (env : Env) (op : BugOp) : Type 0 where
   pub time : (bug_kind.common_of op).time ≡ env.now
   pub nonce : (bug_kind.common_of op).nonce ≡ nonce_from env.seed
   pub bare : (bug_kind.common_of op).metadata ≡ []
+  pub no_files : attached_to op ≡ []

@@ -10,7 +10,7 @@ ghost use Rattle.bug_ops.specs.Kind.{bug_kind};
 ghost use Rattle.bug_ops.specs.Mentions.{is_among};
 ghost use Rattle.bug_ops.specs.Snapshots.{by_bytes, one_more, with_person};
 ghost use Rattle.bug_ops.specs.declared.op.BugOp.{BugOp as OpValue};
-ghost use Rattle.bug_ops.specs.declared.op.BugOp.TheVariants.{SetTitle};
+ghost use Rattle.bug_ops.specs.declared.op.BugOp.TheVariants.{LabelChange, SetTitle};
 ghost use Rattle.bug_ops.specs.declared.op.BugStatus.{BugStatus as StatusValue};
 ghost use Rattle.bug_ops.specs.declared.snapshot.Snapshot.{Snapshot as SnapshotValue};
 ghost use Rattle.snapshot.specs.LastMention.{IsBugList, first_value, snapshot_of};
@@ -164,6 +164,21 @@ pub fn changed_labels_ascend()
         → IsStrictlySortedBy by_bytes (named_on on named) }
 {}
 
+/// The operation of an edit of labels has those that change by it, and no other: to put on, each that is
+/// named and off, and none to take off; or to take off, each that is named and on, and none to put on.
+pub fn labels_that_change_are_written()
+    ensures adds { (env : EnvValue) (labels : List (List ℕ)) (bug : SnapshotValue) (op : OpValue)
+        → edit_op env (kind.AddLabels labels) bug ≡ Ok op
+        → (common : CommonValue) × (op ≡ LabelChange common (named_off bug.row.labels labels) []) }
+    ensures takes { (env : EnvValue) (labels : List (List ℕ)) (bug : SnapshotValue) (op : OpValue)
+        → edit_op env (kind.RemoveLabels labels) bug ≡ Ok op
+        → (common : CommonValue) × (op ≡ LabelChange common [] (named_on bug.row.labels labels)) }
+    ensures off { (on named : List (List ℕ)) (label : List ℕ)
+        → is_among (named_off on named) label ≡ (not (is_among on label) && is_among named label) }
+    ensures on { (on named : List (List ℕ)) (label : List ℕ)
+        → is_among (named_on on named) label ≡ (is_among named label && is_among on label) }
+{}
+
 /// What is told of words that break a rule is the place of the first of them, counted from 1 over all
 /// words of the command, and the command is refused with it; and none is told where each keeps its rule.
 pub fn first_bad_words_are_told()
@@ -175,9 +190,9 @@ pub fn first_bad_words_are_told()
         → bad_word_of command ≡ Some place → Refused env command old (refusal.BadText place) }
 {}
 
-/// The operation of an edit is of the moment, by the seed, and has no metadata of its own, and so is
-/// the one that begins a bug. A title's names the title that the bug had. Unlike seeds give unlike
-/// nonces, but for two texts with one SHA-256.
+/// The operation of an edit is of the moment, by the seed, and has neither metadata of its own nor
+/// files, and so is the one that begins a bug. A title's names the title that the bug had. Unlike seeds
+/// give unlike nonces, but for two texts with one SHA-256.
 pub fn operations_are_made_anew()
     ensures added { (env : EnvValue) (edit : BugEditValue) (bug : SnapshotValue) (op : OpValue)
         → edit_op env edit bug ≡ Ok op → IsOfTheMoment env op }

@@ -6,7 +6,7 @@ pub returns-clause-added : goal.returns-clause-added
 returns-clause-added c = of_the_moment
 
 pub returns-clause-begun : goal.returns-clause-begun
-returns-clause-begun c = λ env title message. record { time = refl; nonce = refl; bare = refl }
+returns-clause-begun c = λ env title message. record { time = refl; nonce = refl; bare = refl; no_files = refl }
 
 pub returns-clause-before : goal.returns-clause-before
 returns-clause-before c = names_the_one_before
