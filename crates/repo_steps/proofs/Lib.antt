@@ -2,6 +2,7 @@ pub mod AddBugLemmas
 pub mod AddLemmas
 pub mod BugDoneLemmas
 pub mod ClearLemmas
+pub mod ClockOrderLemmas
 pub mod DamageLemmas
 pub mod DoneLemmas
 pub mod EffectLemmas
@@ -12,6 +13,7 @@ pub mod LossLemmas
 pub mod OnlyLemmas
 pub mod PlaceLemmas
 pub mod RankLemmas
+pub mod RoomLemmas
 pub mod SayLemmas
 pub mod SoundBugLemmas
 pub mod SoundLemmas

@@ -1,6 +1,6 @@
 //! Laws of the commands that edit, and of the kinds of write, each the contract of a function that
 //! does nothing.
-ghost use Rattle.std.specs.Prelude.{◌≡◌, ◌≢◌, ◌≤◌, [], ◌∷◌, ◌++◌, ◌||◌, ◌&&◌, false, true, not, List, ℕ, Some, None, Result, Ok, Err, reverse};
+ghost use Rattle.std.specs.Prelude.{◌≡◌, ◌≢◌, ◌≤◌, ◌<◌, ◌+◌, length, [], ◌∷◌, ◌++◌, ◌||◌, ◌&&◌, false, true, not, List, ℕ, Some, None, Result, Ok, Err, reverse};
 ghost use Rattle.sha2.specs.Sha256.{sha256};
 ghost use Rattle.std.specs.List.Sorted.{IsStrictlySortedBy};
 ghost use Rattle.std.specs.Option.{option_or};
@@ -32,12 +32,16 @@ ghost use Rattle.object_store.specs.Held.{objects_in};
 ghost use Rattle.commit_chain.specs.Chain.{Meets};
 ghost use Rattle.commit_walk.specs.Below.{IsBelow};
 ghost use Rattle.ref_store.specs.Refs.{Head};
-ghost use Rattle.repo_state.specs.Clocks.{clock_at};
+ghost use Rattle.repo_state.specs.Clocks.{clock_at, clock_write};
 ghost use Rattle.repo_state.specs.Sides.{found_by, head_at};
 ghost use Rattle.repo_state.specs.Sound.{IsSound, KeepsParts};
 ghost use Rattle.repo_state.specs.Stops.{number_of};
 ghost use Rattle.repo_state.specs.Users.{User, user_at};
 ghost use Rattle.repo_state.specs.declared.clocks.ClockFile.{ClockFile as ClockFileValue};
+ghost use Rattle.repo_state.specs.declared.clocks.ClockFile.TheVariants as file;
+ghost use Rattle.lamport.specs.declared.clock.TheConstants.{CAP};
+ghost use Rattle.commit_walk.specs.declared.below.TheConstants.{MOST_COMMITS};
+ghost use Rattle.dag_entity.specs.Nodes.{edit_at};
 ghost use Rattle.repo_state.specs.declared.env.Env.{Env as EnvValue};
 ghost use Rattle.repo_state.specs.declared.refusal.Refusal.{Refusal as RefusalValue};
 ghost use Rattle.repo_state.specs.declared.refusal.Refusal.TheVariants as refusal;
@@ -54,12 +58,12 @@ ghost use Rattle.repo_steps.specs.Kinds.{IsPlace, IsWrite, is_dotless};
 ghost use Rattle.repo_steps.specs.Steps.{BugBegins, BugGrows, Steps};
 ghost use Rattle.repo_steps.specs.BugDoings.{HasBug, bug_says};
 ghost use Rattle.repo_steps.specs.Grown.{EndsWithTheEdit, begun_says};
-ghost use Rattle.repo_steps.specs.NewOps.{create_op};
+ghost use Rattle.repo_steps.specs.NewOps.{MayWriteOp, create_op};
 ghost use Rattle.repo_state.specs.Bugs.{IsBug};
 ghost use Rattle.repo_state.specs.declared.side.HeadEntry.{HeadEntry as HeadEntryValue};
 ghost use Rattle.dag_entity.specs.declared.entity.Entity.{Entity as EntityValue};
 ghost use Rattle.repo_steps.specs.declared.edit.Edit.{Edit as EditValue};
-ghost use Rattle.repo_steps.specs.declared.edit.Edit.TheVariants.{OfBug, UserSet};
+ghost use Rattle.repo_steps.specs.declared.edit.Edit.TheVariants.{New, OfBug, UserSet};
 
 /// Whatever a command answers, each of its writes is of a kind at its moment.
 pub fn edits_write_by_kinds()
@@ -217,6 +221,49 @@ pub fn words_that_find_nothing_are_refused()
     ensures persons { (env : EnvValue) (word : List ℕ) (old : History)
         → found_by (files_of old) env.folder side.Identities word ≡ None
         → Refused env (UserSet word) old refusal.NotFound }
+{}
+
+/// An edit is refused for a full clock only where the edit clock of the bug's head is the last that is
+/// written, and for too many commits only where the bug has the most that are read. Where its words keep
+/// their rules, there is a user and it adds an operation, it is refused so wherever one or the other is
+/// so, for the clock where both are.
+pub fn full_bugs_are_refused()
+    ensures clock_only { (env : EnvValue) (edit : BugEditValue) (word : List ℕ) (old : History)
+        (name : Name) → Refused env (OfBug word edit) old (refusal.ClockFull name)
+        → (bug : HasBug env.folder (files_of old) word) × (name ≡ bug.bug.name)
+        × (edit_at (objects_in (files_of old) env.folder) bug.bug.name ≡ Some LIMIT) }
+    ensures commits_only { (env : EnvValue) (edit : BugEditValue) (word : List ℕ) (old : History)
+        → Refused env (OfBug word edit) old (refusal.TooLarge (MOST_COMMITS + 1))
+        → (bug : HasBug env.folder (files_of old) word) × (MOST_COMMITS ≤ length bug.entity.packs) }
+    ensures clock { (env : EnvValue) (edit : BugEditValue) (word : List ℕ) (old : History)
+        (user : Id) → bad_edit edit ≡ None → env.now ≤ LIMIT
+        → user_at (files_of old) env.folder ≡ User user
+        → (bug : HasBug env.folder (files_of old) word) (op : OpValue)
+        → edit_op env edit (bug_says bug.entity) ≡ Ok op → MayWriteOp op
+        → edit_at (objects_in (files_of old) env.folder) bug.bug.name ≡ Some LIMIT
+        → Refused env (OfBug word edit) old (refusal.ClockFull bug.bug.name) }
+    ensures commits { (env : EnvValue) (edit : BugEditValue) (word : List ℕ) (old : History)
+        (user : Id) → bad_edit edit ≡ None → env.now ≤ LIMIT
+        → user_at (files_of old) env.folder ≡ User user
+        → (bug : HasBug env.folder (files_of old) word) (op : OpValue)
+        → edit_op env edit (bug_says bug.entity) ≡ Ok op → MayWriteOp op
+        → edit_at (objects_in (files_of old) env.folder) bug.bug.name ≢ Some LIMIT
+        → MOST_COMMITS ≤ length bug.entity.packs
+        → Refused env (OfBug word edit) old (refusal.TooLarge (MOST_COMMITS + 1)) }
+{}
+
+/// The last writes of `new` are the clock of creations and then that of edits, each one further, where
+/// neither is at its cap.
+pub fn create_clocks_are_written_first()
+    ensures { (env : EnvValue) (title message : List ℕ) (op : OpValue) (old : History) (user : Id)
+        → user_at (files_of old) env.folder ≡ User user
+        → clock_at (files_of old) env.folder file.BugsCreate < CAP
+        → clock_at (files_of old) env.folder file.BugsEdit < CAP
+        → let create = clock_at (files_of old) env.folder file.BugsCreate in
+        let edit = clock_at (files_of old) env.folder file.BugsEdit in
+        (before : List Change) × ((doing_of env (New title message) op old).writes
+        ≡ before ++ clock_write env.folder file.BugsCreate (create + 1)
+        ∷ clock_write env.folder file.BugsEdit (edit + 1) ∷ []) }
 {}
 
 /// Read anew from the files after the step of an edit, the bug that its word finds says what it said
