@@ -3,7 +3,7 @@ use Rattle.std.proofs.Common.{◌≡◌, ◌≢◌, ◌≤◌, ◌+◌, ◌++◌
 use Rattle.std.specs.Prelude.{if◌then◌else◌}
 use Rattle.std.proofs.lemmas.List.{append_cancel_right}
 use Rattle.sha2.specs.Sha256.{sha256}
-use Rattle.gb_text.specs.Rules.{is_title_text}
+use Rattle.gb_text.specs.Rules.{is_message_text, is_title_text}
 use Rattle.gb_text.specs.declared.decimal.TheConstants.{LIMIT}
 use Rattle.gb_text.specs.declared.id.Id.{Id}
 use Rattle.gb_store.specs.Files.{History, files_of}
@@ -96,6 +96,20 @@ told_so env (edit.UserEdit name email) old place told = (noop_op env, inl (place
 told_so env (edit.UserSet word) old place told = absurd (cc told)
 told_so env (edit.New title message) old place told = (noop_op env, inl (place, told, refl))
 told_so env (edit.OfBug word e) old place told = (noop_op env, inl (place, told, refl))
+
+-- the place of a word that does not keep its rule
+abbrev told_at : ℕ → Bool → Option ℕ
+told_at place keeps = if keeps then None else Some place
+
+-- a title and a message are no bad words where they are asked for
+pub messages_kept : (word title message : List ℕ) → is_title_text title ≡ true → is_message_text message ≡ true
+    → (bad_word_of (edit.OfBug word (kind.Comment message)) ≡ None) × (bad_word_of (edit.New title message) ≡ None)
+    × (bad_word_of (edit.OfBug word (kind.Metadata title message)) ≡ None)
+messages_kept word title message is_title is_message = (
+  ap (told_at 2) is_message,
+  ap (λ (keeps : Bool). if keeps then told_at 2 (is_message_text message) else Some 1) is_title ∙ ap (told_at 2) is_message,
+  ap (λ (keeps : Bool). if keeps then told_at 3 (is_message_text message) else Some 2) is_title ∙ ap (told_at 3) is_message,
+)
 
 -- ---- what an operation has that a command makes
 

@@ -19,6 +19,7 @@ ghost use Rattle.repo_steps.specs.Effects.{ChangesNothing, KeepsAllElse, no_chan
 ghost use Rattle.repo_steps.specs.declared.edit.BugEdit.{BugEdit as BugEditValue};
 ghost use Rattle.repo_steps.specs.declared.edit.BugEdit.TheVariants as kind;
 ghost use Rattle.gb_text.specs.Digits.{IsId};
+ghost use Rattle.gb_text.specs.Rules.{is_message_text, is_title_text};
 ghost use Rattle.gb_text.specs.declared.decimal.TheConstants.{LIMIT};
 ghost use Rattle.gb_text.specs.Folder.{is_rooted, joined};
 ghost use Rattle.gb_text.specs.Overlap.{Overlap};
@@ -185,6 +186,7 @@ pub fn labels_that_change_are_written()
 
 /// What is told of words that break a rule is the place of the first of them, counted from 1 over all
 /// words of the command, and the command is refused with it; and none is told where each keeps its rule.
+/// A comment, what begins a bug, and a value under a key may be any message, of several lines too.
 pub fn first_bad_words_are_told()
     ensures first { (command : EditValue) (place : ℕ) → bad_word_of command ≡ Some place
         → IsFirstBad (words_keep command) place }
@@ -192,6 +194,11 @@ pub fn first_bad_words_are_told()
         → all_keep (words_keep command) ≡ true }
     ensures refused { (env : EnvValue) (command : EditValue) (old : History) (place : ℕ)
         → bad_word_of command ≡ Some place → Refused env command old (refusal.BadText place) }
+    ensures messages { (word title message : List ℕ) → is_title_text title ≡ true
+        → is_message_text message ≡ true
+        → (bad_word_of (OfBug word (kind.Comment message)) ≡ None)
+        × (bad_word_of (New title message) ≡ None)
+        × (bad_word_of (OfBug word (kind.Metadata title message)) ≡ None) }
 {}
 
 /// The operation of an edit is of the moment, by the seed, and has neither metadata of its own nor
