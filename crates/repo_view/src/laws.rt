@@ -1,14 +1,25 @@
 //! Laws of what is shown of a folder, each the contract of a function that does nothing.
-ghost use Rattle.std.specs.Prelude.{◌≡◌, [], ◌∷◌, List, ℕ, Some, Ok, Err};
+ghost use Rattle.std.specs.Prelude.{◌≡◌, ◌++◌, [], ◌∷◌, List, ℕ, Option, Some, Ok, Err, codes, decimal};
+ghost use Rattle.std.specs.List.{flat_map};
+ghost use Rattle.hex.specs.Hex.{encode_lower};
 ghost use Rattle.bug_ops.specs.Kind.{bug_kind};
+ghost use Rattle.bug_ops.specs.declared.op.BugOp.{BugOp as OpValue};
+ghost use Rattle.snapshot.specs.LastMention.{snapshot_of};
+ghost use Rattle.dag_entity.specs.Entities.{IsOperationList};
 ghost use Rattle.dag_entity.specs.Faults.{EntityFaultHolds};
+ghost use Rattle.dag_entity.specs.declared.entity.Entity.{Entity as EntityValue};
+ghost use Rattle.dag_entity.specs.declared.entity.Placed.{Placed as PlacedValue};
 ghost use Rattle.dag_entity.specs.declared.fault.EntityFault.{EntityFault};
+ghost use Rattle.identity.specs.declared.chain.Person.{Person as PersonValue};
+ghost use Rattle.render.specs.Show.{show_text_of};
+ghost use Rattle.render.specs.Users.{is_user, star};
 ghost use Rattle.gb_store.specs.Files.{Files};
 ghost use Rattle.gb_text.specs.Folder.{joined};
 ghost use Rattle.gb_text.specs.declared.id.Id.{Id};
 ghost use Rattle.object_store.specs.Held.{objects_in};
-ghost use Rattle.repo_state.specs.Answers.{HasBadPerson};
-ghost use Rattle.repo_state.specs.Bugs.{AreLocal, FindsBug, IsDamagedBug};
+ghost use Rattle.repo_state.specs.Answers.{HasBadPerson, IsUser};
+ghost use Rattle.repo_state.specs.Bugs.{AreLocal, FindsBug, IsBug, IsDamagedBug};
+ghost use Rattle.repo_state.specs.People.{ArePeople};
 ghost use Rattle.repo_state.specs.Sides.{found_by, ref_place};
 ghost use Rattle.repo_state.specs.Sound.{IsSound};
 ghost use Rattle.repo_state.specs.declared.refusal.Refusal.{Refusal};
@@ -116,4 +127,27 @@ pub fn sound_folders_are_shown()
         → ShowAnswers files folder word (Err (stop.Refused (refusal.Damaged path))) → ⊥ }
     ensures users { (files : Files) (folder path : List ℕ) → IsSound folder files
         → UsersAnswers files folder (Err (stop.Refused (refusal.Damaged path))) → ⊥ }
+{}
+
+/// What stands in the texts, in order. A log has a line for each commit of the entity of the bug that
+/// the word finds, in the order of its packs: the edit clock, a space, the name. A bug is shown by the
+/// list of its operations, with the names of the people of the folder. People have a line each, in the
+/// order of ids: the id, the name and the email with TABs between, and a star for the user.
+pub fn texts_tell_what_stands_there()
+    ensures log { (files : Files) (folder word text : List ℕ)
+        → LogAnswers files folder word (Ok text) → (bug : HeadEntry)
+        × FindsBug files folder word bug × (entity : EntityValue OpValue)
+        × IsBug files folder bug entity
+        × (text ≡ flat_map (λ (p : PlacedValue OpValue). decimal p.pack.edit ++ codes " "
+        ++ encode_lower p.commit.bytes ++ codes "\n") entity.packs) }
+    ensures show { (files : Files) (folder word text : List ℕ) (people : List PersonValue)
+        → ArePeople files folder people → ShowAnswers files folder word (Ok text)
+        → (bug : HeadEntry) × FindsBug files folder word bug × (ops : List OpValue)
+        × IsOperationList bug_kind (objects_in files folder) (bug.name ∷ []) ops
+        × (text ≡ show_text_of (snapshot_of ops) people) }
+    ensures users { (files : Files) (folder text : List ℕ) (people : List PersonValue)
+        (user : Option Id) → ArePeople files folder people → IsUser files folder user
+        → UsersAnswers files folder (Ok text)
+        → text ≡ flat_map (λ (p : PersonValue). encode_lower p.id.bytes ++ codes "\t" ++ p.name
+        ++ codes "\t" ++ p.email ++ star (is_user user p.id) ++ codes "\n") people }
 {}
