@@ -1,18 +1,20 @@
 //! Laws of runs, each the contract of a function that does nothing.
-ghost use Rattle.std.specs.Prelude.{◌≡◌, ◌++◌, List, ℕ, Some, None, Ok, Err, codes};
+ghost use Rattle.std.specs.Prelude.{◌≡◌, ◌≤◌, ◌+◌, ◌++◌, List, ℕ, Some, None, Ok, Err, codes};
 ghost use Rattle.hex.specs.Hex.{encode_lower};
 ghost use Rattle.gb_text.specs.Folder.{folder_of};
 ghost use Rattle.gb_text.specs.declared.id.Id.{Id};
-ghost use Rattle.gb_store.specs.Files.{History, files_of};
+ghost use Rattle.gb_store.specs.Files.{Files, History, files_of};
 ghost use Rattle.repo_state.specs.Sound.{IsSound};
 ghost use Rattle.repo_steps.specs.Kept.{LosesNothing};
 ghost use Rattle.repo_steps.specs.Steps.{Steps};
 ghost use Rattle.repo_steps.specs.declared.edit.Edit.{Edit as Edits};
+ghost use Rattle.repo_steps.specs.declared.edit.Edit.TheVariants as edits;
 ghost use Rattle.repo_state.specs.declared.env.Env.{Env};
 ghost use Rattle.repo_state.specs.declared.refusal.Refusal.{Refusal};
 ghost use Rattle.repo_state.specs.declared.refusal.Refusal.TheVariants as refusal;
 ghost use Rattle.repo_state.specs.declared.refusal.Stop.TheVariants as stop;
 ghost use Rattle.bug_run.specs.Printed.{IsTold};
+ghost use Rattle.bug_run.specs.Reads.{ReadsCommand};
 ghost use Rattle.bug_run.specs.Run.{Call, CommandAnswers, RunAnswers, bad_word_in};
 ghost use Rattle.bug_run.specs.Runs.{Runs};
 ghost use Rattle.bug_run.specs.Told.{Said};
@@ -58,6 +60,20 @@ pub fn edits_tell_what_they_made()
         → CommandAnswers env (ask.Edit edit) old new (Ok said)
         → (id : Id) × Steps env edit (files_of old) (files_of new) id
         × (said.text ≡ encode_lower id.bytes ++ codes "\n") × (said.refused ≡ 0) }
+{}
+
+/// How few objects the commands read that look at no chain and no bug: a new person three, a new bug
+/// four, another user none.
+pub fn edits_read_few_objects()
+    ensures person { (files : Files) (folder name email : List ℕ) (before after : ℕ)
+        → ReadsCommand files folder (ask.Edit (edits.UserNew name email)) ⊥ before after
+        → after ≤ before + 3 }
+    ensures bug { (files : Files) (folder title message : List ℕ) (before after : ℕ)
+        → ReadsCommand files folder (ask.Edit (edits.New title message)) ⊥ before after
+        → after ≤ before + 4 }
+    ensures user { (files : Files) (folder id : List ℕ) (before after : ℕ)
+        → ReadsCommand files folder (ask.Edit (edits.UserSet id)) ⊥ before after
+        → after ≡ before }
 {}
 
 /// What the words alone decide, over every store: the usage is told exactly where they give no

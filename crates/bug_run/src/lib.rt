@@ -10,7 +10,8 @@ mod top;
 mod words;
 
 pub use laws::{
-    answers_are_determined, edits_tell_what_they_made, runs_keep_folders, words_decide_first,
+    answers_are_determined, edits_read_few_objects, edits_tell_what_they_made, runs_keep_folders,
+    words_decide_first,
 };
 pub use status::Status;
 pub use top::run;
