@@ -35,7 +35,7 @@ module _ (Rule : History → List Change → Change → Type 0) where
   EachWrite-wider Wide old wider (change ∷ writes) each = (EachWrite-wider Wide old wider writes each.0, wider writes change each.1)
 
 -- no write
-WroteBy-none : (Rule : History → List Change → Change → Type 0) (old new : History) → new ≡ old → WroteBy Rule old new
+pub WroteBy-none : (Rule : History → List Change → Change → Type 0) (old new : History) → new ≡ old → WroteBy Rule old new
 WroteBy-none Rule old new same = record { writes = []; grew = same; each = tt }
 
 -- one write that is allowed, made or not

@@ -7,5 +7,6 @@ pub mod MemStore
 pub mod Moments
 pub mod ObjectPath
 pub mod ObjectTail
+pub mod Turns
 pub mod WriteSink
 pub mod Writing

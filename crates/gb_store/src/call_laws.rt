@@ -18,25 +18,25 @@ pub trait CallRule {
     ghost allows: { History → List Change → Change → Type 0 };
 }
 
-/// Nothing written is written by any rule.
+/// A call that writes nothing writes by any rule.
 pub fn wrote_nothing_by<R: CallRule>()
     ensures { (old : History) → WroteBy R.allows old old }
 {}
 
-/// A write that a rule allows as the first is written by it.
+/// A first write that a rule allows is written by the rule.
 pub fn wrote_one_by<R: CallRule>()
     ensures { (change : Change) (old : History) → R.allows old [] change
         → WroteBy R.allows old (change ∷ old) }
 {}
 
-/// What two calls wrote by a rule, one after the other, is written by it in one, where the rule
-/// allows from the earlier entry what it allows from the later one.
+/// Two calls that write by a rule, one after the other, together write by it, if the rule allows
+/// from the earlier entry what it allows from the later one.
 pub fn wrote_by_composes<R: CallRule>()
     ensures { AllowsFromEarlier R.allows → (old mid new : History) → WroteBy R.allows old mid
         → WroteBy R.allows mid new → WroteBy R.allows old new }
 {}
 
-/// What is written by a rule is written by one that is wider from that entry.
+/// What is written by a rule is written by any rule that is wider from that entry.
 pub fn wrote_by_weakens<R: CallRule, W: CallRule>()
     ensures { (old new : History)
         → ((earlier : List Change) (change : Change) → R.allows old earlier change
@@ -44,7 +44,7 @@ pub fn wrote_by_weakens<R: CallRule, W: CallRule>()
         → WroteBy R.allows old new → WroteBy W.allows old new }
 {}
 
-/// Of what is written by a rule, the writes before a moment are, and those after it, where the rule
+/// If a call writes by a rule, so do its writes before any point, and those after it, if the rule
 /// allows from a later entry what it allows from an earlier one.
 pub fn each_part_is_allowed_by<R: CallRule>()
     ensures before { (old new moment : History) → WroteBy R.allows old new
@@ -53,15 +53,15 @@ pub fn each_part_is_allowed_by<R: CallRule>()
         → WroteBy R.allows old new → IsMoment old new moment → WroteBy R.allows moment new }
 {}
 
-/// Where a rule allows each of a list of writes, some first ones of them are written by it.
+/// If a rule allows each of a list of writes, every prefix of the list is written by it.
 pub fn first_writes_are_allowed<R: CallRule>()
     ensures { (writes : List Change) (old new : History)
         → EachWrite R.allows old (reverse writes) → WroteSome writes old new
         → WroteBy R.allows old new }
 {}
 
-/// What each write that a rule allows keeps holds at each moment of what is written by it, if it
-/// held before.
+/// A property that every allowed write keeps holds at every point of a call that writes by the
+/// rule, if it held before.
 pub fn kept_at_each_moment_by<R: CallRule, P: Property>()
     ensures { (old new : History)
         → ((earlier : List Change) (change : Change) → P.holds (files_of (earlier ++ old))

@@ -8,7 +8,7 @@ ghost use Rattle.gb_store.specs.Files.{Files, written};
 ghost use Rattle.gb_store.specs.ObjectPath.{is_object_path, object_place};
 ghost use Rattle.gb_store.specs.declared.store.Change.{Change};
 
-/// A write below a folder leaves what stands below a folder that does not overlap it.
+/// A write below a folder leaves all files below a folder that does not overlap it.
 pub fn writes_leave_folders_apart()
     ensures { (files : Files) (change : Change) (folder other place rest : List ℕ)
         → change.path ≡ joined other place → is_rooted place ≡ false → is_rooted rest ≡ false
@@ -23,7 +23,7 @@ pub fn writes_leave_other_places()
         → written files change (joined folder rest) ≡ files (joined folder rest) }
 {}
 
-/// A write at a path that is no object's leaves the objects of every folder.
+/// A write at a path that is not an object's leaves the objects of every folder.
 pub fn other_writes_leave_objects()
     ensures { (files : Files) (change : Change) (folder : List ℕ) (name : Name)
         → is_object_path change.path ≡ false → IsName name
@@ -31,7 +31,7 @@ pub fn other_writes_leave_objects()
         ≡ files (joined folder (object_place name)) }
 {}
 
-/// Objects of different names stand at different places, and at different paths of all folders.
+/// Objects with different names have different paths, in one folder and across folders.
 pub fn names_have_their_own_paths()
     ensures place { (one two : Name) → IsName one → IsName two
         → object_place one ≡ object_place two → one ≡ two }

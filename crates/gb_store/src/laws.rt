@@ -30,7 +30,7 @@ pub trait Property {
     ghost holds: { Files → Type 0 };
 }
 
-/// A write changes what stands at its path, and at no other.
+/// A write changes the file at its path, and no other.
 pub fn writes_change_their_path()
     ensures put { (path bytes : List ℕ) (earlier : History)
         → file_at (Put path bytes ∷ earlier) path ≡ Some bytes }
@@ -50,30 +50,30 @@ pub fn counts_rise_in_part()
         → HasRisen before after }
 {}
 
-/// Nothing written is written by any rule.
+/// A call that writes nothing writes by any rule.
 pub fn wrote_nothing<R: Rule>()
     ensures { (old : History) → Wrote R.allows old old }
 {}
 
-/// A write that a rule allows is written by it.
+/// A write that a rule allows is written by the rule.
 pub fn wrote_one<R: Rule>()
     ensures { (change : Change) (old : History) → R.allows (files_of old) change
         → Wrote R.allows old (change ∷ old) }
 {}
 
-/// What two calls wrote by a rule, one after the other, is written by it.
+/// Two calls that write by a rule, one after the other, together write by it.
 pub fn wrote_composes<R: Rule>()
     ensures { (old mid new : History) → Wrote R.allows old mid → Wrote R.allows mid new
         → Wrote R.allows old new }
 {}
 
-/// What is written by a rule is written by a wider one.
+/// What is written by a rule is written by any wider rule.
 pub fn wrote_weakens<R: Rule, W: Rule>()
     ensures { ((files : Files) (change : Change) → R.allows files change → W.allows files change)
         → (old new : History) → Wrote R.allows old new → Wrote W.allows old new }
 {}
 
-/// Of what is written by a rule, the writes before a moment are, and those after it.
+/// If a call writes by a rule, so do its writes before any point, and those after it.
 pub fn each_part_is_allowed<R: Rule>()
     ensures before { (old new moment : History) → Wrote R.allows old new
         → IsMoment old new moment → Wrote R.allows old moment }
@@ -81,8 +81,7 @@ pub fn each_part_is_allowed<R: Rule>()
         → Wrote R.allows moment new }
 {}
 
-/// The moments of a call are what its writes are cut to, from as many as there were before it to as
-/// many as there are after it: the files of such a cut are those of a moment.
+/// The states during a call are exactly the cuts of its writes.
 pub fn cuts_are_moments()
     ensures cut { (old new : History) (count : ℕ) → IsMoment old new old → length old ≤ count
         → count ≤ length new → IsMoment old new (first_writes count new) }
@@ -92,8 +91,8 @@ pub fn cuts_are_moments()
         → moment ≡ first_writes (length moment) new }
 {}
 
-/// What each write that a rule allows keeps holds at each moment of what is written by it, if it
-/// held before.
+/// A property that every allowed write keeps holds at every point of a call that writes by the
+/// rule, if it held before.
 pub fn kept_at_each_moment<R: Rule, P: Property>()
     ensures { ((files : Files) (change : Change) → P.holds files → R.allows files change
         → P.holds (written files change))
@@ -101,30 +100,30 @@ pub fn kept_at_each_moment<R: Rule, P: Property>()
         → AllMoments P.holds old new }
 {}
 
-/// Some of a list of writes were made, in order, exactly where it begins with those that were made.
+/// The first of a list of writes were made exactly when the list begins with the writes that were
+/// made.
 pub fn some_are_the_first()
     ensures { (writes : List Change) (old new : History) → WroteSome writes old new
         ↔ ((done : List Change) × (later : List Change) × (writes ≡ done ++ later)
         × (new ≡ reverse done ++ old)) }
 {}
 
-/// What holds of the faults of two calls, one after the other, holds of both together, where the
-/// first did not fail: both fail where the second does.
+/// If the first of two calls did not fail, the faults of both together are those of the second.
 pub fn faults_compose<S: Store>()
     ensures { (failed : Bool) (old mid new : S) → KeepsFaults S.never_fails S.faults ⊥ old mid
         → KeepsFaults S.never_fails S.faults (IsTrue failed) mid new
         → KeepsFaults S.never_fails S.faults (IsTrue failed) old new }
 {}
 
-/// The same of the faults of a sink.
+/// The same holds for the faults of a sink.
 pub fn sink_faults_compose<K: Sink>()
     ensures { (failed : Bool) (old mid new : K) → KeepsFaults K.never_fails K.faults ⊥ old mid
         → KeepsFaults K.never_fails K.faults (IsTrue failed) mid new
         → KeepsFaults K.never_fails K.faults (IsTrue failed) old new }
 {}
 
-/// The moments of two calls, one after the other, are those of the first and those of the second,
-/// so what holds at each of both holds at each of the whole.
+/// The states during two calls, one after the other, are those during the first and those during
+/// the second.
 pub fn moments_compose<P: Property>()
     ensures split { (old mid new moment : History) → IsMoment old mid old → IsMoment mid new mid
         → IsMoment old new moment ↔ (IsMoment old mid moment ⊎ IsMoment mid new moment) }
@@ -132,8 +131,8 @@ pub fn moments_compose<P: Property>()
         → AllMoments P.holds mid new → AllMoments P.holds old new }
 {}
 
-/// A path is that of an object exactly where it is a front that ends a part, `objects/`, two
-/// digits, `/` and thirty-eight.
+/// A path is an object's exactly when its last parts are `objects`, two digits, and thirty-eight
+/// digits.
 pub fn object_paths_by_form()
     ensures { (path : List ℕ) → IsTrue (is_object_path path) ↔ IsObjectPath path }
 {}

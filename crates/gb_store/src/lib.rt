@@ -12,6 +12,7 @@ mod mem_store;
 mod object_path;
 mod sink;
 mod store;
+mod turn_laws;
 mod write_sink;
 mod writes;
 
@@ -35,5 +36,8 @@ pub use mem_store::{Fail, MemStore};
 pub use object_path::is_object_path;
 pub use sink::{Sink, write_whole};
 pub use store::{Change, Content, Store};
+pub use turn_laws::{
+    Turn, turns_are_moments, turns_keep_at_each_moment, turns_write_by_their_rule,
+};
 pub use write_sink::WriteSink;
 pub use writes::write_all;

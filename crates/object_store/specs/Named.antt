@@ -1,4 +1,4 @@
--- What was read for a name, whatever the store tells of its files.
+-- What was read for a name, over stores that show their files and stores that do not.
 use Rattle.std.specs.Prelude.{◌≡◌, ◌≤◌, ⊤, ℕ, List, length, Result, Ok, Err}
 use Rattle.gb_text.specs.declared.id.Name.{Name}
 use Rattle.git_object.specs.declared.object.Object.{Object}

@@ -14,8 +14,8 @@ ghost use Rattle.object_store.specs.Typed.{HasKindFault, HoldsAs, as_blob, as_co
 
 use crate::read::MOST_BYTES;
 
-/// What is computed of a name is what it holds: the object whose text by Git's grammar is the file
-/// under the name, where that file has at most 4,194,304 bytes and the SHA-1 that the name says.
+/// A name holds the object whose text by Git's grammar is the file there, if the file is small
+/// enough and has that SHA-1.
 pub fn held_objects_are_read()
     ensures { (objects : Objects) (name : Name) (object : Object)
         → (object_at objects name ≡ Some object) ↔ IsHeld objects name object }
@@ -35,7 +35,7 @@ pub fn a_name_holds_an_object_or_fails()
         → IsHeld objects name object → HasObjectFault objects name → ⊥ }
 {}
 
-/// So it is with commits, trees and blobs.
+/// A name holds an object of a kind or has a fault, and never both.
 pub fn a_name_holds_a_kind_or_fails()
     ensures commit { (objects : Objects) (name : Name)
         → HoldsAs as_commit objects name ⊎ HasKindFault as_commit objects name }
@@ -57,13 +57,13 @@ pub fn distinct_names_have_distinct_paths()
         → joined folder (object_place one) ≡ joined folder (object_place two) → one ≡ two }
 {}
 
-/// Writes of objects, each where nothing stands, only add to the objects of the folder.
+/// Writes of objects, each where nothing is stored, only add to the objects of the folder.
 pub fn writes_of_objects_only_add()
     ensures { (folder : List ℕ) (old new : History) → Wrote (PutsObject folder) old new
         → OnlyGrew (objects_after old folder) (objects_after new folder) }
 {}
 
-/// While objects are only added, what was held stays held.
+/// If objects are only added, what was held stays held.
 pub fn what_is_held_stays()
     ensures text { (old new : Objects) (name : Name) (text : List ℕ) → OnlyGrew old new
         → text_at old name ≡ Some text → text_at new name ≡ Some text }
@@ -71,7 +71,7 @@ pub fn what_is_held_stays()
         → object_at old name ≡ Some object → object_at new name ≡ Some object }
 {}
 
-/// No addition is one, and one after another is one.
+/// Writing nothing is an addition, and additions compose.
 pub fn additions_compose()
     ensures none { (objects : Objects) → OnlyGrew objects objects }
     ensures then { (old mid new : Objects) → OnlyGrew old mid → OnlyGrew mid new

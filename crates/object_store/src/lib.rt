@@ -18,7 +18,7 @@ pub use laws::{
 };
 pub use object_text::ObjectText;
 pub use path::path_of;
-pub use read::{MOST_BYTES, Raw, get, get_raw, get_text, judge, judge_raw};
+pub use read::{MOST_BYTES, Raw, get, get_raw, get_text, judge, judge_object};
 pub use typed::{get_blob, get_commit, get_tree};
 pub use view::{commit_in, tree_in};
 pub use write::{put, put_text, stands};

@@ -41,7 +41,7 @@ pub fn get<S: Store>(
         disk.old disk.new }
 {
     let read = read_file(alloc, disk, folder, name)?;
-    judge(alloc, name, read)
+    judge_object(alloc, name, read)
 }
 
 /// The kind and the content of that object, as they stand in its text, with the same refusals.
@@ -62,7 +62,7 @@ pub fn get_raw<S: Store>(
         disk.old disk.new }
 {
     let read = read_file(alloc, disk, folder, name)?;
-    judge_raw(alloc, name, read)
+    judge(alloc, name, read)
 }
 
 /// The text under the name in the folder: the file at the name's path, where it has at most
@@ -89,7 +89,7 @@ pub fn get_text<S: Store>(
 
 /// What a name holds in each folder where this was read at its path, asked for as many bytes as an
 /// object may have: the answer of `get`, without the read.
-pub fn judge(alloc: Global, name: &Name, read: Content) -> Result<Object, ObjFault>
+pub fn judge_object(alloc: Global, name: &Name, read: Content) -> Result<Object, ObjFault>
     ensures answers { (objects : Objects) → TellsFile (objects name.now) MOST_BYTES read
         → Answers objects name.now result }
     ensures asked { IsFor (IsObjectOf name.now) name.now result }
@@ -103,7 +103,7 @@ pub fn judge(alloc: Global, name: &Name, read: Content) -> Result<Object, ObjFau
 }
 
 /// The same answer as `get_raw` gives it.
-pub fn judge_raw(alloc: Global, name: &Name, read: Content) -> Result<Raw, ObjFault>
+pub fn judge(alloc: Global, name: &Name, read: Content) -> Result<Raw, ObjFault>
     ensures answers { (objects : Objects) → TellsFile (objects name.now) MOST_BYTES read
         → AnswersRaw objects name.now result }
     ensures asked { IsFor (IsRawOf name.now) name.now result }
