@@ -13,7 +13,7 @@ ghost use Rattle.bug_ops.specs.declared.op.BugOp.{BugOp as OpValue};
 ghost use Rattle.bug_ops.specs.declared.op.BugOp.TheVariants.{LabelChange};
 ghost use Rattle.bug_ops.specs.declared.snapshot.Snapshot.{Snapshot as SnapshotValue};
 
-/// A label is on after a label change exactly where it is added or was on before, and is not
+/// After a label change a label is on exactly when it is added or was on before, and is not
 /// removed. So one that is both added and removed is off.
 pub fn labels_go_by_mention()
     ensures { (common : CommonValue) (labels added removed : List (List ℕ)) (label : List ℕ)
@@ -21,9 +21,8 @@ pub fn labels_go_by_mention()
         ≡ ((is_among added label || is_among labels label) && not (is_among removed label)) }
 {}
 
-/// Each snapshot that can be reached by operations that keep the rules is in order: labels and
-/// metadata ascend in byte order and stand once, actors and participants stand once, and the
-/// comments are counted.
+/// Each snapshot that valid operations reach is in order: labels and metadata ascend in byte order,
+/// nothing is listed twice, and the comments are counted.
 pub fn reached_snapshots_are_in_order()
     ensures start { IsInOrder empty_snapshot }
     ensures step { (snapshot : SnapshotValue) (op : OpValue) → KeepsOp bug_table op
@@ -32,7 +31,7 @@ pub fn reached_snapshots_are_in_order()
         → IsInOrder (state_from bug_kind empty_snapshot ops) }
 {}
 
-/// The members of an operation are written in byte order of their names, each once.
+/// An operation's members are written in byte order of their names, each once.
 pub fn written_members_are_in_order()
     ensures { (op : OpValue) → NamesAscend (members_of_op bug_table op) }
 {}

@@ -1,5 +1,5 @@
-//! The id of a comment: digits of its bug's id and of its own, mixed so that each front of two digits
-//! or more has digits of both.
+//! The id of a comment: digits of its bug's id and of its own, mixed so that each prefix of two
+//! digits or more has digits of both.
 #![tactic(auto)]
 
 mod laws;

@@ -9,8 +9,8 @@ ghost use Rattle.commit_pack.specs.declared.fault.CommitPackFault.{CommitPackFau
 
 use op_kind::OpKind;
 
-/// What is computed of a tree's name is the pack of which the tree says the head, and the blob that
-/// its file `ops` names is the text.
+/// The pack computed from a tree's name has the head that the tree gives and the text of the blob
+/// that its file `ops` names.
 pub fn packs_of_commits_are_exact<K: OpKind>()
     ensures found { (objects : Objects) (tree : NameValue) (pack : PackValue K)
         → pack_under K.meaning objects tree ≡ Some pack
@@ -30,7 +30,7 @@ pub fn a_commit_has_a_pack_or_fails<K: OpKind>()
         → CommitPackFaultHolds K.meaning objects tree fault → ⊥ }
 {}
 
-/// While objects are only added, a commit keeps its pack.
+/// If objects are only added, a commit keeps its pack.
 pub fn packs_of_commits_stay<K: OpKind>()
     ensures { (old new : Objects) (tree : NameValue) (pack : PackValue K) → OnlyGrew old new
         → pack_under K.meaning old tree ≡ Some pack

@@ -8,7 +8,7 @@ ghost use Rattle.dag_graph.specs.Order.{IsOrder, ParentsComeFirst, listed};
 ghost use Rattle.dag_graph.specs.declared.fault.GraphFault.TheVariants as fault;
 ghost use Rattle.dag_graph.specs.declared.node.Node.{Node};
 
-/// Below is reflexive and transitive, and so is being an ancestor.
+/// 'Below' and 'ancestor' are reflexive and transitive.
 pub fn below_is_transitive()
     ensures heads { (nodes : List Node) (heads : List Name) (name : Name) → Contains heads name
         → IsBelow nodes heads name }
@@ -20,14 +20,14 @@ pub fn below_is_transitive()
         → IsAncestor nodes mid high → IsAncestor nodes low high }
 {}
 
-/// What is below is what adding parents gives, as many times as there are nodes.
+/// 'Below' is what adding parents gives, repeated as often as there are nodes.
 pub fn below_is_what_adding_parents_gives()
     ensures { (nodes : List Node) (heads : List Name) (name : Name)
         → IsBelow nodes heads name ↔ Contains (added nodes heads (length nodes)) name }
 {}
 
-/// Where clocks rise, an ancestor other than the node has a lesser clock, and nodes that are
-/// ancestors of one another are one.
+/// If clocks rise, every other ancestor has a smaller clock, and two nodes that are ancestors of
+/// each other are the same node.
 pub fn ancestors_have_lesser_clocks()
     ensures lesser { (nodes : List Node) (low high : Node) → AreNodes nodes → ClocksRise nodes
         → Contains nodes low → Contains nodes high → IsAncestor nodes low.name high.name
@@ -43,9 +43,7 @@ pub fn a_ring_has_a_clock_fault()
         → (high : Name) × (low : Name) × HasClockOrder nodes high low }
 {}
 
-/// What is wrong with a graph, each with the name that is told first: a commit without parents beside
-/// another; one whose clock is not greater than a parent's; one with a clock that is more than 1,000,000
-/// above that of its one parent, and no other; and one of two parents or more that has an operation.
+/// A graph with the cause of a fault has that fault, with its numbers and the commit that it names.
 pub fn graph_faults_are_known()
     ensures root { (nodes : List Node) (one other : Node) → Contains nodes one
         → Contains nodes other → one.name ≢ other.name → one.parents ≡ [] → other.parents ≡ []
@@ -66,28 +64,27 @@ pub fn graph_faults_are_known()
         → GraphFaultHolds nodes (fault.MergeHasOperations commit.name) }
 {}
 
-/// Where no fault holds there is exactly one root, and every node leads to it.
+/// A graph without a fault has exactly one root, and every node leads to it.
 pub fn a_graph_without_faults_has_one_root()
     ensures { (nodes : List Node) → AreNodes nodes → IsFaultless nodes
         → (root : ℕ) × IsRoot nodes root × ((place : ℕ) → place < length nodes
         → IsAncestor nodes (node_at nodes root).name (node_at nodes place).name) }
 {}
 
-/// Where clocks rise, the order lists each parent before its children.
+/// If clocks rise, the order lists each parent before its children.
 pub fn parents_stand_before_children()
     ensures { (nodes : List Node) (places : List ℕ) → IsOrder nodes places → ClocksRise nodes
         → ParentsComeFirst nodes places }
 {}
 
-/// A node with a greater clock than all, above any parents, stands at the end of the order.
+/// A node whose clock is greater than all others comes last in the order.
 pub fn a_later_node_stands_at_the_end()
     ensures { (nodes : List Node) (node : Node) (places : List ℕ) → IsOrder nodes places
         → ((other : Node) → Contains nodes other → other.edit < node.edit)
         → IsOrder (nodes ++ node ∷ []) (places ++ length nodes ∷ []) }
 {}
 
-/// A list of nodes has at most one order, and the same nodes in another list are listed in the same
-/// way.
+/// A list of nodes has at most one order, which does not depend on how the nodes were listed.
 pub fn orders_are_determined()
     ensures places { (nodes : List Node) (one other : List ℕ) → AreNodes nodes
         → IsOrder nodes one → IsOrder nodes other → one ≡ other }

@@ -7,7 +7,7 @@ use itoa::Buffer;
 /// The greatest moment, in seconds since 1970, and the greatest edit or create clock: 2^63 - 1.
 pub const LIMIT: u64 = 9223372036854775807;
 
-/// The limit is as the contracts above this crate write it.
+/// The limit has the value that contracts above this crate write.
 pub fn limit_is_known()
     ensures { LIMIT ≡ 2 ^ 63 - 1 }
 {}

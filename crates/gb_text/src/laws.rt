@@ -27,12 +27,12 @@ pub fn folders_overlap_each_other()
     ensures mutual { (one two : List ℕ) → Overlap one two → Overlap two one }
 {}
 
-/// Paths below one folder differ where their rests do.
+/// Paths below one folder differ if their parts below the folder differ.
 pub fn paths_keep_their_rest()
     ensures { (folder one two : List ℕ) → joined folder one ≡ joined folder two → one ≡ two }
 {}
 
-/// The text of a folder, where it is not empty, is a word of that folder.
+/// A folder's text, if it is not empty, reads again as that folder.
 pub fn folders_read_again()
     ensures { (word folder : List ℕ) → IsUtf8 word → folder_of word ≡ Some folder → folder ≢ []
         → folder_of folder ≡ Some folder }
@@ -54,7 +54,7 @@ pub fn names_are_in_order_of_their_texts()
         ≡ slice_cmp nat_cmp (encode_lower one.bytes) (encode_lower two.bytes) }
 {}
 
-/// A list that ascends strictly has no item twice, and is the only such list of its items.
+/// A strictly ascending list has no item twice, and is the only such list of its items.
 pub fn ascending_lists_are_their_items<T: Ord>()
     ensures once { (items : List T) → IsStrictlySortedBy T.cmp items
         → AllPairs (λ one other. one ≢ other) items }

@@ -22,7 +22,7 @@ pub fn values_are_exact()
         → (object_of text ≡ Some o) ↔ IsObjectText text o }
 {}
 
-/// The object text of a kind and a content has the object of that kind that has this content.
+/// The text of a kind and a content reads as the object of that kind with that content.
 pub fn frames_read_through()
     ensures { (kind : KindValue) (content : List ℕ)
         → object_of (framed kind content) ≡ object_with kind content }
@@ -40,7 +40,7 @@ pub fn each_text_has_one_value()
         → IsObjectText text p → o ≡ p }
 {}
 
-/// A value has at most one text; a tree that may be reordered has one in the writer's order.
+/// A value has at most one text, and a tree has one in the writer's order.
 pub fn each_value_has_one_text()
     ensures trees { (t sorted also : TreeValue) (content other : List ℕ) → IsSortedForm t sorted
         → IsSortedForm t also → IsTreeText content sorted → IsTreeText other also
@@ -51,7 +51,7 @@ pub fn each_value_has_one_text()
         → IsObjectText other o → text ≡ other }
 {}
 
-/// What is hashed is a name.
+/// The hash of a text is an object name.
 pub fn hashed_texts_have_names()
     ensures { (text : List ℕ) → IsName (object_name text) }
 {}

@@ -1,4 +1,4 @@
--- The parts of a text, as they stand in it.
+-- The parts of a text, as they occur in it.
 use Rattle.std.specs.Prelude.{◌≡◌, ℕ, List, Option, None, ⊤, map}
 use Rattle.std.specs.Option.{option_map}
 use Rattle.json_span.specs.Grammar.{Piece, Splits, IsRefusedAt, cut_of}

@@ -28,8 +28,8 @@ pub fn spans_ascend()
         → AscendFrom 0 spans }
 {}
 
-/// `members_of` and `elements_of` are the parts of a text by the grammar, where it has a split, and
-/// nothing elsewhere.
+/// `members_of` and `elements_of` give the parts of a text by the grammar, and nothing if it has no
+/// split.
 pub fn parts_by_grammar()
     ensures members { (text : List ℕ) (parts : List (List ℕ × List ℕ))
         → members_of text ≡ Some parts → HasMembers text parts }
@@ -51,14 +51,13 @@ pub fn scalars_are_values()
     ensures null { IsValueText 0 (codes "null") }
 {}
 
-/// What stands between quotes is a string where its parts are such.
+/// Parts of strings, joined between quotes, are a string.
 pub fn strings_are_joined()
     ensures quoted { (inner : List ℕ) → Chars inner → IsString (34 ∷ inner ++ 34 ∷ []) }
     ensures joined { (a b : List ℕ) → Chars a → Chars b → Chars (a ++ b) }
 {}
 
-/// An array or an object of value texts is a value text with one bracket more, and a value text of a
-/// depth is one of each depth above it.
+/// An array or object of value texts is a value text that is one bracket deeper.
 pub fn lists_are_values()
     ensures arrays { (depth : ℕ) (parts : List (List ℕ)) → All (IsValueText depth) parts
         → IsValueText (suc depth) (array_text parts) }
@@ -68,7 +67,7 @@ pub fn lists_are_values()
         → IsValueText high text }
 {}
 
-/// What is joined of value texts with commas and brackets splits into exactly these parts.
+/// Value texts joined with commas and brackets split into exactly these parts.
 pub fn joined_splits()
     ensures arrays { (parts : List (List ℕ)) → All IsPartText parts
         → elements_of (array_text parts) ≡ Some parts }
@@ -76,7 +75,7 @@ pub fn joined_splits()
         → members_of (object_text parts) ≡ Some parts }
 {}
 
-/// White space at the ends of a text changes no part, and makes no list.
+/// White space at the ends of a text changes no part.
 pub fn spaces_change_nothing()
     ensures objects { (before behind text : List ℕ) → Each is_space before → Each is_space behind
         → members_of (before ++ (text ++ behind)) ≡ members_of text }
@@ -84,7 +83,8 @@ pub fn spaces_change_nothing()
         → elements_of (before ++ (text ++ behind)) ≡ elements_of text }
 {}
 
-/// A value text that begins with a bracket splits again, where at most one bracket more is open than in a part.
+/// A value text that begins with a bracket splits again, if it is at most one bracket deeper than a part may
+/// be.
 pub fn lists_split()
     ensures objects { (depth : ℕ) (rest : List ℕ) → depth ≤ MOST_BRACKETS + 1
         → IsValueText depth (123 ∷ rest)
@@ -94,8 +94,8 @@ pub fn lists_split()
         → (parts : List (List ℕ)) × (elements_of (91 ∷ rest) ≡ Some parts) }
 {}
 
-/// The parts of a value text have one bracket fewer open, and any part has at most
-/// `MOST_BRACKETS`.
+/// The parts of a value text are one bracket shallower, and no part has more than `MOST_BRACKETS`
+/// open.
 pub fn parts_are_shallower()
     ensures members { (depth : ℕ) (text : List ℕ) (parts : List (List ℕ × List ℕ))
         → IsValueText (suc depth) text → members_of text ≡ Some parts

@@ -15,7 +15,7 @@ ghost use Rattle.object_store.specs.Typed.{HoldsAs, as_blob, as_commit, as_tree}
 ghost use Rattle.object_batch.specs.Batches.{AllStand, CannotHave, HasLong, MayBePut, missing_writes};
 ghost use Rattle.object_batch.specs.Needs.{AllHeld, InNeedOrder, IsHeldAs, IsWhole, LeadsTo, PutsAfterNeeds, Reference, kind_named};
 
-/// Texts that may be put are not refused: none of them is long, and each name can have its text.
+/// Texts that may be put are not refused: no text is too long, and each name can have its text.
 pub fn batches_are_put_or_refused()
     ensures long { (folder : List ℕ) (texts : List (List ℕ)) (old : History)
         → MayBePut folder texts old → HasLong texts → ⊥ }
@@ -23,8 +23,8 @@ pub fn batches_are_put_or_refused()
         → MayBePut folder texts old → CannotHave folder texts old name → ⊥ }
 {}
 
-/// After the missing ones of texts that may be put, each text is held under its name, and what stood
-/// before stands.
+/// After the missing texts are put, each text is held under its name, and everything held before is
+/// still held.
 pub fn batches_are_held()
     ensures held { (folder : List ℕ) (texts : List (List ℕ)) (old : History)
         → MayBePut folder texts old
@@ -38,8 +38,8 @@ pub fn batches_are_held()
         (files_of old)) ++ old)) folder) }
 {}
 
-/// Where each text names only objects that are held or come before it, each of the missing ones is
-/// written after all that its object names is held, as of its kind.
+/// If each text names only objects that are held or come before it, each missing text is written
+/// after everything that it names.
 pub fn batches_come_after_their_needs()
     ensures { (folder : List ℕ) (texts : List (List ℕ)) (old : History) → MayBePut folder texts old
         → InNeedOrder (objects_in (files_of old) folder) texts
@@ -47,8 +47,8 @@ pub fn batches_come_after_their_needs()
         (reverse (missing_writes folder texts (files_of old)) ++ old) }
 {}
 
-/// Where all is held that a commit names, its tree is a tree and each parent a commit; and these are
-/// all that it names. A blob names nothing.
+/// If everything that a commit names is held, its tree is a tree and each parent a commit, and it
+/// names nothing else. A blob names nothing.
 pub fn commits_need_their_tree_and_parents()
     ensures tree { (held : Objects) (commit : CommitValue) → AllHeld held (Commit commit)
         → HoldsAs as_tree held commit.tree }
@@ -61,8 +61,8 @@ pub fn commits_need_their_tree_and_parents()
     ensures blob { (held : Objects) (content : List ℕ) → AllHeld held (Blob content) }
 {}
 
-/// Where all is held that a tree names, each entry of a file or of a link is a blob and each folder a
-/// tree; and these are all that it names, since a module's commit is another repository's.
+/// If everything that a tree names is held, each file and link is a blob and each folder a tree, and
+/// it names nothing else.
 pub fn trees_need_their_entries()
     ensures plain { (held : Objects) (tree : TreeValue) (entry : EntryValue)
         → AllHeld held (Tree tree) → Contains tree.entries entry → entry.mode ≡ Plain
@@ -85,15 +85,14 @@ pub fn trees_need_their_entries()
     ensures module_free { kind_named Module ≡ None }
 {}
 
-/// In a whole folder all is held that a held object leads to, each as of its kind.
+/// In a whole folder everything that a held object leads to is held, with its kind.
 pub fn what_is_led_to_is_held()
     ensures { (held : Objects) (from to : Reference) → IsWhole held
         → IsHeldAs held from.name from.kind → LeadsTo held from to
         → IsHeldAs held to.name to.kind }
 {}
 
-/// Each object leads to itself; one path after another is one; and paths stay while objects are only
-/// added.
+/// Each object leads to itself, paths compose, and paths stay while objects are only added.
 pub fn paths_compose()
     ensures none { (held : Objects) (one : Reference) → LeadsTo held one one }
     ensures then { (held : Objects) (from mid to : Reference)

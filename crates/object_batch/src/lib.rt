@@ -1,5 +1,4 @@
-//! Several objects put in order: all of them, or none where one is refused; and the commits that are
-//! written so.
+//! Several objects put in order, all or none if one is refused; and the commits that are written so.
 #![tactic(auto)]
 
 mod batch;

@@ -10,3 +10,5 @@ pub mod KindLemmas
 pub mod Examples
 pub mod TableLaws
 pub mod WrittenLemmas
+pub mod NonceLengths
+pub mod EmptyMembers

@@ -1,4 +1,4 @@
--- A text has a common part exactly where none of its faults holds.
+-- A text has a common part exactly when none of its faults holds.
 use Rattle.std.proofs.Common.{◌≡◌, ◌≤◌, ◌⊎◌, inl, inr, refl, sym, ap, ◌∙◌, List, [], ◌∷◌, ℕ, zero, suc, Option, Some, None, arith}
 use Rattle.std.specs.Prelude.{option_and_then}
 use Rattle.std.specs.Option.{option_map}

@@ -1,4 +1,4 @@
--- Members have values exactly where they have no fault, and what is written reads back.
+-- Members have values exactly when they have no fault, and what is written reads back.
 use Rattle.std.proofs.Common.{◌≡◌, ◌⊎◌, ◌∙◌, inl, inr, refl, sym, ap, ℕ, Bool, true, false, List, [], ◌∷◌, Option, Some, None}
 use Rattle.std.specs.Prelude.{⊤, option_and_then, if◌then◌else◌}
 use Rattle.op_kind.specs.CommonLaws.{only-none, only-repeated, only-lacks, or-none, or-repeated, or-breaks}

@@ -1,4 +1,4 @@
--- What stands under a name does not depend on the order in which members are put, and what is put stays in order.
+-- The value under a name does not depend on the order in which members are put, and what is put stays in order.
 use Rattle.std.proofs.Common.{◌≡◌, ◌∙◌, refl, sym, ap, subst, ℕ, Bool, true, false, ◌&&◌, not, List, [], ◌∷◌, ◌++◌}
 use Rattle.std.specs.Prelude.{⊤, if◌then◌else◌}
 use Rattle.std.specs.List.{AllByRecursion, list_all}

@@ -1,8 +1,10 @@
 //! Laws of the definitions that the contracts cite. No call of them does anything.
-ghost use Rattle.std.specs.Prelude.{◌≡◌, ◌≢◌, ◌≤◌, ◌<◌, ◌-◌, ◌^◌, ◌++◌, ℕ, List, Option, Some, None, decimal};
+ghost use Rattle.std.specs.Prelude.{◌≡◌, ◌≢◌, ◌≤◌, ◌<◌, ◌-◌, ◌^◌, ◌++◌, ℕ, List, [], length, codes, Option, Some, None, decimal};
 ghost use Rattle.std.specs.List.{Contains};
 ghost use Rattle.std.specs.List.Sorted.{IsPermutation};
 ghost use Rattle.std.specs.Str.{IsUtf8};
+ghost use Rattle.base64.specs.Engines.{standard};
+ghost use Rattle.base64.specs.GeneralPurpose.{encode_of, IsBytes};
 ghost use Rattle.hex.specs.Hex.{encode_lower};
 ghost use Rattle.gb_text.specs.Decimal.{decimal_of};
 ghost use Rattle.gb_text.specs.Digits.{IsId};
@@ -11,10 +13,10 @@ ghost use Rattle.json.specs.Print.{quoted};
 ghost use Rattle.json_span.specs.Grammar.{IsValueText};
 ghost use Rattle.json_span.specs.Parts.{members_of};
 ghost use Rattle.op_kind.specs.Bounds.{IsWithinBounds};
-ghost use Rattle.op_kind.specs.Common.{common_at, time_at, nonce_in, metadata_at, CommonFault};
+ghost use Rattle.op_kind.specs.Common.{common_at, time_at, nonce_in, metadata_at, metadata_of, CommonFault};
 ghost use Rattle.op_kind.specs.Fold.{state_from, row_from};
 ghost use Rattle.op_kind.specs.Forms.{id_at, texts_at, FaultOfOne, FaultOfOptional};
-ghost use Rattle.op_kind.specs.Members.{Fields, text_at, fields_at, only_value, value_or};
+ghost use Rattle.op_kind.specs.Members.{Fields, text_at, fields_at, values_of, only_value, value_or};
 ghost use Rattle.op_kind.specs.Metadata.{pairs_at};
 ghost use Rattle.op_kind.specs.Nonces.{IsNonce};
 ghost use Rattle.op_kind.specs.Meaning.{version_of};
@@ -30,7 +32,7 @@ ghost use Rattle.op_kind.specs.declared.place.Pair.{Pair as PairValue};
 use crate::OpKind;
 use gb_text::LIMIT;
 
-/// A text has a common part exactly where none of its faults holds, and want of memory is none of
+/// A text has a common part exactly when none of its faults holds; out of memory is not one of
 /// them. The common part has the place that it is read at, and depends on it in nothing else.
 pub fn common_part_or_fault()
     ensures refused { (place : PlaceValue) (text : List ℕ) (fault : FaultValue)
@@ -45,8 +47,8 @@ pub fn common_part_or_fault()
         → common_at there text ≡ Some (record common { place = there }) }
 {}
 
-/// A member by its form has a value exactly where its fault does not hold: the member that must stand,
-/// and the one that may be absent.
+/// A member has a value in its form exactly when its fault does not hold, whether it is required or
+/// optional.
 pub fn member_value_or_fault<A>()
     ensures lacking { (number : ℕ) (read : List ℕ → Option A) (values : List (List ℕ))
         (fault : FaultValue) → FaultOfOne number read values fault → only_value read values ≡ None }
@@ -60,7 +62,7 @@ pub fn member_value_or_fault<A>()
         → FaultOfOptional number read values (BadMember number) }
 {}
 
-/// What a value is written as reads as the value.
+/// A written value reads back as the value.
 pub fn written_values_read_back()
     ensures texts { (text : List ℕ) → IsUtf8 text → text_at (quoted text) ≡ Some text }
     ensures decimals { (n : ℕ) → n < 2 ^ 64 → decimal_of (decimal n) ≡ Some n }
@@ -75,8 +77,27 @@ pub fn written_values_read_back()
         → metadata_at (pairs_text pairs) ≡ Some pairs }
 {}
 
-/// What a value is written as can be the value of a member: it is UTF-8 and a value text. A text, a
-/// number, a nonce and an id have no bracket, a list of texts and an object of pairs have one.
+/// A nonce has 20 to 64 bytes. The base64 text of so many bytes reads as them; the text of fewer bytes,
+/// or of more, reads as no nonce.
+pub fn nonces_have_20_to_64_bytes()
+    ensures read { (n : List ℕ) → IsBytes n → 20 ≤ length n → length n ≤ 64
+        → nonce_in (quoted (encode_of standard n)) ≡ Some n }
+    ensures short { (n : List ℕ) → IsBytes n → length n < 20
+        → nonce_in (quoted (encode_of standard n)) ≡ None }
+    ensures long { (n : List ℕ) → IsBytes n → 64 < length n
+        → nonce_in (quoted (encode_of standard n)) ≡ None }
+{}
+
+/// Metadata that are absent or `null` are none, and a list that is `null` is empty.
+pub fn null_and_absent_members_are_empty()
+    ensures metadata { metadata_at (codes "null") ≡ Some [] }
+    ensures absent { (fields : Fields) → values_of (codes "metadata") fields ≡ []
+        → metadata_of fields ≡ Some [] }
+    ensures lists { texts_at (codes "null") ≡ Some [] }
+{}
+
+/// A written value can be the value of a member: it is UTF-8 and a value text. A text, a number, a
+/// nonce and an id have no bracket, a list of texts and an object of pairs have one.
 pub fn written_values_are_values()
     ensures texts { (depth : ℕ) (name text : List ℕ) → IsUtf8 name → IsUtf8 text
         → IsWritable depth (name, quoted text) }
@@ -92,8 +113,8 @@ pub fn written_values_are_values()
         → EachPairUtf8 pairs → IsWritable depth (name, pairs_text pairs) }
 {}
 
-/// The pairs that an object is read as are those of its members, in byte order of their keys, and no
-/// key stands there twice. So they depend on which members there are, and not on their order.
+/// The pairs of an object are those of its members, in byte order of their keys, with no key twice.
+/// So they depend on which members there are, and not on their order.
 pub fn pairs_are_in_key_order()
     ensures found { (json : List ℕ) (pairs : List PairValue) → pairs_at json ≡ Some pairs
         → ArePairsOf json pairs }
@@ -107,8 +128,7 @@ pub fn pairs_are_in_key_order()
         → IsPermutation members others → pairs_at json ≡ pairs_at other }
 {}
 
-/// What a value reads as can be written again: texts are UTF-8, numbers within their limits, and pairs
-/// in byte order of their keys. So is a common part.
+/// A value that was read can be written again. So is a common part.
 pub fn read_values_are_within_bounds()
     ensures texts { (json text : List ℕ) → text_at json ≡ Some text → IsUtf8 text }
     ensures decimals { (json : List ℕ) (n : ℕ) → decimal_of json ≡ Some n → n < 2 ^ 64 }
@@ -125,8 +145,8 @@ pub fn read_values_are_within_bounds()
         → common_at place text ≡ Some common → IsWithinBounds common }
 {}
 
-/// The members that are written are those that are read, and what is written of them is the text of an
-/// operation, where their values have not too many brackets open at one place.
+/// Written members read back as the same members of an operation, if their values do not nest too
+/// deeply.
 pub fn written_members_read_back()
     ensures members { (fields : Fields) → EachWritable member_brackets fields
         → fields_at (fields_text fields) ≡ Some fields }
@@ -134,10 +154,10 @@ pub fn written_members_read_back()
         → IsOpText (fields_text fields) }
 {}
 
-/// What every kind keeps, by the laws of a kind alone. What was read of a text that a pack may hold is
-/// written and read again; what is written is read at any place where the operation may stand; a text
-/// is no operation exactly where it has a fault; its place does not change where an operation may
-/// stand; and the row of the last state is the last row.
+/// Every kind of operations reads what it writes, by the laws of a kind alone. What was read of a text
+/// that a pack may hold is written and read again; what is written is read at any place where the
+/// operation may stand; a text is no operation exactly where it has a fault; its place does not change
+/// where an operation may stand; and the row of the last state is the last row.
 pub fn kinds_read_what_they_write<K: OpKind>()
     ensures again { (place : PlaceValue) (text : List ℕ) (op : K) → IsUtf8 text
         → IsValueText op_brackets text → K.meaning.read_at place text ≡ Some op
@@ -163,7 +183,7 @@ pub fn kinds_read_what_they_write<K: OpKind>()
         ≡ row_from K.meaning (K.meaning.row_of state) ops }
 {}
 
-/// A list of operations folds as its front does, and the rest behind it.
+/// A list of operations folds as its prefix does, and then the rest.
 pub fn folds_append<K: OpKind>()
     ensures state { (state : K.State) (ops others : List K)
         → state_from K.meaning state (ops ++ others)

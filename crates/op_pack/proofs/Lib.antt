@@ -8,3 +8,4 @@ pub mod ExactLaws
 pub mod RuleLaws
 pub mod BackLaws
 pub mod Examples
+pub mod ReportLemmas

@@ -1,4 +1,4 @@
--- The pack of operations that a text stands for, what may be wrong with the text, and how a pack is written.
+-- The pack of operations that a text is, what may be wrong with the text, and how a pack is written.
 use Rattle.std.specs.Prelude.{◌≡◌, ⊤, ◌<◌, ◌≤◌, nat_le, ℕ, ◌+◌, List, [], ◌∷◌, ◌++◌, map, length, Option, Some, None, option_and_then, if◌then◌else◌, codes}
 use Rattle.std.specs.Option.{option_map}
 use Rattle.std.specs.List.{slice_get}

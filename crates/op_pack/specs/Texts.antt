@@ -1,4 +1,4 @@
--- The texts of packs: an author, and the texts of operations as they stand.
+-- The texts of packs: an author, and the texts of operations unchanged.
 use Rattle.std.specs.Prelude.{◌≡◌, ℕ, List, [], codes, Option, Some, None, option_and_then, if◌then◌else◌}
 use Rattle.std.specs.Str.{bytes_eq, is_utf8, IsUtf8}
 use Rattle.gb_text.specs.declared.id.Id.{Id}

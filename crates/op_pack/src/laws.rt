@@ -1,22 +1,24 @@
 //! Laws of the definitions that the contracts cite. No call of them does anything.
-ghost use Rattle.std.specs.Prelude.{◌≡◌, ◌≤◌, ◌↔◌, ℕ, List, Some, None, map, length};
+ghost use Rattle.std.specs.Prelude.{◌≡◌, ◌≢◌, ◌≤◌, ◌↔◌, ◌⊎◌, ◌++◌, ◌-◌, ◌^◌, ℕ, List, [], ◌∷◌, Contains, codes, Some, None, map, length};
 ghost use Rattle.std.specs.List.{AllByRecursion};
+ghost use Rattle.gb_text.specs.Decimal.{decimal_of};
 ghost use Rattle.gb_text.specs.Digits.{IsId};
 ghost use Rattle.gb_text.specs.declared.id.Id.{Id as IdValue};
+ghost use Rattle.git_object.specs.declared.entry.Entry.{Entry as EntryValue};
 ghost use Rattle.git_object.specs.declared.tree.Tree.{Tree as TreeValue};
 ghost use Rattle.op_kind.specs.declared.fault.OpFault.TheVariants as operation;
-ghost use Rattle.op_pack.specs.Heads.{head_of, HeadFault, IsHeadInRange};
+ghost use Rattle.op_pack.specs.Heads.{head_of, versions, HeadFault, IsHeadInRange};
 ghost use Rattle.op_pack.specs.Texts.{IsPackText, IsPack, parts_at};
 ghost use Rattle.op_pack.specs.Packs.{place_of, pack_at, IsPackOf, version_in, PackTextFault, pack_text, MayStand, written_pack};
 ghost use Rattle.op_pack.specs.declared.fault.PackFault.{PackFault as FaultValue};
-ghost use Rattle.op_pack.specs.declared.fault.PackFault.TheVariants.{Memory, BadOperation};
+ghost use Rattle.op_pack.specs.declared.fault.PackFault.TheVariants.{Memory, BadOperation, UnknownVersion};
 ghost use Rattle.op_pack.specs.declared.head.TreeHead.{TreeHead as HeadValue};
 ghost use Rattle.op_pack.specs.declared.pack.Pack.{Pack as PackValue};
 
 use crate::MOST_OPERATIONS;
 use op_kind::OpKind;
 
-/// A tree says nothing of a pack exactly where one of its faults holds. What it says is in range.
+/// A tree gives no head of a pack exactly when one of its faults holds. What it says is in range.
 pub fn head_or_fault()
     ensures refused { (tree : TreeValue) (fault : FaultValue) → HeadFault tree fault
         → head_of tree ≡ None }
@@ -24,6 +26,31 @@ pub fn head_or_fault()
         → (fault : FaultValue) × HeadFault tree fault }
     ensures in_range { (tree : TreeValue) (head : HeadValue) → head_of tree ≡ Some head
         → IsHeadInRange head }
+{}
+
+/// What is reported of a version that is not the format's: a number that follows `version-` in the name
+/// of an entry, or 0 where no entry's name goes on with a number. Where just one entry's name begins so
+/// and a number follows, it is a fault if and only if the number is not 4, and that number is reported.
+pub fn unknown_versions_are_reported()
+    ensures entries { (tree : TreeValue) (text : List ℕ) → Contains (versions tree) text
+        ↔ ((entry : EntryValue) × Contains tree.entries entry
+        × (entry.name ≡ codes "version-" ++ text)) }
+    ensures number { (tree : TreeValue) (n : ℕ) → HeadFault tree (UnknownVersion n)
+        → ((text : List ℕ) × Contains (versions tree) text × (decimal_of text ≡ Some n))
+        ⊎ ((n ≡ 0) × ((text : List ℕ) → Contains (versions tree) text
+        → decimal_of text ≡ None)) }
+    ensures one { (tree : TreeValue) (text : List ℕ) (n m : ℕ) → versions tree ≡ text ∷ []
+        → decimal_of text ≡ Some n
+        → HeadFault tree (UnknownVersion m) ↔ ((n ≢ 4) × (m ≡ n)) }
+{}
+
+/// Each clock that a tree says is a number of 1 to 2^63 - 1.
+pub fn clocks_are_within_bounds()
+    ensures edit { (tree : TreeValue) (head : HeadValue) → head_of tree ≡ Some head
+        → (1 ≤ head.edit) × (head.edit ≤ 2 ^ 63 - 1) }
+    ensures create { (tree : TreeValue) (head : HeadValue) (clock : ℕ)
+        → head_of tree ≡ Some head → head.create ≡ Some clock
+        → (1 ≤ clock) × (clock ≤ 2 ^ 63 - 1) }
 {}
 
 /// `parts_at` gives exactly the author and the operations' texts of a pack text.
@@ -44,8 +71,8 @@ pub fn packs_are_determined()
         → (author ≡ second) × (slices ≡ rest) }
 {}
 
-/// A text stands for no pack exactly where one of its faults holds. Want of memory is none of them,
-/// and is no fault of an operation.
+/// A text is not a pack exactly when one of its faults holds. Want of memory is none of them, and
+/// is no fault of an operation.
 pub fn pack_or_fault<K: OpKind>()
     ensures refused { (head : HeadValue) (text : List ℕ) (fault : FaultValue)
         → PackTextFault K.meaning (version_in head) text fault
@@ -58,7 +85,7 @@ pub fn pack_or_fault<K: OpKind>()
         → PackTextFault K.meaning version text (BadOperation i operation.Memory) → ⊥ }
 {}
 
-/// `pack_at` gives exactly the pack that a text is of.
+/// `pack_at` gives exactly the pack that a text is.
 pub fn packs_are_exact<K: OpKind>()
     ensures found { (head : HeadValue) (text : List ℕ) (pack : PackValue K)
         → pack_at K.meaning head text ≡ Some pack
@@ -67,8 +94,7 @@ pub fn packs_are_exact<K: OpKind>()
         → IsPackOf K.meaning head text slices pack → pack_at K.meaning head text ≡ Some pack }
 {}
 
-/// The operations of a pack keep the rules of their kind, so they can be written again, and each stands
-/// at the place of its text.
+/// The operations of a pack satisfy the rules of their kind, and each has the place of its text.
 pub fn operations_keep_rules<K: OpKind>()
     ensures rules { (head : HeadValue) (text : List ℕ) (slices : List (List ℕ)) (pack : PackValue K)
         → IsPackOf K.meaning head text slices pack → AllByRecursion K.meaning.KeepsRules pack.ops }
@@ -78,9 +104,9 @@ pub fn operations_keep_rules<K: OpKind>()
         ≡ map (place_of head pack.author) slices }
 {}
 
-/// What is written of operations that keep the rules of their kind is a pack text with their written
-/// texts as they stand. Where there are at most `MOST_OPERATIONS`, it reads back as the same author and
-/// the same operations, each at the place of its written text.
+/// Operations that satisfy the rules of their kind are written as a pack text that contains their
+/// written texts. Where there are at most `MOST_OPERATIONS`, it reads back as the same author and the
+/// same operations, each at the place of its written text.
 pub fn written_packs_read_back<K: OpKind>()
     ensures slices { (author : IdValue) (ops : List K) → IsId author
         → AllByRecursion K.meaning.KeepsRules ops

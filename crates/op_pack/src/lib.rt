@@ -10,7 +10,8 @@ mod parts;
 pub use fault::PackFault;
 pub use head::{TreeHead, read_head, tree_for};
 pub use laws::{
-    head_or_fault, operations_keep_rules, pack_or_fault, packs_are_determined, packs_are_exact,
-    parts_are_exact, written_packs_read_back,
+    clocks_are_within_bounds, head_or_fault, operations_keep_rules, pack_or_fault,
+    packs_are_determined, packs_are_exact, parts_are_exact, unknown_versions_are_reported,
+    written_packs_read_back,
 };
 pub use pack::{MOST_OPERATIONS, Pack};

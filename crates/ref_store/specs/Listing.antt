@@ -1,4 +1,4 @@
--- The refs of ids that stand right in a folder's dir.
+-- The refs of ids directly in a directory of a folder.
 use Rattle.std.specs.Prelude.{◌≡◌, ◌↔◌, ℕ, List, ◌∷◌, ◌++◌, map, Contains, Option, Some, None, option_and_then}
 use Rattle.std.specs.Option.{option_map}
 use Rattle.std.specs.Cmp.Lexicographic.{slice_cmp}

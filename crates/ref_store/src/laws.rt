@@ -12,7 +12,7 @@ ghost use Rattle.ref_store.specs.Listing.{id_place};
 ghost use Rattle.ref_store.specs.Refs.{Head, ref_at};
 ghost use Rattle.ref_store.specs.Setting.{ref_write};
 
-/// A ref that was set reads as its head, and every other ref of the folder as before.
+/// A ref that was set reads as its head, and every other ref of the folder reads as before.
 pub fn refs_are_a_map()
     ensures same { (files : Files) (folder path : List ℕ) (head : Name) → IsName head
         → ref_at (written files (ref_write folder path head)) folder path ≡ Head head }
@@ -21,7 +21,7 @@ pub fn refs_are_a_map()
         ≡ ref_at files folder other }
 {}
 
-/// A ref below `refs/` that is set leaves the objects of its folder as they were.
+/// Setting a ref below `refs/` leaves the objects of its folder.
 pub fn refs_are_no_objects()
     ensures { (files : Files) (folder rest : List ℕ) (head : Name)
         → ◌≡◌ {A = Name → Option (List ℕ)}
@@ -30,14 +30,13 @@ pub fn refs_are_no_objects()
         (λ name. files (joined folder (object_place name))) }
 {}
 
-/// The ref of an id stands at no object's path, so that to read it is to read no object.
+/// The path of an id's ref is not an object's path, so reading a ref reads no object.
 pub fn ids_stand_at_no_object_path()
     ensures { (folder dir : List ℕ) (id : Id) → IsId id
         → is_object_path (joined folder (id_place dir id)) ≡ false }
 {}
 
-/// A ref that is set at a path that is no object's, as that of an id, leaves the objects of every
-/// folder.
+/// Setting a ref of an id leaves the objects of every folder.
 pub fn refs_leave_all_objects()
     ensures path { (files : Files) (folder other path : List ℕ) (head name : Name)
         → is_object_path (joined folder path) ≡ false → IsName name
@@ -49,8 +48,7 @@ pub fn refs_leave_all_objects()
         ≡ files (joined other (object_place name)) }
 {}
 
-/// A write of an object, of whatever folder, leaves each ref at a path that is no object's, as that
-/// of an id.
+/// A write of an object, in any folder, leaves every ref of an id.
 pub fn objects_leave_all_refs()
     ensures path { (files : Files) (change : Change) (folder path : List ℕ)
         → IsTrue (is_object_path change.path) → is_object_path (joined folder path) ≡ false
@@ -61,7 +59,7 @@ pub fn objects_leave_all_refs()
         ≡ ref_at files folder (id_place dir id) }
 {}
 
-/// A ref that is set leaves those of folders that do not overlap its own.
+/// Setting a ref leaves the refs of folders that do not overlap its own.
 pub fn refs_of_folders_apart()
     ensures { (files : Files) (folder other path place : List ℕ) (head : Name)
         → is_rooted path ≡ false → is_rooted place ≡ false → (Overlap folder other → ⊥)

@@ -1,4 +1,4 @@
-//! The refs of ids that stand right in a folder's dir.
+//! The refs of ids directly in a directory of a folder.
 ghost use Rattle.std.specs.Prelude.{◌≡◌, List as Items, ℕ, IsTrue, IsErrOf, IfOk, Err, false};
 ghost use Rattle.std.specs.List.{filter_map};
 ghost use Rattle.gb_store.specs.Faults.{KeepsFaults};

@@ -5,3 +5,4 @@ pub mod CommentLemmas
 pub mod MetadataLemmas
 pub mod StepLemmas
 pub mod EditLemmas
+pub mod ActLemmas
