@@ -1,3 +1,4 @@
 pub mod Answers
 pub mod Chain
+pub mod Passing
 pub mod Stops

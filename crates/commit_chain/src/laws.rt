@@ -18,7 +18,7 @@ pub fn a_whole_walk_has_no_fault()
         → WalkFaultHolds objects head fault → ⊥ }
 {}
 
-/// What a whole walk meets are its commits, and it meets each of them where there are at most 65,536.
+/// A whole walk meets only its own commits, and meets each of them if there are at most 65,536.
 pub fn a_whole_walk_passes_what_it_meets()
     ensures passes { (objects : Objects) (head name : Name) (walk : List Met)
         → Walked objects head walk → Meets objects head name → Passes walk name }
@@ -36,7 +36,7 @@ pub fn walks_are_determined()
         → MeetsMerge objects head one → MeetsMerge objects head two → one ≡ two }
 {}
 
-/// While objects are only added, a whole walk stays, and so does what a walk meets.
+/// If objects are only added, a whole walk stays the same, and a walk still meets what it met.
 pub fn walks_stay()
     ensures whole { (old new : Objects) (head : Name) (walk : List Met) → OnlyGrew old new
         → Walked old head walk → Walked new head walk }

@@ -1,6 +1,7 @@
 -- What a whole walk says of the commits below the heads.
-use Rattle.std.proofs.Common.{◌≡◌, ◌≤◌, ◌↔◌, List, length, Contains, Some, None, refl, sym, ◌∙◌, ap, subst, arith}
+use Rattle.std.proofs.Common.{◌≡◌, ◌≤◌, ◌↔◌, ◌⊎◌, inl, inr, ◌∷◌, [], List, length, Contains, Some, None, refl, sym, ◌∙◌, ap, subst, arith}
 use Rattle.std.proofs.lemmas.List.{length-map}
+use Rattle.std.proofs.lemmas.List.Elements.{Contains-append_left, Contains-append_right}
 use Rattle.std.proofs.lemmas.Option.{same_Some}
 use Rattle.gb_text.specs.declared.id.Name.{Name}
 use Rattle.git_object.specs.declared.commit.Commit.{Commit}
@@ -14,7 +15,7 @@ use Rattle.commit_walk.specs.Below.{IsBelow, IsParent, head, parent, IsCommit, n
 use Rattle.commit_walk.specs.declared.below.Met.{Met}
 use Rattle.commit_walk.specs.declared.fault.WalkFault.{WalkFault}
 use Rattle.commit_walk.specs.declared.fault.WalkFault.TheVariants as fault
-use Rattle.commit_walk.proofs.DistinctLemmas.{Contains-map, length-distinct}
+use Rattle.commit_walk.proofs.DistinctLemmas.{Contains-cons, Contains-first, Contains-map, length-distinct}
 use Rattle.commit_walk.proofs.FrontierLemmas.{met_of}
 
 module _ (objects : Objects) where
@@ -57,6 +58,23 @@ module _ (objects : Objects) where
   pub below_below : (heads others : List Name) (name : Name) → ((low : Name) → Contains others low → IsBelow objects heads low) → IsBelow objects others name → IsBelow objects heads name
   below_below heads others name all (head c) = all name c
   below_below heads others name all (parent {high = high} b p) = parent (below_below heads others high all b) p
+
+  -- what lies below two heads lies below one of them
+  pub below_one : (one two : Name) {name : Name} → IsBelow objects (one ∷ two ∷ []) name → IsBelow objects (one ∷ []) name ⊎ IsBelow objects (two ∷ []) name
+  below_one one two {name = name} (head c) = elim (Contains-cons one (two ∷ []) name c) [
+    | inl e ↦ inl (head (subst (Contains (one ∷ [])) e (Contains-first one [])))
+    | inr h ↦ inr (head h)
+  ]
+  below_one one two (parent b p) = elim (below_one one two b) [ inl l ↦ inl (parent l p) | inr r ↦ inr (parent r p) ]
+
+  pub below_two : (one two name : Name) → IsBelow objects (one ∷ two ∷ []) name ↔ (IsBelow objects (one ∷ []) name ⊎ IsBelow objects (two ∷ []) name)
+  below_two one two name = (
+    λ b. below_one one two b,
+    λ h. elim h [
+      | inl l ↦ below_below (one ∷ two ∷ []) (one ∷ []) name (λ n c. head (Contains-append_left (one ∷ []) (two ∷ []) n c)) l
+      | inr r ↦ below_below (one ∷ two ∷ []) (two ∷ []) name (λ n c. head (Contains-append_right (one ∷ []) (two ∷ []) n c)) r
+    ],
+  )
 
 -- while objects are only added
 module _ (old new : Objects) (grew : OnlyGrew old new) (heads : List Name) where

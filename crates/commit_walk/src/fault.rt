@@ -1,4 +1,5 @@
 //! What may be wrong with the commits below some heads, and why a walk stopped.
+use gb_store::StoreFault;
 use gb_text::Name;
 use object_store::{KindFault, ObjFault};
 use std::alloc::AllocFailed;
@@ -54,6 +55,18 @@ impl From<ObjFault> for WalkStop {
 
     fn from(fault: ObjFault) -> Self {
         KindFault::from(fault).into()
+    }
+}
+
+impl From<StoreFault> for WalkStop {
+    ghost use Rattle.std.specs.Prelude.{◌≡◌};
+    ghost use Rattle.object_store.specs.Faults.{kind_fault, object_fault};
+    ghost use Rattle.commit_walk.specs.Stops.{stop_of};
+
+    ghost from_gives = { λ fault e. e ≡ stop_of (kind_fault (object_fault fault)) };
+
+    fn from(fault: StoreFault) -> Self {
+        ObjFault::from(fault).into()
     }
 }
 

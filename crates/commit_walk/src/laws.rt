@@ -1,5 +1,5 @@
 //! Laws of what lies below heads, each the contract of a function that does nothing.
-ghost use Rattle.std.specs.Prelude.{◌≡◌, ◌≤◌, ◌↔◌, ◌^◌, List, Contains, length};
+ghost use Rattle.std.specs.Prelude.{◌≡◌, ◌≤◌, ◌↔◌, ◌⊎◌, ◌^◌, ◌∷◌, [], List, Contains, length};
 ghost use Rattle.gb_text.specs.declared.id.Name.{Name};
 ghost use Rattle.object_store.specs.Growth.{OnlyGrew};
 ghost use Rattle.object_store.specs.Held.{Objects};
@@ -9,14 +9,14 @@ ghost use Rattle.commit_walk.specs.declared.fault.WalkFault.{WalkFault};
 
 use crate::below::MOST_COMMITS;
 
-/// Where at most 65,536 commits are all that lies below the heads, nothing is wrong with them.
+/// If at most 65,536 commits are everything below the heads, the walk has no fault.
 pub fn a_whole_walk_has_no_fault()
     ensures { (objects : Objects) (heads : List Name) (walk : List Met) (fault : WalkFault)
         → AreBelow objects heads walk → length walk ≤ MOST_COMMITS
         → FaultHolds objects heads fault → ⊥ }
 {}
 
-/// Heads with the same names below them have the same commits, whatever order they were met in.
+/// Heads with the same names below them have the same commits, in whatever order these were met.
 pub fn walks_have_the_same_commits()
     ensures { (objects : Objects) (heads others : List Name) (one two : List Met)
         → AreBelow objects heads one → AreBelow objects others two
@@ -24,15 +24,22 @@ pub fn walks_have_the_same_commits()
         → (met : Met) → Contains one met ↔ Contains two met }
 {}
 
-/// Below is transitive: what is below names that are below is below.
+/// 'Below' is transitive.
 pub fn below_is_transitive()
     ensures { (objects : Objects) (heads others : List Name) (name : Name)
         → ((low : Name) → Contains others low → IsBelow objects heads low)
         → IsBelow objects others name → IsBelow objects heads name }
 {}
 
-/// While objects are only added, what is below stays below, and a whole walk stays whole: nothing
-/// more is below its heads.
+/// What lies below two heads lies below one of them, and the other way round.
+pub fn what_lies_below_two_lies_below_one()
+    ensures { (objects : Objects) (one two name : Name)
+        → IsBelow objects (one ∷ two ∷ []) name
+        ↔ (IsBelow objects (one ∷ []) name ⊎ IsBelow objects (two ∷ []) name) }
+{}
+
+/// If objects are only added, what is below stays below, and nothing more is below the heads of a
+/// whole walk.
 pub fn what_lies_below_stays()
     ensures below { (old new : Objects) (heads : List Name) (name : Name) → OnlyGrew old new
         → IsBelow old heads name → IsBelow new heads name }
