@@ -3,7 +3,9 @@ pub mod Appending
 pub mod Entities
 pub mod Extending
 pub mod Faults
+pub mod Folders
 pub mod Heads
+pub mod Joining
 pub mod Judging
 pub mod Loading
 pub mod Nodes

@@ -20,7 +20,7 @@ ghost use Rattle.dag_entity.specs.declared.fault.EntityFault.TheVariants.{Author
 
 use op_kind::OpKind;
 
-/// What is needed is the same in both stores, so that they agree both ways.
+/// Two stores that agree on what one needs agree on what either needs.
 pub fn stores_agree_both_ways()
     ensures both { (one two : Objects) (heads : List NameValue)
         → SameNeeded one two heads → SameNeeded two one heads }
@@ -28,7 +28,7 @@ pub fn stores_agree_both_ways()
         → SameNeeded one two heads → IsNeeded one heads name → IsNeeded two heads name }
 {}
 
-/// The same commits lie below the heads, with the same edit clocks.
+/// In agreeing stores the same commits lie below the heads, with the same edit clocks.
 pub fn agreeing_stores_have_the_same_commits()
     ensures below { (one two : Objects) (heads : List NameValue) (name : NameValue)
         → SameNeeded one two heads → IsBelow one heads name → IsBelow two heads name }
@@ -40,14 +40,14 @@ pub fn agreeing_stores_have_the_same_commits()
         → edit_at two name ≡ edit_at one name }
 {}
 
-/// A commit below the heads has the same pack, or none, in both.
+/// In agreeing stores a commit below the heads has the same pack, or no pack in either.
 pub fn agreeing_stores_have_the_same_packs<K: OpKind>()
     ensures { (one two : Objects) (heads : List NameValue) (name : NameValue)
         → SameNeeded one two heads → IsBelow one heads name
         → pack_at K.meaning two name ≡ pack_at K.meaning one name }
 {}
 
-/// The packs stand in the same order, and the operations are the same.
+/// In agreeing stores the packs are in the same order and the operations are the same.
 pub fn agreeing_stores_have_the_same_order<K: OpKind>()
     ensures packs { (one two : Objects) (heads : List NameValue) (packs : List (PlacedValue K))
         → SameNeeded one two heads → AreAllInOrder K.meaning one heads packs
@@ -57,7 +57,7 @@ pub fn agreeing_stores_have_the_same_order<K: OpKind>()
         → IsOperationList K.meaning two heads ops }
 {}
 
-/// The same is wrong with the entity of an id in both, and where nothing is, it is the same entity.
+/// In agreeing stores an entity has the same faults, and without a fault it is the same entity.
 pub fn agreeing_stores_have_the_same_faults<K: OpKind>()
     ensures faults { (one two : Objects) (id : IdValue) (heads : List NameValue)
         (authors : List IdValue) (fault : FaultValue)
@@ -73,15 +73,14 @@ pub fn agreeing_stores_have_the_same_faults<K: OpKind>()
         → IsEntity K.meaning two id heads authors entity }
 {}
 
-/// While objects are only added, all that is needed stays as it is, where none of it was missing.
+/// If objects are only added and nothing needed was missing, everything needed stays as it is.
 pub fn what_is_needed_stays()
     ensures { (old new : Objects) (heads : List NameValue) → OnlyGrew old new
         → ((name : NameValue) → IsNeeded old heads name → old name ≢ None)
         → SameNeeded old new heads }
 {}
 
-/// Objects that are only added change nothing of a valid entity, which needs none that is missing:
-/// it stays the same entity, with the same operations, and no other comes in its place.
+/// Added objects leave a valid entity the same, with the same operations.
 pub fn new_objects_change_nothing_of_a_valid_entity<K: OpKind>()
     ensures same { (old new : Objects) (id : IdValue) (heads : List NameValue)
         (authors : List IdValue)
@@ -106,7 +105,7 @@ pub fn new_objects_change_nothing_of_a_valid_entity<K: OpKind>()
         → IsEntity K.meaning (objects_after new folder) id heads authors entity }
 {}
 
-/// Only that an author is unknown depends on the authors.
+/// Of all faults only an unknown author depends on who the authors are.
 pub fn other_faults_do_not_depend_on_the_authors<K: OpKind>()
     ensures { (objects : Objects) (id : IdValue) (heads : List NameValue)
         (authors others : List IdValue) (fault : FaultValue)
@@ -115,7 +114,7 @@ pub fn other_faults_do_not_depend_on_the_authors<K: OpKind>()
         → EntityFaultHolds K.meaning objects id heads others fault }
 {}
 
-/// More authors make nothing wrong, and leave an entity as it is.
+/// More known authors add no fault, and leave an entity as it is.
 pub fn more_authors_make_nothing_wrong<K: OpKind>()
     ensures faults { (objects : Objects) (id : IdValue) (heads : List NameValue)
         (authors others : List IdValue) (fault : FaultValue)

@@ -17,8 +17,8 @@ ghost use Rattle.dag_entity.specs.Nodes.{IsNode};
 
 use op_kind::OpKind;
 
-/// Where the four objects of a commit stand, its name holds the commit with its parents and its pack,
-/// with each operation at the place of its written text. So it is after they are put.
+/// If the four objects of a commit are stored, its name holds the commit with its parents and its
+/// pack. So it is after they are put.
 pub fn appended_commits_have_their_nodes<K: OpKind>()
     ensures stand { (objects : Objects) (parents : List NameValue) (pack : PackValue K) (now : ℕ)
         → MayBeAppended K.meaning pack → CanBeRead K.meaning pack → IsId pack.author
@@ -40,7 +40,7 @@ pub fn appended_commits_have_their_nodes<K: OpKind>()
         (objects_after (after_append K.meaning folder parents pack now old) folder) }
 {}
 
-/// Each object of a commit is put after all that it names, where the parents are held.
+/// If the parents are held, each object of a commit is put after everything that it names.
 pub fn appended_commits_come_after_their_needs<K: OpKind>()
     ensures { (folder : List ℕ) (parents : List NameValue) (pack : PackValue K) (now : ℕ)
         (old : History)
@@ -51,8 +51,8 @@ pub fn appended_commits_come_after_their_needs<K: OpKind>()
         (after_append K.meaning folder parents pack now old) }
 {}
 
-/// The tree that is written is the one that `tree_for` makes, in the order of the entries' names. The
-/// names of parents that are held are names.
+/// The tree that is written is the one that `tree_for` makes, with its entries in the order of their
+/// names. The names of parents that are held are names.
 pub fn appended_parts_are_plain()
     ensures tree { (edit : ℕ) (create : Option ℕ) (ops : NameValue)
         → IsSortedForm (tree_with edit create ops) (appended_tree edit create ops) }

@@ -23,9 +23,8 @@ ghost use Rattle.dag_entity.specs.declared.fault.EntityFault.TheVariants as faul
 
 use op_kind::OpKind;
 
-/// The packs of an entity that have an operation are its operation commits in order, and the
-/// operations of all its packs, one pack after the other, are its operations: an empty pack adds
-/// none.
+/// The packs with operations are an entity's operation commits in order, and their operations
+/// joined are its operations.
 pub fn entities_give_their_operations<K: OpKind>()
     ensures commits { (objects : Objects) (heads : List NameValue) (packs : List (PlacedValue K))
         → AreAllInOrder K.meaning objects heads packs
@@ -35,7 +34,7 @@ pub fn entities_give_their_operations<K: OpKind>()
         → IsOperationList K.meaning objects heads (ops_in K.meaning packs) }
 {}
 
-/// The packs in order and the operations in order are determined. Heads with the same operation
+/// An entity has one order of packs and one list of operations. Heads with the same operation
 /// commits have the same operations, also in other objects: the edges between commits have no part
 /// in it.
 pub fn operations_are_determined<K: OpKind>()
@@ -53,8 +52,8 @@ pub fn operations_are_determined<K: OpKind>()
         → IsOperationList K.meaning others tops two → one ≡ two }
 {}
 
-/// No operation of an entity comes twice, and two of its operation commits never have the same pack
-/// text, even where their packs have the same id.
+/// No operation of an entity occurs twice, and no two of its operation commits have the same pack
+/// text.
 pub fn each_operation_stands_once<K: OpKind>()
     ensures texts { (objects : Objects) (id : IdValue) (heads : List NameValue)
         (authors : List IdValue) (one two : PlacedValue K) (text : List ℕ)
@@ -70,8 +69,8 @@ pub fn each_operation_stands_once<K: OpKind>()
         (ops_in K.meaning entity.packs)) }
 {}
 
-/// An entity begins at its one commit without parents, with an operation that may be first and whose
-/// id is the entity's. Every other commit has a greater edit clock than each of its parents.
+/// An entity begins at its one root, with an operation that may be first and whose id is the
+/// entity's. Every other commit has a greater edit clock than each of its parents.
 pub fn valid_entities_are_well_formed<K: OpKind>()
     ensures root { (objects : Objects) (id : IdValue) (heads : List NameValue)
         (authors : List IdValue) (entity : EntityValue K)
@@ -84,9 +83,8 @@ pub fn valid_entities_are_well_formed<K: OpKind>()
         → ClockRises objects high low }
 {}
 
-/// In a valid entity the edit clock of a commit with one parent lies near the parent's, merge commits
-/// have no operation, each operation but the first of a root may follow others, and each author is
-/// among the authors. Where neither of two heads lies below the other, there is room for the merge
+/// A valid entity satisfies the rules of clock jumps, of merge commits, of following operations and
+/// of known authors. Where neither of two heads lies below the other, there is room for the merge
 /// commit that they need: among the commits, and above the clock of each head.
 pub fn valid_entities_keep_the_rules<K: OpKind>()
     ensures near { (objects : Objects) (id : IdValue) (heads : List NameValue)
@@ -119,9 +117,8 @@ pub fn valid_entities_keep_the_rules<K: OpKind>()
         → Contains (one ∷ two ∷ []) head → edit_at objects head ≢ Some LIMIT }
 {}
 
-/// What the faults of the commits tell, with the names in their order: a commit without parents, and
-/// that there is another; a commit, and a parent of it whose edit clock is as great or greater; and a
-/// commit, and its only parent, above whose edit clock its own lies by more than 1,000,000.
+/// A fault of roots, clock order or clock jump names its commits in order, exactly when they have
+/// that fault.
 pub fn faults_tell_what_is_wrong<K: OpKind>()
     ensures root { (objects : Objects) (id : IdValue) (heads : List NameValue)
         (authors : List IdValue) (name : NameValue)
@@ -144,11 +141,11 @@ pub fn faults_tell_what_is_wrong<K: OpKind>()
         × (beneath + 1000000 < above)) }
 {}
 
-/// What is above a limit is told by the limit and one: commits by 65,537, the operations of a pack by
-/// 4,097, and the bytes of an object that is needed by 4,194,305. Where the names, each once, are those
-/// of all commits below the heads, 65,537 is told of more than 2^16, and of no fewer; but where neither
-/// of two heads lies below the other, it is told of 2^16 too, since the merge commit that they need is
-/// one more. Of such heads one is told as full where its edit clock is 2^63 - 1, and only there.
+/// A broken limit is reported as the limit plus one: 65,537 commits, 4,097 operations of a pack, or
+/// 4,194,305 bytes of an object. Where the names, each once, are those of all commits below the heads,
+/// 65,537 is told of more than 2^16, and of no fewer; but where neither of two heads lies below the
+/// other, it is told of 2^16 too, since the merge commit that they need is one more. Of such heads one
+/// is told as full where its edit clock is 2^63 - 1, and only there.
 pub fn limits_of_entities_are_known<K: OpKind>()
     ensures numbers { (objects : Objects) (id : IdValue) (heads : List NameValue)
         (authors : List IdValue) (count : ℕ)
@@ -179,7 +176,7 @@ pub fn limits_of_entities_are_known<K: OpKind>()
         × Contains heads head × (edit_at objects head ≡ Some (2 ^ 63 - 1))) }
 {}
 
-/// The edit clock of an entity is that of one of its heads, and each head has one that is not greater.
+/// An entity's edit clock is the greatest edit clock of its heads.
 pub fn edit_clocks_of_entities_are_the_greatest<K: OpKind>()
     ensures one { (objects : Objects) (id : IdValue) (heads : List NameValue)
         (authors : List IdValue) (entity : EntityValue K)
@@ -192,9 +189,8 @@ pub fn edit_clocks_of_entities_are_the_greatest<K: OpKind>()
         → (clock : ℕ) × (edit_at objects head ≡ Some clock) × (clock ≤ entity.edit) }
 {}
 
-/// Two heads are an entity together, also where neither lies below the other, if each is one alone and
-/// nothing is wrong that takes both: they have one root, no operation comes twice, and below them lie
-/// fewer than 2^16 commits, with edit clocks of the heads that are not 2^63 - 1.
+/// Two heads that are valid alone are valid together if they share a root, repeat no operation, and
+/// leave room for a merge.
 pub fn two_heads_are_valid_together<K: OpKind>()
     ensures { (objects : Objects) (id : IdValue) (authors : List IdValue) (one two : NameValue)
         (names : List NameValue) → IsValid K.meaning objects id (one ∷ []) authors
@@ -208,7 +204,7 @@ pub fn two_heads_are_valid_together<K: OpKind>()
         → IsValid K.meaning objects id (one ∷ two ∷ []) authors }
 {}
 
-/// Two heads that are apart are so in the other order too.
+/// Two heads that are apart are also apart in the other order.
 pub fn heads_are_apart_in_either_order()
     ensures { (objects : Objects) (heads : List NameValue) (one two : NameValue)
         → AreApart objects heads one two → AreApart objects (two ∷ one ∷ []) two one }
@@ -226,8 +222,7 @@ pub fn commits_have_a_pack_or_a_fault<K: OpKind>()
         → HasPackFault K.meaning objects heads name fault → ⊥ }
 {}
 
-/// A commit without parents, with a create clock, a first operation that may be first and has the id,
-/// further ones that may follow, none of them twice, and an author among the authors, is an entity.
+/// A commit without parents whose pack satisfies the rules of a root is an entity.
 pub fn a_first_commit_is_valid<K: OpKind>()
     ensures { (objects : Objects) (id : IdValue) (authors : List IdValue) (node : LoadedValue K)
         (create : ℕ) → Begins K.meaning objects id authors node create
@@ -235,11 +230,11 @@ pub fn a_first_commit_is_valid<K: OpKind>()
         (begun id node create) }
 {}
 
-/// A commit over the heads of an entity makes an entity again: nothing is wrong with it, all packs
-/// keep their places, and the new operations come at the end. Its edit clock is above those of the
-/// heads, and near that of a single one; over two heads it has no operation; its operations may follow
-/// others, and none of them comes twice or is one of the entity's; its author is among the authors;
-/// and the entity has fewer commits than it may have.
+/// A valid commit over the heads of an entity makes an entity again: all packs keep their places, and
+/// its operations come last. Its edit clock is above those of the heads, and near that of a single
+/// one; over two heads it has no operation; its operations may follow others, and none of them comes
+/// twice or is one of the entity's; its author is among the authors; and the entity has fewer commits
+/// than it may have.
 pub fn a_later_commit_is_valid<K: OpKind>()
     ensures valid { (objects : Objects) (id : IdValue) (heads : List NameValue)
         (authors : List IdValue) (entity : EntityValue K) (node : LoadedValue K)

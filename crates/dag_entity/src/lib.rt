@@ -4,14 +4,18 @@
 mod agree_laws;
 mod append_laws;
 mod appending;
+mod both;
 mod entity;
 mod fault;
+mod folder_laws;
 mod heads;
+mod join_laws;
 mod judge;
 mod laws;
 mod load;
 mod order;
 mod read;
+mod report_laws;
 
 pub use agree_laws::{
     agreeing_stores_have_the_same_commits, agreeing_stores_have_the_same_faults,
@@ -24,8 +28,14 @@ pub use append_laws::{
     appended_parts_are_plain,
 };
 pub use appending::{CommitPlan, append, plan_append};
+pub use both::{ReadBoth, read_both};
 pub use entity::{Entity, Loaded, Placed};
 pub use fault::EntityFault;
+pub use folder_laws::folders_that_hold_what_is_needed_agree;
+pub use join_laws::{
+    a_commit_over_both_heads_is_valid, a_head_below_another_adds_nothing, faults_go_up,
+    objects_of_merge_commits_are_short, two_valid_heads_fail_by_what_takes_both,
+};
 pub use laws::{
     a_first_commit_is_valid, a_later_commit_is_valid, commits_have_a_pack_or_a_fault,
     each_operation_stands_once, edit_clocks_of_entities_are_the_greatest,
@@ -33,4 +43,7 @@ pub use laws::{
     limits_of_entities_are_known, operations_are_determined, two_heads_are_valid_together,
     valid_entities_are_well_formed, valid_entities_keep_the_rules,
 };
-pub use read::read_entity;
+pub use read::{read_entity, read_walked};
+pub use report_laws::{
+    faults_of_operations_report_what_was_found, faults_of_packs_report_what_was_found,
+};
