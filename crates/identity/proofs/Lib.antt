@@ -1,3 +1,4 @@
+pub mod AgreeLemmas
 pub mod CommitLemmas
 pub mod CountLemmas
 pub mod ExtendLemmas
@@ -10,3 +11,4 @@ pub mod MakingLemmas
 pub mod NeedLemmas
 pub mod VersionLemmas
 pub mod Examples
+pub mod VersionBounds

@@ -190,7 +190,7 @@ line_told value t h =
     let u = under (is_line_text o.0) (Some o.0) t o.2 in
     ap is_line_text (sym (same_Some o.0 t u.1)) ∙ u.0
 
-empty_or_line : (values : List (List ℕ)) (t : List ℕ) → value_or [] line_at values ≡ Some t → is_line_text t ≡ true
+pub empty_or_line : (values : List (List ℕ)) (t : List ℕ) → value_or [] line_at values ≡ Some t → is_line_text t ≡ true
 empty_or_line [] t h = let empty : [] ≡ t = same_Some [] t h in ap is_line_text (sym empty) ∙ empty_is_line
 empty_or_line (v ∷ []) t h = line_told v t h
 empty_or_line (v ∷ w ∷ vs) t h = absurd (cc)

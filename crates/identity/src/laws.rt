@@ -13,14 +13,14 @@ ghost use Rattle.identity.specs.declared.version.Version.{Version as VersionValu
 ghost use Rattle.identity.specs.declared.chain.Person.{Person};
 ghost use Rattle.identity.specs.declared.fault.IdentityFault.{IdentityFault};
 
-/// A text is a version exactly where it is UTF-8 and an object whose members say what the version says.
+/// A text is a version exactly when it is UTF-8 and an object whose members say what the version says.
 pub fn versions_by_members()
     ensures { (text : List ℕ) (version : VersionValue)
         → (version_of text ≡ Some version) ↔ IsVersionText text version }
 {}
 
-/// What is written of a name that is a title, an email that is a line, a nonce and a time reads as a
-/// version of these, with no login and no keys. Its person goes by the name.
+/// A version written from a name, an email, a nonce and a time reads back as these, with no login
+/// and no keys. Its person goes by the name.
 pub fn written_versions_read_back()
     ensures version { (name email nonce : List ℕ) (time : ℕ) → MayBeWritten name email nonce time
         → version_of (version_text_of name email nonce time)
@@ -37,8 +37,8 @@ pub fn versions_name_persons()
         → IsTrue (is_line_text version.email) }
 {}
 
-/// Where a chain is valid no fault of it holds, and where a head has a version without keys no fault
-/// of the head alone does. So a refusal comes exactly where a fault holds.
+/// A valid chain has no fault, and a head whose version has no keys has no fault of the head alone.
+/// So a refusal comes exactly where a fault holds.
 pub fn valid_chains_have_no_fault()
     ensures chain { (objects : Objects) (id : Id) (head : Name) (fault : IdentityFault)
         → IsChain objects id head
@@ -65,7 +65,7 @@ pub fn chains_are_determined()
         → (one two : IsChain objects id head) → length one.walk ≡ length two.walk }
 {}
 
-/// While objects are only added, a valid chain stays valid with the same commits, and a head shows the
+/// If objects are only added, a valid chain stays valid with the same commits, and a head shows the
 /// same person.
 pub fn valid_chains_stay_valid()
     ensures chain { (old new : Objects) → OnlyGrew old new → (id : Id) (head : Name)
@@ -76,7 +76,7 @@ pub fn valid_chains_stay_valid()
         → Shows new id head person }
 {}
 
-/// What is hashed of a version text is an id.
+/// The hash of a version text is an id.
 pub fn version_ids_are_ids()
     ensures { (text : List ℕ) → IsId (version_id text) }
 {}

@@ -1,6 +1,7 @@
 //! Identities: what the text of a version says, how it is written, and the person of a chain of versions.
 #![tactic(auto)]
 
+mod agree_laws;
 mod chain;
 mod commit;
 mod fault;
@@ -10,7 +11,9 @@ mod making;
 mod making_laws;
 mod member;
 mod version;
+mod version_laws;
 
+pub use agree_laws::agreeing_stores_have_the_same_chain;
 pub use chain::{Person, read_chain, read_last, versions};
 pub use fault::IdentityFault;
 pub use laws::{
@@ -21,3 +24,7 @@ pub use laws::{
 pub use making::{Made, VersionPlan, new_version, plan_version};
 pub use making_laws::{new_versions_come_after_their_needs, new_versions_extend_their_chains};
 pub use version::{Version, id_of_version, version_text};
+pub use version_laws::{
+    keys_anywhere_refuse, keys_are_elements_of_pub_keys, versions_are_within_bounds,
+    wrong_ids_report_what_was_found,
+};

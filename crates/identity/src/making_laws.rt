@@ -45,7 +45,7 @@ pub fn new_versions_extend_their_chains()
         → HasParent objects (Some head) }
 {}
 
-/// Each object of a new version is put after all that it names, where the parent is held.
+/// If the parent is held, each object of a new version is put after everything that it names.
 pub fn new_versions_come_after_their_needs()
     ensures { (folder name email nonce : List ℕ) (now : ℕ) (parent : Option Name) (old : History)
         → MayBeWritten name email nonce now → HasParent (objects_in (files_of old) folder) parent
