@@ -1,5 +1,5 @@
 -- Each refusal of a copy on its way has its cause.
-use Rattle.std.proofs.Common.{◌≡◌, ◌≢◌, ◌⊎◌, inl, inr, ◌<◌, ◌≤◌, ◌+◌, zero, suc, ℕ, Bool, List, [], ◌∷◌, ◌++◌, length, get_or, map, All, Contains, Some, None, refl, sym, ◌∙◌, ap, subst, arith, length-append}
+use Rattle.std.proofs.Common.{◌≡◌, ◌≢◌, ◌⊎◌, inl, inr, ◌<◌, ◌≤◌, ◌+◌, zero, suc, ℕ, Bool, true, false, List, [], ◌∷◌, ◌++◌, length, get_or, map, All, Contains, Some, None, refl, sym, ◌∙◌, ap, subst, arith, length-append}
 use Rattle.std.proofs.lemmas.List.Elements.{All-append, All-cons, All-nil, Contains-push_cases}
 use Rattle.std.proofs.Math.ListN.{get_or-map}
 use Rattle.std.proofs.lemmas.List.{length-map}
@@ -14,19 +14,23 @@ use Rattle.git_object.specs.declared.object.Object.TheVariants as objects
 use Rattle.git_object.specs.Grammar.{kind_of}
 use Rattle.git_object.specs.Reading.{object_of}
 use Rattle.object_store.specs.Held.{Objects, object_at, text_at}
+use Rattle.object_store.proofs.GrowthLemmas.{object_stays}
 use Rattle.object_batch.specs.Needs.{IsHeldAs, Leads, Names, NamesNext, Reference, kind_named}
 use Rattle.object_batch.proofs.LeadLemmas.{Leads-then}
 use Rattle.commit_walk.specs.Distinct.{AreDistinct}
 use Rattle.commit_walk.proofs.DistinctLemmas.{AreDistinct-push, Contains-from_map}
-use Rattle.remote_copy.specs.Causes.{AreTooMany, CauseHolds, IsCommit, IsOther, IsTaken, LeadsOn}
+use Rattle.remote_copy.specs.Answers.{standing}
+use Rattle.remote_copy.specs.Causes.{AreTooMany, CauseHolds, IsCommit, IsOfOtherKind, IsOther, IsTaken, LeadsOn}
 use Rattle.remote_copy.specs.Closure.{IsFollowed, IsLeft, commit_named, first, next}
-use Rattle.remote_copy.specs.Copying.{AreCounted, HasTrees, IsCopying, IsOpened}
-use Rattle.remote_copy.specs.Index.{IsDone, mark_of}
+use Rattle.remote_copy.specs.Copying.{AreCounted, HasTrees, IsCopying, IsMetAs, IsOpened}
+use Rattle.remote_copy.specs.Index.{IsDone, IsMet, WasOpened, mark_of}
 use Rattle.remote_copy.specs.Needs.{as_kind}
-use Rattle.remote_copy.specs.Opens.{OpenRefused, ref_of}
+use Rattle.remote_copy.specs.Opens.{IsSource, OpenRefused, ref_of}
 use Rattle.remote_copy.specs.Work.{IsFull, ring_fault}
 use Rattle.remote_copy.specs.declared.fault.CopyFault.{CopyFault}
 use Rattle.remote_copy.specs.declared.fault.CopyFault.TheVariants as fault
+use Rattle.remote_copy.specs.declared.index.Mark.{Mark}
+use Rattle.remote_copy.specs.declared.index.Mark.TheVariants as mark
 use Rattle.remote_copy.specs.declared.need.Need.{Need}
 use Rattle.remote_copy.specs.declared.open.Open.{Open}
 use Rattle.remote_copy.specs.declared.open.TheConstants.{MOST_TREES}
@@ -67,6 +71,59 @@ module _ (closed : Bool) (source entry : Objects) (head : Name) where
       taken = elim (w.added need.name r.1.other (text_at-name source need.name r.1.text r.1.held) r.1.stands) [
         | inl before ↦ record { text = r.1.text; other = r.1.other; held = r.1.held; stands = before; differs = r.1.differs }
         | inr added ↦ absurd (r.1.differs (same_Some r.1.other r.1.text (sym added.held ∙ r.1.held)))
+      ]
+
+  -- a name that was opened as that of another kind is not left, and is of the wrong kind
+  pub opened_kind : (target : Objects) (work : Work) (stack : List Open) (need : Need) → IsCopying closed source entry target head work stack → mark_of work.index need.kind need.name ≡ None
+      → WasOpened work.index need.name → (IsLeft closed entry (ref_of need) → ⊥) × IsOfOtherKind source (ref_of need)
+  opened_kind target work stack need w fresh opened = by as_other.met.0 as_other.met.1
+    where
+      as_other : IsMetAs closed entry work.index need.name
+      as_other = w.names need.name opened
+
+      differs : as_other.need.kind ≢ need.kind
+      differs kind =
+          let met = subst (IsMet work.index) (same_need as_other.need need as_other.is_named kind) as_other.met in
+          cc (sym fresh ∙ met.1)
+
+      -- the text that the name holds in the source stands in the target, or nothing does
+      known : (n : Need) → n ≡ as_other.need → (text : List ℕ) (object : Object) → IsSource source n text object → (target n.name ≡ Some text) ⊎ (target n.name ≡ None)
+          → (IsLeft closed entry (ref_of need) → ⊥) × IsOfOtherKind source (ref_of need)
+      known n e text object is there = (
+        λ left. unleft left there,
+        record { object = object; held = subst (λ (x : Name). object_at source x ≡ Some object) name (object_at-of_text source n.name text object is.held is.is); differs = λ kind. apart (sym is.is_kind ∙ kind) },
+      )
+        where
+          name : n.name ≡ need.name
+          name = ap (λ (x : Need). x.name) e ∙ as_other.is_named
+
+          apart : n.kind ≢ need.kind
+          apart kind = differs (sym (ap (λ (x : Need). x.kind) e) ∙ kind)
+
+          unleft : IsLeft closed entry (ref_of need) → (target n.name ≡ Some text) ⊎ (target n.name ≡ None) → ⊥
+          unleft left (inl here) =
+              let held : object_at target need.name ≡ Some left.held.object = object_stays entry target w.grew need.name left.held.object left.held.is in
+              let same : object_at target n.name ≡ Some object = object_at-of_text target n.name text object (text_at-there source target n.name text is.held here) is.is in
+              let one : object ≡ left.held.object = same_Some object left.held.object (sym same ∙ ap (object_at target) name ∙ held) in
+              apart (sym is.is_kind ∙ ap kind_of one ∙ left.held.is_kind ∙ sym left.is_commit)
+          unleft left (inr none) =
+              let held : object_at target need.name ≡ Some left.held.object = object_stays entry target w.grew need.name left.held.object left.held.is in
+              let found = object_at-text target need.name left.held.object held in
+              let stands = (text_at-is target need.name found.0 found.1).stands in
+              cc (sym none ∙ ap target name ∙ stands)
+
+      standing_cases : (b : Bool) (name : Name) (text : List ℕ) → target name ≡ standing b text → (target name ≡ Some text) ⊎ (target name ≡ None)
+      standing_cases true name text is = inl is
+      standing_cases false name text is = inr is
+
+      by : (m : Mark) → mark_of work.index as_other.need.kind as_other.need.name ≡ Some m → (IsLeft closed entry (ref_of need) → ⊥) × IsOfOtherKind source (ref_of need)
+      by mark.Open is =
+          let was = w.is_open as_other.need is in
+          let o = w.opens was.0 was.1 in
+          known was.0.need was.2 was.0.text o.object o.opened.is (standing_cases was.0.stands was.0.need.name was.0.text o.there)
+      by (mark.Done height) is = elim (w.finished as_other.need height is) [
+        | inl left ↦ absurd (as_other.unleft left)
+        | inr f ↦ known as_other.need refl f.text f.object f.opened.is (inl f.there)
       ]
 
   -- a commit that is left now, and was not met, was left at entry

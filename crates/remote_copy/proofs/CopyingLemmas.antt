@@ -16,9 +16,9 @@ use Rattle.object_batch.specs.Needs.{NamesNext, Reference}
 use Rattle.object_batch.proofs.LeadLemmas.{Leads-then}
 use Rattle.commit_walk.proofs.DistinctLemmas.{AreDistinct-push}
 use Rattle.remote_copy.specs.Causes.{IsCommit, IsOther, LeadsOn}
-use Rattle.remote_copy.specs.Closure.{IsLeft}
-use Rattle.remote_copy.specs.Copying.{AreCounted, IsAbove, IsAdded, IsCopyingWith, IsFinished, IsOpen, IsOpened}
-use Rattle.remote_copy.specs.Index.{IsDone, IsMet, Sets, mark_of}
+use Rattle.remote_copy.specs.Closure.{IsFollowed, IsLeft, first, next}
+use Rattle.remote_copy.specs.Copying.{AreCounted, IsAbove, IsAdded, IsCopyingWith, IsFinished, IsMetAs, IsOpen, IsOpened}
+use Rattle.remote_copy.specs.Index.{IsDone, IsMet, Sets, WasOpened, mark_of}
 use Rattle.remote_copy.specs.Needs.{as_kind, needs_of}
 use Rattle.remote_copy.specs.Opens.{ref_of}
 use Rattle.remote_copy.specs.Work.{one_more}
@@ -60,6 +60,23 @@ left_stays closed old new one grew left = record {
   is_commit = left.is_commit;
   held = record { object = left.held.object; is = object_stays old new grew one.name left.held.object left.held.is; is_kind = left.held.is_kind };
 }
+
+-- what was met before is met now
+pub met_later : (closed : Bool) (entry : Objects) (i1 i2 : Index) (name : Name) → ((need : Need) → IsMet i1 need → IsMet i2 need) → IsMetAs closed entry i1 name → IsMetAs closed entry i2 name
+met_later closed entry i1 i2 name met m = record { need = m.need; is_named = m.is_named; met = met m.need m.met; unleft = m.unleft }
+
+-- where no object was opened, the names are those before
+pub names_later : (closed : Bool) (entry : Objects) (i1 i2 : Index) (need : Need) (height : ℕ) → Sets i1 i2 need (mark.Done height) → ((n : Need) → IsMet i1 n → IsMet i2 n)
+    → ((name : Name) → WasOpened i1 name → IsMetAs closed entry i1 name) → (name : Name) → WasOpened i2 name → IsMetAs closed entry i2 name
+names_later closed entry i1 i2 need height sets met names name opened = elim (sets.names.back name opened) [
+  | inl was ↦ met_later closed entry i1 i2 name met (names name was)
+  | inr new ↦ absurd (let bad = new.0 in cc)
+]
+
+-- what is followed is not left
+pub followed_unleft : (closed : Bool) (source entry : Objects) (head : Name) (one : Reference) → IsFollowed closed source entry head one → IsLeft closed entry one → ⊥
+followed_unleft closed source entry head one (first e unleft) = unleft
+followed_unleft closed source entry head one (next f names unleft) = unleft
 
 module _ (closed : Bool) (source entry : Objects) (head : Name) where
   pub finished_later : (t1 t2 : Objects) (i1 i2 : Index) → StaysDone i1 i2 → (need : Need) (height : ℕ) → ((text : List ℕ) → t1 need.name ≡ Some text → t2 need.name ≡ Some text)
@@ -189,6 +206,7 @@ module _ (closed : Bool) (source entry : Objects) (head : Name) where
     are_commits = w.are_commits;
     are_others = w.are_others;
     first = w.first;
+    names = w.names;
     few_commits = w.few_commits;
     few_others = w.few_others;
     few_put = let few = w.few_put in omega (arith, few, length-append rest (top ∷ []), length-append rest (one_more top ∷ []));
@@ -217,6 +235,7 @@ module _ (closed : Bool) (source entry : Objects) (head : Name) where
     are_commits = counted_later i1 i2 IsCommit commits met back w.are_commits;
     are_others = counted_later i1 i2 IsOther others met back w.are_others;
     first = met (as_kind kinds.Commit head) w.first;
+    names = names_later closed entry i1 i2 need 0 sets met w.names;
     few_commits = w.few_commits;
     few_others = w.few_others;
     few_put = w.few_put;

@@ -29,7 +29,7 @@ use Rattle.remote_copy.specs.declared.need.Need.{Need}
 use Rattle.remote_copy.specs.declared.open.Open.{Open}
 use Rattle.remote_copy.specs.declared.open.TheConstants.{MOST_TREES}
 use Rattle.remote_copy.specs.declared.work.Work.{Work}
-use Rattle.remote_copy.proofs.CopyingLemmas.{added_later, counted_later, finished_later, left_stays, open_later}
+use Rattle.remote_copy.proofs.CopyingLemmas.{added_later, counted_later, finished_later, left_stays, names_later, open_later}
 use Rattle.remote_copy.proofs.MarkLemmas.{StaysDone, done_stays, one_height, sets_back, sets_done, sets_met}
 use Rattle.remote_copy.proofs.IndexLemmas.{same_need}
 use Rattle.remote_copy.proofs.NeedLemmas.{needs_of-has, needs_of-only}
@@ -257,6 +257,7 @@ module _ (closed : Bool) (source entry : Objects) (head : Name) (target : Object
       are_commits = subst (λ (k : ℕ). AreCounted closed source entry head after.index IsCommit k) (sym commits) (counted_later closed source entry head before.index after.index IsCommit before.commits met back w.are_commits);
       are_others = subst (λ (k : ℕ). AreCounted closed source entry head after.index IsOther k) (sym more) (counted_later closed source entry head before.index after.index IsOther before.others met back w.are_others);
       first = met (as_kind kinds.Commit head) w.first;
+      names = names_later closed entry before.index after.index top.need height sets met w.names;
       few_commits = let most = w.few_commits in omega (arith, most, commits);
       few_others = let most = w.few_others in omega (arith, most, more);
       few_put = let most = w.few_put in omega (arith, most, put, commits, more, length-append rest (top ∷ []));

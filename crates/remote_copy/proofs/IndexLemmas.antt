@@ -1,6 +1,7 @@
 -- An index with one mark set, and heights by their needs.
 use Rattle.std.proofs.Common.{◌≡◌, ◌≢◌, ◌⊎◌, inl, inr, ◌≤◌, ◌<◌, ◌+◌, ℕ, Bool, true, false, cond, List, [], ◌∷◌, length, take, get_or, Contains, Some, refl, sym, ◌∙◌, ap, subst, arith}
 use Rattle.std.specs.BTreeMap.{BTreeMap, get, is_at}
+use Rattle.std.specs.BTreeSet.{contains}
 use Rattle.std.proofs.lemmas.List.{take_more}
 use Rattle.std.proofs.lemmas.List.Elements.{Contains-append_left, Contains-push, Contains-push_cases}
 use Rattle.std.proofs.lemmas.Map.Text.{is_eq-slice_cmp}
@@ -9,9 +10,10 @@ use Rattle.gb_text.specs.declared.id.Name.{Name}
 use Rattle.git_object.specs.declared.frame.Kind.{Kind}
 use Rattle.git_object.specs.declared.frame.Kind.TheVariants as kinds
 use Rattle.commit_walk.proofs.DistinctLemmas.{Contains-nil}
-use Rattle.remote_copy.specs.Index.{IsHeight, Sets, by_bytes, level_of, mark_of, marks_of}
+use Rattle.remote_copy.specs.Index.{IsHeight, Notes, Opens, Sets, WasOpened, by_bytes, level_of, mark_of, marks_of}
 use Rattle.remote_copy.specs.declared.index.Index.{Index}
 use Rattle.remote_copy.specs.declared.index.Mark.{Mark}
+use Rattle.remote_copy.specs.declared.index.Mark.TheVariants as mark
 use Rattle.remote_copy.specs.declared.need.Need.{Need}
 
 -- names that compare as equal are the same
@@ -33,6 +35,10 @@ record Puts (old new : BTreeMap Name Mark) (name : Name) (set : Mark) : Type 0 w
 
 abbrev pub Updates : BTreeMap Name Mark → BTreeMap Name Mark → Name → Mark → Type 0
 Updates old new name set = (q : Name) → get by_bytes new q ≡ cond (is_at (by_bytes name) q) (Some set) (get by_bytes old q)
+
+-- the same, of marks that were kept before
+since : (old mid new : BTreeMap Name Mark) (name : Name) (set : Mark) → mid ≡ old → Updates mid new name set → Updates old new name set
+since old mid new name set same has = subst (λ (m : BTreeMap Name Mark). Updates m new name set) same has
 
 puts : (old new : BTreeMap Name Mark) (name : Name) (set : Mark) → Updates old new name set → Puts old new name set
 puts old new name set has = record {
@@ -56,12 +62,41 @@ same_kind kinds.Commit kinds.Blob = inr (λ e. cc)
 same_kind kinds.Commit kinds.Tree = inr (λ e. cc)
 same_kind kinds.Commit kinds.Commit = inl refl
 
--- the marks of one kind were put, and those of the others are the same
-sets : (old new : Index) (need : Need) (set : Mark) → Puts (marks_of old need.kind) (marks_of new need.kind) need.name set
+-- a name more was opened
+pub opens_one : (old new : Index) (need : Need) (set : Mark) → set ≡ mark.Open → ((q : Name) → contains by_bytes new.opened q ≡ cond (is_at (by_bytes need.name) q) true (contains by_bytes old.opened q)) → Opens old new need set
+opens_one old new need set is has = record {
+  opens = λ e. has need.name ∙ ap (λ (b : Bool). cond b true (contains by_bytes old.opened need.name)) (is_at-itself need.name);
+  stays = λ name was. stays name was (is_at (by_bytes need.name) name) refl;
+  back = λ name now. back name now (is_at (by_bytes need.name) name) refl;
+}
+  where
+    stays : (name : Name) → WasOpened old name → (b : Bool) → is_at (by_bytes need.name) name ≡ b → WasOpened new name
+    stays name was true tied = has name ∙ ap (λ (b : Bool). cond b true (contains by_bytes old.opened name)) tied
+    stays name was false apart = has name ∙ ap (λ (b : Bool). cond b true (contains by_bytes old.opened name)) apart ∙ was
+
+    back : (name : Name) → WasOpened new name → (b : Bool) → is_at (by_bytes need.name) name ≡ b → WasOpened old name ⊎ ((set ≡ mark.Open) × (name ≡ need.name))
+    back name now true tied = inr (is, sym (same_name need.name name tied))
+    back name now false apart = inl (sym (has name ∙ ap (λ (b : Bool). cond b true (contains by_bytes old.opened name)) apart) ∙ now)
+
+-- no name more was opened
+pub opens_none : (old : Index) (need : Need) (set : Mark) → set ≢ mark.Open → Opens old old need set
+opens_none old need set differs = record { opens = λ is. absurd (differs is); stays = λ name was. was; back = λ name was. inl was }
+
+-- the same names were opened
+opens_then : (old mid new : Index) (need : Need) (set : Mark) → Opens old mid need set → new.opened ≡ mid.opened → Opens old new need set
+opens_then old mid new need set names same = record {
+  opens = λ is. ap (λ s. contains by_bytes s need.name) same ∙ names.opens is;
+  stays = λ name was. ap (λ s. contains by_bytes s name) same ∙ names.stays name was;
+  back = λ name now. names.back name (sym (ap (λ s. contains by_bytes s name) same) ∙ now);
+}
+
+-- the name was kept, the marks of one kind were put, and those of the others are the same
+sets : (old mid new : Index) (need : Need) (set : Mark) → Notes old mid need set → new.opened ≡ mid.opened → Puts (marks_of old need.kind) (marks_of new need.kind) need.name set
     → ((kind : Kind) → kind ≢ need.kind → marks_of new kind ≡ marks_of old kind) → Sets old new need set
-sets old new need set put same = record {
+sets old mid new need set notes opened put same = record {
   here = put.here;
   others = λ other differs. by other differs (same_kind other.kind need.kind);
+  names = opens_then old mid new need set notes.names opened;
 }
   where
     by : (other : Need) → other ≢ need → (other.kind ≡ need.kind) ⊎ (other.kind ≢ need.kind) → mark_of new other.kind other.name ≡ mark_of old other.kind other.name
@@ -70,32 +105,33 @@ sets old new need set put same = record {
         subst (λ (k : Kind). mark_of new k other.name ≡ mark_of old k other.name) (sym e) (put.others other.name apart)
     by other differs (inr e) = ap (λ (m : BTreeMap Name Mark). get by_bytes m other.name) (same other.kind e)
 
-pub sets_blob : (old new : Index) (need : Need) (set : Mark) → need.kind ≡ kinds.Blob → Updates old.blobs new.blobs need.name set → new.trees ≡ old.trees → new.commits ≡ old.commits → Sets old new need set
-sets_blob old new need set kind has trees commits =
-    sets old new need set (subst (λ (k : Kind). Puts (marks_of old k) (marks_of new k) need.name set) (sym kind) (puts old.blobs new.blobs need.name set has)) same
-  where
-    same : (k : Kind) → k ≢ need.kind → marks_of new k ≡ marks_of old k
-    same kinds.Blob differs = absurd (differs (sym kind))
-    same kinds.Tree differs = trees
-    same kinds.Commit differs = commits
+module _ (old mid new : Index) (need : Need) (set : Mark) (notes : Notes old mid need set) (opened : new.opened ≡ mid.opened) where
+  pub sets_blob : need.kind ≡ kinds.Blob → Updates mid.blobs new.blobs need.name set → new.trees ≡ mid.trees → new.commits ≡ mid.commits → Sets old new need set
+  sets_blob kind has trees commits =
+      sets old mid new need set notes opened (subst (λ (k : Kind). Puts (marks_of old k) (marks_of new k) need.name set) (sym kind) (puts old.blobs new.blobs need.name set (since old.blobs mid.blobs new.blobs need.name set notes.blobs has))) same
+    where
+      same : (k : Kind) → k ≢ need.kind → marks_of new k ≡ marks_of old k
+      same kinds.Blob differs = absurd (differs (sym kind))
+      same kinds.Tree differs = trees ∙ notes.trees
+      same kinds.Commit differs = commits ∙ notes.commits
 
-pub sets_tree : (old new : Index) (need : Need) (set : Mark) → need.kind ≡ kinds.Tree → Updates old.trees new.trees need.name set → new.blobs ≡ old.blobs → new.commits ≡ old.commits → Sets old new need set
-sets_tree old new need set kind has blobs commits =
-    sets old new need set (subst (λ (k : Kind). Puts (marks_of old k) (marks_of new k) need.name set) (sym kind) (puts old.trees new.trees need.name set has)) same
-  where
-    same : (k : Kind) → k ≢ need.kind → marks_of new k ≡ marks_of old k
-    same kinds.Blob differs = blobs
-    same kinds.Tree differs = absurd (differs (sym kind))
-    same kinds.Commit differs = commits
+  pub sets_tree : need.kind ≡ kinds.Tree → Updates mid.trees new.trees need.name set → new.blobs ≡ mid.blobs → new.commits ≡ mid.commits → Sets old new need set
+  sets_tree kind has blobs commits =
+      sets old mid new need set notes opened (subst (λ (k : Kind). Puts (marks_of old k) (marks_of new k) need.name set) (sym kind) (puts old.trees new.trees need.name set (since old.trees mid.trees new.trees need.name set notes.trees has))) same
+    where
+      same : (k : Kind) → k ≢ need.kind → marks_of new k ≡ marks_of old k
+      same kinds.Blob differs = blobs ∙ notes.blobs
+      same kinds.Tree differs = absurd (differs (sym kind))
+      same kinds.Commit differs = commits ∙ notes.commits
 
-pub sets_commit : (old new : Index) (need : Need) (set : Mark) → need.kind ≡ kinds.Commit → Updates old.commits new.commits need.name set → new.blobs ≡ old.blobs → new.trees ≡ old.trees → Sets old new need set
-sets_commit old new need set kind has blobs trees =
-    sets old new need set (subst (λ (k : Kind). Puts (marks_of old k) (marks_of new k) need.name set) (sym kind) (puts old.commits new.commits need.name set has)) same
-  where
-    same : (k : Kind) → k ≢ need.kind → marks_of new k ≡ marks_of old k
-    same kinds.Blob differs = blobs
-    same kinds.Tree differs = trees
-    same kinds.Commit differs = absurd (differs (sym kind))
+  pub sets_commit : need.kind ≡ kinds.Commit → Updates mid.commits new.commits need.name set → new.blobs ≡ mid.blobs → new.trees ≡ mid.trees → Sets old new need set
+  sets_commit kind has blobs trees =
+      sets old mid new need set notes opened (subst (λ (k : Kind). Puts (marks_of old k) (marks_of new k) need.name set) (sym kind) (puts old.commits new.commits need.name set (since old.commits mid.commits new.commits need.name set notes.commits has))) same
+    where
+      same : (k : Kind) → k ≢ need.kind → marks_of new k ≡ marks_of old k
+      same kinds.Blob differs = blobs ∙ notes.blobs
+      same kinds.Tree differs = trees ∙ notes.trees
+      same kinds.Commit differs = absurd (differs (sym kind))
 
 -- ---- heights
 

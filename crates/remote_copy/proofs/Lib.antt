@@ -8,9 +8,11 @@ pub mod LimitLemmas
 pub mod LoopLemmas
 pub mod MarkLemmas
 pub mod NeedLemmas
+pub mod NeedWriteLemmas
 pub mod OpenLemmas
 pub mod PushLemmas
 pub mod ReadLemmas
+pub mod SpareLemmas
 pub mod StackLemmas
 pub mod StartLemmas
 pub mod StepLemmas

@@ -22,7 +22,7 @@ use Rattle.remote_copy.specs.declared.need.Need.{Need}
 use Rattle.remote_copy.specs.declared.open.Open.{Open}
 use Rattle.remote_copy.specs.declared.work.TheConstants.{MOST_COMMITS, MOST_OTHERS}
 use Rattle.remote_copy.specs.declared.work.Work.{Work}
-use Rattle.remote_copy.proofs.CopyingLemmas.{added_later, counted_more, counted_other, finished_later, leads_further, leads_next, open_later}
+use Rattle.remote_copy.proofs.CopyingLemmas.{added_later, counted_more, counted_other, finished_later, followed_unleft, leads_further, leads_next, met_later, open_later}
 use Rattle.remote_copy.proofs.MarkLemmas.{StaysDone, sets_back, sets_done, sets_met}
 use Rattle.remote_copy.proofs.StackLemmas.{pairs_last, pairs_push}
 
@@ -96,6 +96,10 @@ module _ (closed : Bool) (source entry : Objects) (head : Name) where
     are_commits = now.are_commits;
     are_others = now.are_others;
     first = sets_met old.index new.index item.need mark.Open sets (as_kind kinds.Commit head) w.first;
+    names = λ name was. elim (sets.names.back name was) [
+      | inl before ↦ met_later closed entry old.index new.index name (sets_met old.index new.index item.need mark.Open sets) (w.names name before)
+      | inr here ↦ record { need = item.need; is_named = sym here.1; met = (mark.Open, sets.here); unleft = followed_unleft closed source entry head (ref_of item.need) followed }
+    ];
     few_commits = now.few_commits;
     few_others = now.few_others;
     few_put = let few = w.few_put in let more = now.more in omega (arith, few, more, same_put, length-append stack (item ∷ []));

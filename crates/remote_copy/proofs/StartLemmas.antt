@@ -10,7 +10,7 @@ use Rattle.remote_copy.specs.Causes.{IsCommit, IsOther}
 use Rattle.remote_copy.specs.Closure.{IsFollowed, IsLeft, commit_named, first}
 use Rattle.remote_copy.specs.Copies.{StartAnswers}
 use Rattle.remote_copy.specs.Copying.{AreCounted, IsCopying, IsOpen, IsOpened}
-use Rattle.remote_copy.specs.Index.{IsMet, mark_of}
+use Rattle.remote_copy.specs.Index.{IsMet, WasOpened, mark_of}
 use Rattle.remote_copy.specs.Needs.{as_kind}
 use Rattle.remote_copy.specs.Opens.{BeginAnswers, IsBegun, ref_of}
 use Rattle.remote_copy.specs.Work.{Adds, EnterAnswers, Enters, IsFull, IsNew}
@@ -20,7 +20,7 @@ use Rattle.remote_copy.specs.declared.index.Mark.TheVariants as mark
 use Rattle.remote_copy.specs.declared.need.Need.{Need}
 use Rattle.remote_copy.specs.declared.open.Open.{Open}
 use Rattle.remote_copy.specs.declared.work.Work.{Work}
-use Rattle.remote_copy.proofs.CopyingLemmas.{counted_later}
+use Rattle.remote_copy.proofs.CopyingLemmas.{counted_later, followed_unleft, names_later}
 use Rattle.remote_copy.proofs.MarkLemmas.{sets_back}
 use Rattle.remote_copy.proofs.PushLemmas.{NewCounts, new_counts}
 
@@ -81,6 +81,10 @@ module _ (closed : Bool) (source target : Objects) (head : Name) where
     are_commits = now.are_commits;
     are_others = now.are_others;
     first = (mark.Open, subst (λ (n : Need). mark_of new.index n.kind n.name ≡ Some mark.Open) begun.is_need adds.index.here);
+    names = λ name was. elim (adds.index.names.back name was) [
+      | inl before ↦ absurd (is_new.names name before)
+      | inr here ↦ record { need = item.need; is_named = sym here.1; met = (mark.Open, adds.index.here); unleft = followed_unleft closed source target head (ref_of item.need) opened.followed }
+    ];
     few_commits = now.few_commits;
     few_others = now.few_others;
     few_put =
@@ -129,6 +133,7 @@ module _ (closed : Bool) (source target : Objects) (head : Name) where
     are_commits = subst (AreCounted closed source target head new.index IsCommit) (sym commits) (counted_later closed source target head old.index new.index IsCommit 0 met back (none_counted old is_new IsCommit));
     are_others = subst (AreCounted closed source target head new.index IsOther) (sym others) (counted_later closed source target head old.index new.index IsOther 0 met back (none_counted old is_new IsOther));
     first = (mark.Done 0, enters.index.here);
+    names = names_later closed target old.index new.index head_need 0 enters.index met (λ name was. absurd (is_new.names name was));
     few_commits = omega (arith, commits);
     few_others = omega (arith, others);
     few_put =
@@ -158,8 +163,9 @@ module _ (closed : Bool) (source target : Objects) (head : Name) where
 
   -- a copy began
   pub started : (old new : Work) (found : Option Open) → IsNew old → BeginAnswers closed source target head_need (Ok found) → EnterAnswers old head_need found new (Ok tt) → StartAnswers closed source target head (Ok new)
-  started old new (Some item) is_new (unleft, begun) adds = (opened_start old new item is_new unleft begun adds, adds.put ∙ is_new.put)
-  started old new None is_new is_left enters = (left_start old new is_new is_left enters, enters.put ∙ is_new.put)
+  started old new (Some item) is_new (unleft, begun) adds =
+      (opened_start old new item is_new unleft begun adds, adds.put ∙ is_new.put, inr (subst (λ (n : Need). WasOpened new.index n.name) begun.is_need (adds.index.names.opens refl)))
+  started old new None is_new is_left enters = (left_start old new is_new is_left enters, enters.put ∙ is_new.put, inl is_left)
 
   -- a copy that is new is not full
   pub not_started : (old new : Work) (found : Option Open) (e : CopyFault) → IsNew old → EnterAnswers old head_need found new (Err e) → StartAnswers closed source target head (Err e)

@@ -20,12 +20,11 @@ use Rattle.object_store.specs.Growth.{OnlyGrew}
 use Rattle.object_store.specs.Held.{Objects, objects_after}
 use Rattle.object_store.proofs.GrowthLemmas.{OnlyGrew-none}
 use Rattle.object_store.proofs.PathLemmas.{path_name}
-use Rattle.object_batch.specs.Needs.{Reference}
 use Rattle.remote_copy.specs.Answers.{standing}
 use Rattle.remote_copy.specs.Causes.{CauseHolds, LeadsOn}
-use Rattle.remote_copy.specs.Closure.{IsFollowed, IsLeft, first, next}
+use Rattle.remote_copy.specs.Closure.{IsFollowed, IsLeft, next}
 use Rattle.remote_copy.specs.Copying.{IsCopying, IsCopyingWith, IsOpen, StepAnswers, Steps}
-use Rattle.remote_copy.specs.Index.{IsDone, Sets, mark_of}
+use Rattle.remote_copy.specs.Index.{IsDone, Sets, WasOpened, mark_of}
 use Rattle.remote_copy.specs.Opens.{BeginAnswers, IsBegun, ref_of}
 use Rattle.remote_copy.specs.Work.{Advances, DescendAnswers, Finishes, HasHeight, IsShortOfMemory, MaybeWritten, SameCounts, Written, one_more, put_after, ring_fault, write_of}
 use Rattle.remote_copy.specs.Writes.{PutsCopy}
@@ -36,8 +35,8 @@ use Rattle.remote_copy.specs.declared.need.Need.{Need}
 use Rattle.remote_copy.specs.declared.open.Open.{Open}
 use Rattle.remote_copy.specs.declared.open.TheConstants.{MOST_TREES}
 use Rattle.remote_copy.specs.declared.work.Work.{Work}
-use Rattle.remote_copy.proofs.CauseLemmas.{deep_cause, full_cause, left_first, open_cause, ring_cause, unleft_first}
-use Rattle.remote_copy.proofs.CopyingLemmas.{advance, left, next_need}
+use Rattle.remote_copy.proofs.CauseLemmas.{deep_cause, full_cause, left_first, open_cause, opened_kind, ring_cause, unleft_first}
+use Rattle.remote_copy.proofs.CopyingLemmas.{advance, followed_unleft, left, next_need}
 use Rattle.remote_copy.proofs.FinishLemmas.{finish, top_needs, top_reached, top_trees}
 use Rattle.remote_copy.proofs.PushLemmas.{leads_below, push}
 use Rattle.remote_copy.proofs.TextLemmas.{text_at-name}
@@ -216,18 +215,21 @@ module _ (closed : Bool) (source target : List ℕ) (entry : Objects) (head : Na
         let was = w.is_open need marked in
         let names = next_need closed from entry head into before.index top need above at in
         let followed : IsFollowed closed from entry head (ref_of need) = subst (λ (n : Need). IsFollowed closed from entry head (ref_of n)) was.2 (w.opens was.0 was.1).opened.followed in
-        let leads = leads_below closed from entry head into before.index rest top need w.path names (followed_unleft followed) was.0 was.1 in
+        let leads = leads_below closed from entry head into before.index rest top need w.path names (followed_unleft closed from entry head (ref_of need) followed) was.0 was.1 in
         let itself = subst (λ (n : Need). LeadsOn closed from entry (ref_of n) (ref_of need)) was.2 leads in
         same_steps before after (Err (ring_fault need)) (inr (ring_fault need, refl)) (caused need.kind refl (ring_cause closed from entry head need.kind need refl followed itself))
       where
-        followed_unleft : {one : Reference} → IsFollowed closed from entry head one → IsLeft closed entry one → ⊥
-        followed_unleft (first e unleft) = unleft
-        followed_unleft (next f names unleft) = unleft
-
         caused : (kind : Kind) → need.kind ≡ kind → CauseHolds closed from entry head (ring_fault need) → StepAnswers closed from entry into head after (Err (ring_fault need))
         caused kinds.Commit is cause = rw is (rw is at cause)
         caused kinds.Tree is cause = rw is (rw is at cause)
         caused kinds.Blob is cause = rw is (rw is at cause)
+
+    -- its name was opened as that of another kind
+    pub kind_steps : (after : Work) → mark_of before.index need.kind need.name ≡ None → WasOpened before.index need.name → Steps closed source target entry head old old before after (Err (fault.WrongKind need.name))
+    kind_steps after fresh opened =
+        let known = opened_kind closed from entry head into before (rest ++ top ∷ []) need w fresh opened in
+        let followed : IsFollowed closed from entry head (ref_of need) = next above.opened.followed (next_need closed from entry head into before.index top need above at) known.0 in
+        same_steps before after (Err (fault.WrongKind need.name)) (inr (fault.WrongKind need.name, refl)) (record { one = ref_of need; is_named = refl; followed = followed; is = known.1 })
 
     -- it is not opened
     unleft : (IsLeft closed into (ref_of need) → ⊥) → IsFollowed closed from entry head (ref_of need)

@@ -17,7 +17,7 @@ use Rattle.commit_walk.specs.Distinct.{AreDistinct}
 use Rattle.remote_copy.specs.Answers.{standing}
 use Rattle.remote_copy.specs.Causes.{CauseHolds, IsCommit, IsOther, LeadsOn}
 use Rattle.remote_copy.specs.Closure.{IsFollowed, IsLeft}
-use Rattle.remote_copy.specs.Index.{IsDone, IsDoneAt, IsMet, mark_of}
+use Rattle.remote_copy.specs.Index.{IsDone, IsDoneAt, IsMet, WasOpened, mark_of}
 use Rattle.remote_copy.specs.Needs.{as_kind, needs_of}
 use Rattle.remote_copy.specs.Opens.{IsSource, ref_of}
 use Rattle.remote_copy.specs.Writes.{PutsCopy}
@@ -93,6 +93,13 @@ pub record AreCounted (closed : Bool) (source entry : Objects) (head : Name) (in
   pub each : (need : Need) → Contains them need → IsOne need.kind × ((text : List ℕ) × (object : Object) × IsOpened closed source entry head need text object) × IsMet index need
   pub all : (need : Need) → IsMet index need → IsOne need.kind → IsLeft closed entry (ref_of need) ⊎ Contains them need
 
+-- a name was met as that of one of some kind, which is not left
+pub record IsMetAs (closed : Bool) (entry : Objects) (index : Index) (name : Name) : Type 0 where
+  pub need : Need
+  pub is_named : need.name ≡ name
+  pub met : IsMet index need
+  pub unleft : IsLeft closed entry (ref_of need) → ⊥
+
 -- a copy on its way, with these objects open
 pub record IsCopyingWith (closed : Bool) (source entry target : Objects) (head : Name) (index : Index) (commits others put : ℕ) (stack : List Open) : Type 0 where
   pub grew : OnlyGrew entry target
@@ -107,6 +114,7 @@ pub record IsCopyingWith (closed : Bool) (source entry target : Objects) (head :
   pub are_commits : AreCounted closed source entry head index IsCommit commits
   pub are_others : AreCounted closed source entry head index IsOther others
   pub first : IsMet index (as_kind kinds.Commit head)
+  pub names : (name : Name) → WasOpened index name → IsMetAs closed entry index name
   pub few_commits : commits ≤ MOST_COMMITS
   pub few_others : others ≤ MOST_OTHERS
   pub few_put : put + length stack ≤ commits + others

@@ -1,6 +1,7 @@
 -- What a copy has met, as marks by name and kind.
-use Rattle.std.specs.Prelude.{◌≡◌, ◌≢◌, ◌⊎◌, ◌≤◌, ℕ, List, Contains, Option, Some}
+use Rattle.std.specs.Prelude.{◌≡◌, ◌≢◌, ◌⊎◌, ◌≤◌, IsTrue, ℕ, List, Contains, Option, Some}
 use Rattle.std.specs.BTreeMap.{BTreeMap, get}
+use Rattle.std.specs.BTreeSet.{contains}
 use Rattle.std.specs.Cmp.Lexicographic.{slice_cmp}
 use Rattle.std.specs.Ordering.{nat_cmp}
 use Rattle.std.specs.declared.cmp.Ordering.{Ordering}
@@ -27,10 +28,28 @@ marks_of index kinds.Commit = index.commits
 abbrev pub mark_of : Index → Kind → Name → Option Mark
 mark_of index kind name = get by_bytes (marks_of index kind) name
 
+-- the object of this name was opened, as one of some kind
+abbrev pub WasOpened : Index → Name → Type 0
+WasOpened index name = IsTrue (contains by_bytes index.opened name)
+
+-- the name of an object that is open was opened, and no other was but those before
+pub record Opens (old new : Index) (need : Need) (set : Mark) : Type 0 where
+  pub opens : set ≡ mark.Open → WasOpened new need.name
+  pub stays : (name : Name) → WasOpened old name → WasOpened new name
+  pub back : (name : Name) → WasOpened new name → WasOpened old name ⊎ ((set ≡ mark.Open) × (name ≡ need.name))
+
+-- the same, and all marks are as before
+pub record Notes (old new : Index) (need : Need) (set : Mark) : Type 0 where
+  pub names : Opens old new need set
+  pub blobs : new.blobs ≡ old.blobs
+  pub trees : new.trees ≡ old.trees
+  pub commits : new.commits ≡ old.commits
+
 -- the index has this mark, and all others as before
 pub record Sets (old new : Index) (need : Need) (set : Mark) : Type 0 where
   pub here : mark_of new need.kind need.name ≡ Some set
   pub others : (other : Need) → other ≢ need → mark_of new other.kind other.name ≡ mark_of old other.kind other.name
+  pub names : Opens old new need set
 
 -- an object is done, with so many trees below it
 abbrev pub IsDoneAt : Index → Need → ℕ → Type 0

@@ -5,6 +5,7 @@ pub mod Copies
 pub mod Copying
 pub mod Faults
 pub mod Index
+pub mod NeedWrites
 pub mod Needs
 pub mod Opens
 pub mod Work

@@ -1,5 +1,5 @@
 -- The answers to opening an object.
-use Rattle.std.specs.Prelude.{◌≡◌, ◌+◌, Bool, true, false, ℕ, List, Option, Some, None, Result, Ok, Err, ⊤}
+use Rattle.std.specs.Prelude.{◌≡◌, ◌≤◌, ◌+◌, ◌⊎◌, Bool, true, false, ℕ, List, Option, Some, None, Result, Ok, Err, ⊤}
 use Rattle.git_object.specs.declared.object.Object.{Object}
 use Rattle.git_object.specs.Grammar.{kind_of}
 use Rattle.git_object.specs.Reading.{object_of}
@@ -56,6 +56,10 @@ BeginAnswers closed source target need (Ok (Some item)) = (IsLeft closed target 
 BeginAnswers closed source target need (Err fault.Memory) = ⊤
 BeginAnswers closed source target need (Err fault.Disk) = ⊤
 BeginAnswers closed source target need (Err e) = (IsLeft closed target (ref_of need) → ⊥) × OpenRefused source target need e
+
+-- what opening an object reads: it in the target, and in the source unless it is a commit that is left
+abbrev pub BeginReads : Bool → Objects → Need → ℕ → ℕ → Type 0
+BeginReads closed target need before after = (after ≤ before + 1) ⊎ ((IsLeft closed target (ref_of need) → ⊥) × (after ≤ before + 2))
 
 -- whether an object is a commit that is left
 abbrev pub LeftAnswers : Bool → Objects → Need → Bool → Type 0

@@ -9,7 +9,7 @@ use Rattle.gb_store.specs.ObjectPath.{object_place}
 use Rattle.gb_store.specs.declared.store.Change.{Change}
 use Rattle.git_object.specs.declared.frame.Kind.{Kind}
 use Rattle.git_object.specs.declared.frame.Kind.TheVariants as kinds
-use Rattle.remote_copy.specs.Index.{IsHeight, Sets, mark_of}
+use Rattle.remote_copy.specs.Index.{IsHeight, Sets, WasOpened, mark_of}
 use Rattle.remote_copy.specs.declared.fault.CopyFault.{CopyFault}
 use Rattle.remote_copy.specs.declared.fault.CopyFault.TheVariants as fault
 use Rattle.remote_copy.specs.declared.index.Mark.TheVariants as mark
@@ -36,6 +36,7 @@ weight_of work = weight_with work.commits work.others work.stack.items
 
 pub record IsNew (work : Work) : Type 0 where
   pub none : (kind : Kind) (name : Name) → mark_of work.index kind name ≡ None
+  pub names : (name : Name) → WasOpened work.index name → ⊥
   pub empty : work.stack.items ≡ []
   pub commits : work.commits ≡ 0
   pub others : work.others ≡ 0

@@ -1,10 +1,13 @@
 //! The copy of a head's closure.
-ghost use Rattle.std.specs.Prelude.{◌≡◌, ◌≤◌, ◌+◌, IsTrue, IfOk, IsErrOf, length};
+ghost use Rattle.std.specs.Prelude.{◌≡◌, ◌+◌, IsTrue, IfOk, IsErrOf, length};
 ghost use Rattle.gb_text.specs.Overlap.{Overlap};
 ghost use Rattle.gb_store.specs.Faults.{KeepsFaults};
 ghost use Rattle.gb_store.specs.Moments.{WroteIf};
+ghost use Rattle.git_object.specs.declared.frame.Kind.TheVariants.{Commit};
 ghost use Rattle.object_store.specs.Held.{objects_after};
 ghost use Rattle.remote_copy.specs.Copies.{CopyAnswers, IsCopied, ReadsEach, StartAnswers};
+ghost use Rattle.remote_copy.specs.Needs.{as_kind};
+ghost use Rattle.remote_copy.specs.Opens.{BeginReads};
 ghost use Rattle.remote_copy.specs.Writes.{PutsCopy};
 
 use crate::fault::CopyFault;
@@ -69,7 +72,9 @@ fn start<S: Store>(
         → StartAnswers closed (objects_after (S.history disk.old) source.now)
         (objects_after (S.history disk.old) target.now) head.now result }
     ensures unwritten { IsTrue S.tells → S.history disk.new ≡ S.history disk.old }
-    ensures reads { S.object_reads disk.new ≤ S.object_reads disk.old + 2 }
+    ensures reads { IsTrue S.tells
+        → BeginReads closed (objects_after (S.history disk.old) target.now)
+        (as_kind Commit head.now) (S.object_reads disk.old) (S.object_reads disk.new) }
     ensures caused { KeepsFaults S.never_fails S.faults (IsErrOf result CopyFault.Disk)
         disk.old disk.new }
 {

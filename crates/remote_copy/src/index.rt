@@ -1,14 +1,15 @@
 //! What a copy has met.
 ghost use Rattle.std.specs.Prelude.{◌≡◌, OnOk, None};
+ghost use Rattle.std.specs.BTreeSet.{contains};
 ghost use Rattle.gb_text.specs.declared.id.Name.{Name as NameValue};
 ghost use Rattle.git_object.specs.declared.frame.Kind.{Kind as KindValue};
-ghost use Rattle.remote_copy.specs.Index.{IsHeight, Sets, level_of, mark_of};
+ghost use Rattle.remote_copy.specs.Index.{IsHeight, Notes, Sets, WasOpened, by_bytes, level_of, mark_of};
 
 use crate::need::Need;
 use gb_text::{Memory, Name};
 use git_object::Kind;
 use std::alloc::Global;
-use std::collections::BTreeMap;
+use std::collections::{BTreeMap, BTreeSet};
 
 /// How far an object has come.
 #[derive(Clone, Copy, Debug, PartialEq, Eq)]
@@ -27,17 +28,21 @@ pub struct Index {
     pub blobs: BTreeMap<Name, Mark>,
     pub trees: BTreeMap<Name, Mark>,
     pub commits: BTreeMap<Name, Mark>,
+    /// The names of those that were opened, of whatever kind.
+    pub opened: BTreeSet<Name>,
 }
 
 impl Index {
     /// Nothing was met.
     pub fn new(alloc: Global) -> Index
-        ensures { (kind : KindValue) (name : NameValue) → mark_of result kind name ≡ None }
+        ensures marks { (kind : KindValue) (name : NameValue) → mark_of result kind name ≡ None }
+        ensures names { (name : NameValue) → WasOpened result name → ⊥ }
     {
         Index {
             blobs: BTreeMap::new(alloc),
             trees: BTreeMap::new(alloc),
             commits: BTreeMap::new(alloc),
+            opened: BTreeSet::new(alloc),
         }
     }
 
@@ -52,10 +57,18 @@ impl Index {
         }
     }
 
-    /// Says how far an object has come.
+    /// Whether the object of a name was opened, as one of any kind.
+    pub fn was_opened(&self, name: &Name) -> bool
+        ensures { result ≡ contains by_bytes self.now.opened name.now }
+    {
+        self.opened.contains(name)
+    }
+
+    /// Says how far an object has come. From then on one that is open was opened.
     pub fn set(&mut self, need: &Need, mark: Mark) -> Result<(), Memory>
         ensures { OnOk result (Sets self.old self.new need.now mark) }
     {
+        self.note(need, mark)?;
         match need.kind {
             Kind::Blob => {
                 self.blobs.insert(need.name, mark)?;
@@ -66,6 +79,16 @@ impl Index {
             Kind::Commit => {
                 self.commits.insert(need.name, mark)?;
             }
+        }
+        Ok(())
+    }
+
+    // Keeps the name of an object that is open.
+    fn note(&mut self, need: &Need, mark: Mark) -> Result<(), Memory>
+        ensures { OnOk result (Notes self.old self.new need.now mark) }
+    {
+        if mark == Mark::Open {
+            self.opened.insert(need.name)?;
         }
         Ok(())
     }

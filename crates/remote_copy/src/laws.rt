@@ -18,15 +18,15 @@ ghost use Rattle.remote_copy.specs.declared.fault.CopyFault.TheVariants as fault
 use crate::open::MOST_TREES;
 use crate::work::{MOST_COMMITS, MOST_OTHERS};
 
-/// What a copy writes are objects, each where nothing stands.
+/// A copy writes only objects, each where nothing is stored.
 pub fn copies_put_objects()
     ensures { (closed : Bool) (source target : List ℕ) (entry : Objects) (head : Name)
         (old new : History) → Wrote (PutsCopy closed source target entry head) old new
         → Wrote (PutsObject target) old new }
 {}
 
-/// Where all that held objects name was held, it is held at each moment of a copy, whatever the
-/// copy's answer.
+/// If everything that held objects name was held before a copy, it is held at every point during
+/// the copy.
 pub fn whole_folders_stay_whole()
     ensures { (closed : Bool) (source target : List ℕ) (entry : Objects) (head : Name)
         (old new : History) → IsWhole (objects_after old target)
@@ -34,8 +34,8 @@ pub fn whole_folders_stay_whole()
         → AllMoments (λ files. IsWhole (objects_in files target)) old new }
 {}
 
-/// Where all that held trees name was held, it is held at each moment of a copy, whatever the copy's
-/// answer, and whatever the target's commits lack.
+/// If everything that held trees name was held before a copy, it is held at every point during the
+/// copy.
 pub fn whole_trees_stay_whole()
     ensures { (closed : Bool) (source target : List ℕ) (entry : Objects) (head : Name)
         (old new : History) → HasWholeTrees (objects_after old target)
@@ -43,8 +43,8 @@ pub fn whole_trees_stay_whole()
         → AllMoments (λ files. HasWholeTrees (objects_in files target)) old new }
 {}
 
-/// Where the closure of each held commit was held, it is held at each moment of a copy, whatever the
-/// copy's answer, and whether commits that the target holds were followed or not.
+/// If the closure of each held commit was held before a copy, it is held at every point during the
+/// copy.
 pub fn closed_folders_stay_closed()
     ensures { (closed : Bool) (source target : List ℕ) (entry : Objects) (head : Name)
         (old new : History) → IsClosed (objects_after old target)
@@ -52,16 +52,14 @@ pub fn closed_folders_stay_closed()
         → AllMoments (λ files. IsClosed (objects_in files target)) old new }
 {}
 
-/// A head that was copied is held, or was left; so its closure is held where the target is closed,
-/// as it is if it was before.
+/// If the target is closed, the closure of a copied head is held.
 pub fn copied_heads_have_their_closure()
     ensures { (closed : Bool) (source entry target : Objects) (head : Name) (one : Reference)
         → OnlyGrew entry target → IsClosed target → IsCopied closed source entry target head
         → IsInClosure target head one → IsHeldAs target one.name one.kind }
 {}
 
-/// Where all commits were followed, the closure of the head is the same in both folders, object by
-/// object and byte by byte, whatever else the target holds.
+/// If all commits were followed, the head's closure is the same in both folders, byte by byte.
 pub fn whole_copies_are_alike()
     ensures same { (source entry target : Objects) (head : Name) (one : Reference)
         → IsCopied false source entry target head
@@ -71,15 +69,14 @@ pub fn whole_copies_are_alike()
         → IsInClosure source head one → StandsAlike source target one }
 {}
 
-/// Where the target is said to be closed and holds the head, a copy puts nothing: neither again, nor
-/// whatever is left in the source.
+/// If the target is said to be closed and holds the head, a copy puts nothing.
 pub fn heads_that_stand_are_not_copied()
     ensures { (source target : List ℕ) (entry : Objects) (head : Name) (old new : History)
         → IsHeldAs entry head Commit → Wrote (PutsCopy true source target entry head) old new
         → new ≡ old }
 {}
 
-/// The part that is followed is what the head leads to by a path on which no commit is left.
+/// A copy follows what the head leads to by a path on which no commit is left out.
 pub fn the_part_is_what_paths_lead_to()
     ensures { (closed : Bool) (source target : Objects) (head : Name) (one : Reference)
         → IsFollowed closed source target head one
@@ -94,9 +91,8 @@ pub fn limits_of_copies_are_known()
     ensures trees { MOST_TREES ≡ 16 }
 {}
 
-/// What is above a limit is told by the limit and one: 4,194,305 where a file of the part has more
-/// bytes, 65,537 where the part has more commits, 1,048,577 where it has more other objects, and 17
-/// where more trees lie below a commit's tree, one below the other.
+/// A broken limit is reported as the limit plus one: bytes 4,194,305, commits 65,537, other objects
+/// 1,048,577, depth of trees 17.
 pub fn copies_tell_what_is_too_large()
     ensures numbers { (closed : Bool) (source target : Objects) (head : Name) (count : ℕ)
         → CauseHolds closed source target head (fault.TooLarge count)
@@ -123,8 +119,8 @@ pub fn copies_tell_what_is_too_large()
         × All (λ (one : Reference). one.kind ≡ Tree) path × (16 < length path)) }
 {}
 
-/// What a copy reads are at most two objects, in both folders together, for each of some different
-/// objects that it asks for.
+/// A copy reads at most two objects, in both folders together, for each different object that it
+/// asks for.
 pub fn copies_read_two_objects_for_each()
     ensures { (closed : Bool) (source target : Objects) (head : Name) (before after : ℕ)
         → ReadsEach closed source target head before after

@@ -9,7 +9,9 @@ mod laws;
 mod look;
 mod need;
 mod open;
+mod read_laws;
 mod work;
+mod write_laws;
 
 pub use closure::copy;
 pub use fault::CopyFault;
@@ -20,4 +22,6 @@ pub use laws::{
     whole_copies_are_alike, whole_folders_stay_whole, whole_trees_stay_whole,
 };
 pub use open::MOST_TREES;
+pub use read_laws::commits_that_are_left_are_not_read;
 pub use work::{MOST_COMMITS, MOST_OTHERS};
+pub use write_laws::copies_come_after_their_needs;

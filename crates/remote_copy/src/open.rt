@@ -5,7 +5,7 @@ ghost use Rattle.gb_store.specs.Files.{TellsFile};
 ghost use Rattle.git_object.specs.Grammar.{kind_of};
 ghost use Rattle.object_store.specs.Held.{Objects, objects_after};
 ghost use Rattle.object_store.specs.declared.read.TheConstants.{MOST_BYTES};
-ghost use Rattle.remote_copy.specs.Opens.{BeginAnswers, LeftAnswers, OpenAnswers};
+ghost use Rattle.remote_copy.specs.Opens.{BeginAnswers, BeginReads, LeftAnswers, OpenAnswers};
 
 use crate::fault::CopyFault;
 use crate::find::{find, read_file};
@@ -53,7 +53,9 @@ pub fn begin<S: Store>(
         → BeginAnswers closed (objects_after (S.history disk.old) source.now)
         (objects_after (S.history disk.old) target.now) need result }
     ensures unwritten { IsTrue S.tells → S.history disk.new ≡ S.history disk.old }
-    ensures reads { S.object_reads disk.new ≤ S.object_reads disk.old + 2 }
+    ensures reads { IsTrue S.tells
+        → BeginReads closed (objects_after (S.history disk.old) target.now) need
+        (S.object_reads disk.old) (S.object_reads disk.new) }
     ensures caused { KeepsFaults S.never_fails S.faults (IsErrOf result CopyFault.Disk)
         disk.old disk.new }
 {

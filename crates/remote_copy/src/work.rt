@@ -142,6 +142,7 @@ pub fn step<S: Store>(
     match work.index.get(&need) {
         Some(Mark::Done(_)) => work.advance(top),
         Some(Mark::Open) => Err(ring(&need)),
+        None if work.index.was_opened(&need.name) => Err(CopyFault::WrongKind(need.name)),
         None => {
             let found = begin(alloc, disk, source, target, closed, need)?;
             work.descend(top, need, found)

@@ -15,7 +15,7 @@ loop-alloc-init g c = record {
   way = λ tells. way_start c.args.closed c.args.source.now c.args.target.now c.args.head.now (g.S.Store.history c.args.disk.now) (g.S.Store.history c.start.new.disk) c.in_ok-work.work
       (c.in_ok-work.ensures.unwritten tells) (c.in_ok-work.ensures.answers tells);
   read = λ tells. read_start c.args.closed (objects_after (g.S.Store.history c.args.disk.now) c.args.source.now) (objects_after (g.S.Store.history c.args.disk.now) c.args.target.now) c.args.head.now c.in_ok-work.work.index
-      (g.S.Store.object_reads c.args.disk.now) (g.S.Store.object_reads c.start.new.disk) (c.in_ok-work.ensures.answers tells).0.first c.in_ok-work.ensures.reads;
+      (g.S.Store.object_reads c.args.disk.now) (g.S.Store.object_reads c.start.new.disk) (c.in_ok-work.ensures.answers tells).0.first (c.in_ok-work.ensures.answers tells).2 (c.in_ok-work.ensures.reads tells);
   caused = grind (arith, common_steps, c.in_ok-work.ensures.caused);
 }
 
@@ -78,7 +78,7 @@ returns-clause-copied g c = λ tells.
 pub returns-in_err-work-clause-reads : goal.returns-in_err-work-clause-reads
 returns-in_err-work-clause-reads g c = λ tells.
     read_refused c.args.closed (objects_after (g.S.Store.history c.args.disk.now) c.args.source.now) (objects_after (g.S.Store.history c.args.disk.now) c.args.target.now) c.args.head.now
-    (g.S.Store.object_reads c.args.disk.now) (g.S.Store.object_reads c.start.new.disk) c.in_err-work.ensures.reads
+    (g.S.Store.object_reads c.args.disk.now) (g.S.Store.object_reads c.start.new.disk) (c.in_err-work.ensures.reads tells)
 
 pub returns-in_err-step-clause-reads : goal.returns-in_err-step-clause-reads
 returns-in_err-step-clause-reads g c = λ tells.

@@ -1,4 +1,4 @@
-use Rattle.std.proofs.Common.{◌≡◌, Option, Result, Err, sym, subst, rules}
+use Rattle.std.proofs.Common.{◌≡◌, inl, inr, Option, Result, Err, sym, subst, rules, arith}
 use Rattle.gb_store.specs.Files.{History}
 use Rattle.object_store.specs.Held.{objects_after}
 use Rattle.remote_copy.specs.Opens.{BeginAnswers, IsBegun, OpenRefused}
@@ -33,3 +33,28 @@ returns-clause-answers g c = λ tells.
       subst (λ (h : History). IsBegun (objects_after h c.args.source.now) target c.args.need c.in_ok-found.found) (c.in_ok-there.ensures.unwritten tells)
           (c.in_ok-found.ensures.answers tells target there),
     )
+
+pub returns-in_err-there-clause-reads : goal.returns-in_err-there-clause-reads
+returns-in_err-there-clause-reads g c = λ tells. inl c.in_err-there.ensures.reads
+
+pub returns-in_err-is_left-clause-reads : goal.returns-in_err-is_left-clause-reads
+returns-in_err-is_left-clause-reads g c = λ tells. inl c.in_ok-there.ensures.reads
+
+pub returns-then-branch-clause-reads : goal.returns-then-branch-clause-reads
+returns-then-branch-clause-reads g c = λ tells. inl c.in_ok-there.ensures.reads
+
+pub returns-in_err-found-clause-reads : goal.returns-in_err-found-clause-reads
+returns-in_err-found-clause-reads g c = λ tells.
+    let target = objects_after (g.S.Store.history c.args.disk.now) c.args.target.now in
+    let there = c.in_ok-there.ensures.found tells in
+    let one = c.in_ok-there.ensures.reads in
+    let two = c.in_err-found.ensures.reads in
+    inr (left_false c.args.closed target c.args.need c.in_ok-is_left.field-0 c.if-branch.false (c.in_ok-is_left.ensures target there), omega (arith, one, two))
+
+pub returns-clause-reads : goal.returns-clause-reads
+returns-clause-reads g c = λ tells.
+    let target = objects_after (g.S.Store.history c.args.disk.now) c.args.target.now in
+    let there = c.in_ok-there.ensures.found tells in
+    let one = c.in_ok-there.ensures.reads in
+    let two = c.in_ok-found.ensures.reads in
+    inr (left_false c.args.closed target c.args.need c.in_ok-is_left.field-0 c.if-branch.false (c.in_ok-is_left.ensures target there), omega (arith, one, two))
