@@ -1,2 +1,1 @@
-pub mod NeededLemmas
 pub mod RankLemmas

@@ -1,4 +1,4 @@
--- Which of two packs of an entity stands first, said without the comparison by which they are sorted.
+-- Which of two packs of an entity comes first, without the comparison that sorts them.
 use Rattle.std.specs.Prelude.{◌≡◌, ◌≢◌, ◌≤◌, ℕ, List}
 use Rattle.std.specs.Cmp.Lexicographic.{slice_cmp}
 use Rattle.std.specs.Ordering.{nat_cmp}

@@ -40,6 +40,8 @@ pub const P0: Name = Name { bytes: [32; 20] };
 
 pub const P1: Name = Name { bytes: [33; 20] };
 
+pub const P2: Name = Name { bytes: [34; 20] };
+
 const NUMBERS: &[u8] = &[0, 1, 2, 3, 4, 5, 6, 7, 8, 9];
 
 /// A name under which nothing stands.
@@ -92,15 +94,15 @@ pub enum Answer {
 #[derive(Clone, Copy)]
 pub struct Case(pub &'static [Commit], pub Heads, pub Answer, pub u64);
 
-// What stands for a name in the tables.
+/// What stands for a name in the tables.
 #[derive(Clone, Copy)]
-struct Mark {
-    mark: Name,
-    name: Name,
+pub struct Mark {
+    pub mark: Name,
+    pub name: Name,
 }
 
-// The name that a mark stands for.
-fn name_of(marks: &[Mark], mark: &Name) -> Name {
+/// The name that a mark stands for.
+pub fn name_of(marks: &[Mark], mark: &Name) -> Name {
     for known in marks {
         if known.mark == *mark {
             return known.name;
@@ -173,8 +175,8 @@ fn add_mark(marks: &mut Vec<Mark>, number: u8, name: Name) -> Result<(), Fail> {
     Ok(())
 }
 
-// Puts commits, and answers what stands for their names.
-fn put_all(disk: &mut Disk, commits: &[Commit]) -> Result<Vec<Mark>, Fail> {
+/// Puts commits, and answers what stands for their names.
+pub fn put_all(disk: &mut Disk, commits: &[Commit]) -> Result<Vec<Mark>, Fail> {
     let mut marks = Vec::new(disk.alloc);
     for (commit, number) in commits.iter().zip(NUMBERS) {
         put_one(disk, &mut marks, *number, *commit)?;
@@ -188,7 +190,8 @@ pub fn put_commits(disk: &mut Disk, commits: &[Commit]) -> Result<(), Fail> {
     Ok(())
 }
 
-fn make(disk: &mut Disk, marks: &[Mark], change: Change) -> Result<(), Fail> {
+/// Makes a change to the files.
+pub fn make(disk: &mut Disk, marks: &[Mark], change: Change) -> Result<(), Fail> {
     match change {
         Change::Nothing => Ok(()),
         Change::Gone(mark) => {
@@ -211,8 +214,8 @@ fn read<K: OpKind>(
     }
 }
 
-// The fault with marks for names.
-fn marked(marks: &[Mark], fault: EntityFault) -> EntityFault {
+/// The fault with marks for names.
+pub fn marked(marks: &[Mark], fault: EntityFault) -> EntityFault {
     match fault {
         EntityFault::Missing(name) => EntityFault::Missing(mark_of(marks, &name)),
         EntityFault::Damaged(name) => EntityFault::Damaged(mark_of(marks, &name)),

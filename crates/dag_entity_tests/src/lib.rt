@@ -1,9 +1,10 @@
-//! Copies as those who read entities see them, a law that stands where the crates of both meet, one of the
-//! order of packs, and tests of `dag_entity`.
+//! A law of the order of packs, and tests of `dag_entity`.
 #![tactic(auto)]
 
 #[cfg(test)]
 mod appending;
+#[cfg(test)]
+mod both;
 #[cfg(test)]
 mod bugs;
 #[cfg(test)]
@@ -16,4 +17,4 @@ mod graphs;
 mod large;
 mod laws;
 
-pub use laws::{packs_stand_by_clock_then_id, whole_copies_have_the_same_entity};
+pub use laws::packs_stand_by_clock_then_id;

@@ -1,5 +1,5 @@
--- What an entity needs, of a head that was copied.
-use Rattle.std.proofs.Common.{◌≡◌, ◌⊎◌, inl, inr, zero, suc, ℕ, Bool, true, false, List, [], ◌∷◌, Contains, Option, Some, None, refl, sym, ◌∙◌, ap, subst, arith}
+-- What lies below a head that was copied, and what an entity needs there.
+use Rattle.std.proofs.Common.{◌≡◌, ◌⊎◌, inl, inr, zero, suc, true, false, [], ◌∷◌, Contains, Option, Some, None, refl, sym, ◌∙◌, ap, arith}
 use Rattle.std.specs.Prelude.{codes, find}
 use Rattle.std.specs.Option.{option_map}
 use Rattle.std.specs.Str.{bytes_eq}
@@ -22,9 +22,9 @@ use Rattle.object_batch.specs.Needs.{NamesNext, Reference, kind_named}
 use Rattle.object_batch.proofs.ClashLemmas.{find-some}
 use Rattle.commit_walk.specs.Below.{IsBelow, head, parent}
 use Rattle.commit_pack.specs.Packs.{NamesOps}
-use Rattle.op_pack.specs.Heads.{is_file, is_ops, ops_of}
+use Rattle.op_pack.specs.Heads.{is_file, is_ops}
 use Rattle.dag_entity.specs.Agreeing.{SameNeeded}
-use Rattle.dag_entity.specs.Nodes.{IsNeeded, IsPackNeeded}
+use Rattle.dag_entity.specs.Nodes.{IsNeeded}
 use Rattle.remote_copy.specs.Closure.{IsFollowed, IsLeft, StandsAlike, commit_named, first, next}
 use Rattle.remote_copy.specs.Copies.{IsCopied}
 use Rattle.remote_copy.proofs.TextLemmas.{text_at-is}
@@ -68,7 +68,7 @@ module _ (source entry target : Objects) (top : Name) (copied : IsCopied false s
   not_left one left = let yes = left.is_closed in cc
 
   -- each commit below the head is followed
-  below_followed : (name : Name) → IsBelow source (top ∷ []) name → IsFollowed false source entry top (commit_named name)
+  pub below_followed : (name : Name) → IsBelow source (top ∷ []) name → IsFollowed false source entry top (commit_named name)
   below_followed name (head (zero, below, is)) = first (ap commit_named (sym is)) (not_left (commit_named name))
   below_followed name (head (suc k, below, is)) = absurd (omega (arith, below))
   below_followed name (parent {high = high} up names) =
@@ -76,12 +76,19 @@ module _ (source entry target : Objects) (top : Name) (copied : IsCopied false s
       next (below_followed high up) next_is (not_left (commit_named name))
 
   -- so is its tree
-  tree_followed : (high : Name) (commit : Commit) → IsBelow source (top ∷ []) high → commit_at source high ≡ Some commit → IsFollowed false source entry top (as_kind kinds.Tree commit.tree)
+  pub tree_followed : (high : Name) (commit : Commit) → IsBelow source (top ∷ []) high → commit_at source high ≡ Some commit → IsFollowed false source entry top (as_kind kinds.Tree commit.tree)
   tree_followed high commit below held =
       let next_is : NamesNext source (commit_named high) (as_kind kinds.Tree commit.tree) = record { object = objects.Commit commit; is = commit_held source high commit held; is_kind = refl; names = inl (refl, refl) } in
       next (below_followed high below) next_is (not_left (as_kind kinds.Tree commit.tree))
 
-  -- and what the tree's file `ops` names
+  -- and what an entry of the tree names that is a file
+  pub file_followed : (tree : Name) (held_as : Tree) (one : Entry) → IsFollowed false source entry top (as_kind kinds.Tree tree) → tree_at source tree ≡ Some held_as → Contains held_as.entries one → kind_named one.mode ≡ Some kinds.Blob
+      → IsFollowed false source entry top (as_kind kinds.Blob one.object)
+  file_followed tree held_as one up held among file =
+      let next_is : NamesNext source (as_kind kinds.Tree tree) (as_kind kinds.Blob one.object) = record { object = objects.Tree held_as; is = tree_held source tree held_as held; is_kind = refl; names = (one, among, refl, file) } in
+      next up next_is (not_left (as_kind kinds.Blob one.object))
+
+  -- so is what its file `ops` names
   ops_followed : (tree name : Name) → IsFollowed false source entry top (as_kind kinds.Tree tree) → NamesOps source tree name → IsFollowed false source entry top (as_kind kinds.Blob name)
   ops_followed tree name up ops =
       let found = found_entry (find is_ops ops.tree.entries) refl in
@@ -95,7 +102,7 @@ module _ (source entry target : Objects) (top : Name) (copied : IsCopied false s
           let object : entry.object ≡ name = same_Some entry.object name (sym (ap (option_map (λ (it : Entry). it.object)) e) ∙ ops.named) in
           (entry, is.0, object, file_kind entry.mode (and_parts (bytes_eq entry.name (codes "ops")) (is_file entry.mode) is.1).1)
 
-  alike_same : (one : Reference) → StandsAlike source target one → target one.name ≡ source one.name
+  pub alike_same : (one : Reference) → StandsAlike source target one → target one.name ≡ source one.name
   alike_same one alike = alike.there ∙ sym (text_at-is source one.name alike.text alike.held).stands
 
   same_at : (name : Name) → IsNeeded source (top ∷ []) name → target name ≡ source name

@@ -1,11 +1,16 @@
 use Rattle.std.proofs.Common.{[], ◌∷◌}
 use Rattle.dag_entity.proofs.AgreeFaults.{entity_over, fault_over, operations_over}
-use Rattle.dag_entity.proofs.AgreeLemmas.{agree_back}
-use Rattle.dag_entity_tests.proofs.NeededLemmas.{same_needed}
-use Rattle.dag_entity_tests.proofs.laws.whole_copies_have_the_same_entity.Goals as goal
+use Rattle.dag_entity.proofs.AgreeLemmas.{agree_back, below_back, below_over}
+use Rattle.entity_copy.proofs.NeededLemmas.{same_needed}
+use Rattle.entity_copy.proofs.laws.whole_copies_have_the_same_entity.Goals as goal
 
 pub returns-clause-needed : goal.returns-clause-needed
 returns-clause-needed g c = λ source entry target head copied. same_needed source entry target head copied
+
+pub returns-clause-below : goal.returns-clause-below
+returns-clause-below g c = λ source entry target head name copied.
+    let there = same_needed source entry target head copied in
+    (below_over source target (head ∷ []) there name, below_back source target (head ∷ []) there name)
 
 pub returns-clause-faults : goal.returns-clause-faults
 returns-clause-faults g c = λ source entry target head id authors fault copied.
