@@ -1,13 +1,13 @@
 //! The real folders of a run: what stands in them, and what is put.
-ghost use Rattle.std.specs.Prelude.{◌≡◌, ℕ, List, IfOk, IfErr};
+ghost use Rattle.std.specs.Prelude.{ℕ, List, IfOk, IfErr, IsFalse};
 ghost use Rattle.std.specs.Cmp.Lexicographic.{slice_cmp};
-ghost use Rattle.std.specs.IoError.{error_kind};
 ghost use Rattle.std.specs.List.Sorted.{IsStrictlySortedBy};
 ghost use Rattle.std.specs.Ordering.{nat_cmp};
 ghost use Rattle.gb_store.specs.Files.{IsWithin};
 
 use crate::claim::{Claim, Purpose};
 use crate::disk;
+use crate::failure::{Call, Failure, at};
 use crate::lock::{Locking, Locks};
 use crate::place::{Kind, folder_of};
 use crate::settled::Settled;
@@ -52,15 +52,15 @@ impl Folders {
         alloc: Global,
         path: &str,
         limit: u64,
-    ) -> io::Result<Content>
+    ) -> Result<Content, Failure>
         ensures within { IfOk result (IsWithin limit) }
     {
         self.locks.take(rt, alloc, &self.claims)?;
-        let claim = claim_of(&self.claims, path)?;
+        let claim = claim_of(alloc, &self.claims, path)?;
         if !self.ways.stands(rt, alloc, claim, folder_of(path))? {
             return Ok(Content::Absent);
         }
-        let content = disk::read(rt, alloc, path, limit)?;
+        let content = at(alloc, Call::Read, path, disk::read(rt, alloc, path, limit))?;
         if claim.purpose == Purpose::Write && Kind::of(path) == Kind::Other {
             self.note_found(rt, alloc, path, &content)?;
         }
@@ -73,15 +73,15 @@ impl Folders {
         rt: &R,
         alloc: Global,
         dir: &str,
-    ) -> io::Result<Vec<Text>>
+    ) -> Result<Vec<Text>, Failure>
         ensures { IfOk result (λ names. IsStrictlySortedBy (slice_cmp nat_cmp) names.items) }
     {
         self.locks.take(rt, alloc, &self.claims)?;
-        let claim = claim_of(&self.claims, dir)?;
+        let claim = claim_of(alloc, &self.claims, dir)?;
         if !self.ways.stands(rt, alloc, claim, dir)? {
             return Ok(Vec::new(alloc));
         }
-        disk::list(rt, alloc, dir)
+        at(alloc, Call::List, dir, disk::list(rt, alloc, dir))
     }
 
     /// Puts a file. One that may name objects does not reach the disk before them, and has reached it afterwards.
@@ -91,11 +91,11 @@ impl Folders {
         alloc: Global,
         path: &str,
         bytes: &[u8],
-    ) -> io::Result<()> {
+    ) -> Result<(), Failure> {
         let kind = Kind::of(path);
         let folder = folder_of(path);
         self.locks.take(rt, alloc, &self.claims)?;
-        let claim = claim_of(&self.claims, path)?;
+        let claim = claim_of(alloc, &self.claims, path)?;
         self.ways
             .enter(rt, alloc, claim, folder, &mut self.unsynced)?;
         self.clean(rt, alloc, folder)?;
@@ -104,23 +104,23 @@ impl Folders {
         if done.is_err() {
             self.settled.forget(path);
         }
-        done?;
+        at(alloc, Call::Write, path, done)?;
         self.sync_written(rt, alloc, kind)
     }
 
     /// Removes a file, and has that reach the disk as a put does.
-    pub fn remove<R: Locking>(&mut self, rt: &R, alloc: Global, path: &str) -> io::Result<()> {
+    pub fn remove<R: Locking>(&mut self, rt: &R, alloc: Global, path: &str) -> Result<(), Failure> {
         let kind = Kind::of(path);
         let folder = folder_of(path);
         self.locks.take(rt, alloc, &self.claims)?;
-        let claim = claim_of(&self.claims, path)?;
+        let claim = claim_of(alloc, &self.claims, path)?;
         if !self.ways.stands(rt, alloc, claim, folder)? {
             return Ok(());
         }
         if kind == Kind::Other {
             self.unsynced.add(alloc, folder)?;
         }
-        if !disk::remove(rt, path)? {
+        if !at(alloc, Call::Remove, path, disk::remove(rt, path))? {
             return Ok(());
         }
         self.sync_written(rt, alloc, kind)
@@ -139,11 +139,11 @@ impl Folders {
         alloc: Global,
         path: &str,
         content: &Content,
-    ) -> io::Result<()> {
+    ) -> Result<(), Failure> {
         let Content::Whole(text) = content else {
             return Ok(());
         };
-        let claim = claim_of(&self.claims, path)?;
+        let claim = claim_of(alloc, &self.claims, path)?;
         let folder = folder_of(path);
         self.ways
             .enter(rt, alloc, claim, folder, &mut self.unsynced)?;
@@ -162,8 +162,8 @@ impl Folders {
         kind: Kind,
         path: &str,
         bytes: &[u8],
-    ) -> io::Result<()> {
-        let claim = claim_of(&self.claims, path)?;
+    ) -> Result<(), Failure> {
+        let claim = claim_of(alloc, &self.claims, path)?;
         match kind {
             Kind::Row => return Ok(()),
             Kind::Object => self.settled.add_put(alloc, claim, path, bytes)?,
@@ -190,24 +190,29 @@ impl Folders {
         rt: &R,
         alloc: Global,
         folder: &str,
-    ) -> io::Result<()> {
+    ) -> Result<(), Failure> {
         if !self.locks.are_alone() || self.cleaned.contains(folder) {
             return Ok(());
         }
         self.cleaned.insert(String::from_str(alloc, folder)?)?;
-        disk::remove_temporaries(rt, folder)
+        at(
+            alloc,
+            Call::List,
+            folder,
+            disk::remove_temporaries(rt, folder),
+        )
     }
 
     // Has what was written reach the disk, but for what may wait. The write was made, so no error is want of memory.
-    fn sync_written<R: Files>(&mut self, rt: &R, alloc: Global, kind: Kind) -> io::Result<()>
-        ensures failed { IfErr result (λ e. error_kind e ≡ ErrorKind.Other) }
+    fn sync_written<R: Files>(&mut self, rt: &R, alloc: Global, kind: Kind) -> Result<(), Failure>
+        ensures failed { IfErr result (λ e. IsFalse e.is_out_of_memory) }
     {
         if kind != Kind::Other {
             return Ok(());
         }
         match self.unsynced.sync(rt, alloc, &self.claims) {
             Ok(()) => Ok(()),
-            Err(_) => Err(io::Error::from(ErrorKind::Other)),
+            Err(e) => Err(e.after_a_write()),
         }
     }
 }
@@ -218,11 +223,15 @@ fn head_in(text: &[u8]) -> Option<Name> {
 }
 
 // The folder that the words name and below which a path lies. No other path is read or written.
-fn claim_of<'a>(claims: &'a [Claim], path: &str) -> io::Result<&'a Claim> {
+fn claim_of<'a>(alloc: Global, claims: &'a [Claim], path: &str) -> Result<&'a Claim, Failure> {
     for claim in claims {
         if claim.covers(path) {
             return Ok(claim);
         }
     }
-    Err(io::Error::from(ErrorKind::PermissionDenied))
+    let said = io::Error::new(
+        ErrorKind::PermissionDenied,
+        "no folder of the command has it",
+    );
+    Err(Failure::new(alloc, Call::Enter, path, said))
 }

@@ -4,6 +4,7 @@
 
 mod claim;
 mod disk;
+mod failure;
 mod folders;
 mod lock;
 mod place;
@@ -15,6 +16,7 @@ mod unsynced;
 mod ways;
 
 pub use claim::{Claim, Purpose};
+pub use failure::{Call, Failure};
 pub use lock::Locking;
 pub use signals::{MOST_SIGNALS, again};
 pub use store::FolderStore;

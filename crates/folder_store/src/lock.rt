@@ -1,6 +1,7 @@
 //! The locks of a run on the folders that its words name.
 use crate::claim::{Claim, Purpose};
 use crate::disk;
+use crate::failure::{Call, Failure, at};
 use crate::signals::again;
 use crate::ways::front_at;
 use std::alloc::Global;
@@ -13,6 +14,9 @@ use std::{fs, io, thread};
 
 // How often the locks are tried, and what is waited between two tries at least and at most. It is half a minute in all.
 const TRIES: u32 = 3_000;
+
+// What is said where all tries failed.
+const HELD: &str = "another program has held its lock for half a minute";
 
 const PAUSE_MICROS: u64 = 5_000;
 
@@ -57,17 +61,25 @@ impl Locks {
 
     /// Takes the lock of each folder that stands, and makes the folders in which the run writes. All locks are taken at once
     /// or none, so that two runs over the same two folders don't wait for each other. Once all are held nothing is done.
-    pub fn take<R: Locking>(&mut self, rt: &R, alloc: Global, claims: &[Claim]) -> io::Result<()> {
+    pub fn take<R: Locking>(
+        &mut self,
+        rt: &R,
+        alloc: Global,
+        claims: &[Claim],
+    ) -> Result<(), Failure> {
         if self.is_complete {
             return Ok(());
         }
+        let mut waited_for = ".";
         for _ in 0..TRIES {
-            if self.try_all(rt, alloc, claims)? {
-                return Ok(());
+            match self.try_all(rt, alloc, claims)? {
+                None => return Ok(()),
+                Some(claim) => waited_for = claim.path(),
             }
-            pause(rt)?;
+            at(alloc, Call::Lock, waited_for, pause(rt))?;
         }
-        Err(io::Error::from(ErrorKind::WouldBlock))
+        let said = io::Error::new(ErrorKind::WouldBlock, HELD);
+        Err(Failure::new(alloc, Call::Lock, waited_for, said))
     }
 
     /// Removes the folders that were made for a lock and are empty still.
@@ -79,9 +91,14 @@ impl Locks {
         }
     }
 
-    // Takes all locks, or none where another run holds one. Folders to be written come first, so that a folder that two
-    // words name is locked for both.
-    fn try_all<R: Locking>(&mut self, rt: &R, alloc: Global, claims: &[Claim]) -> io::Result<bool> {
+    // Takes all locks, or none where another run holds one, and gives the folder of that. Folders to be written come first,
+    // so that a folder that two words name is locked for both.
+    fn try_all<'a, R: Locking>(
+        &mut self,
+        rt: &R,
+        alloc: Global,
+        claims: &'a [Claim],
+    ) -> Result<Option<&'a Claim>, Failure> {
         self.held.clear();
         self.is_complete = true;
         self.is_locked = true;
@@ -90,20 +107,25 @@ impl Locks {
                 if claim.purpose == purpose && !self.try_one(rt, alloc, claim)? {
                     self.held.clear();
                     self.is_complete = false;
-                    return Ok(false);
+                    return Ok(Some(claim));
                 }
             }
         }
-        Ok(true)
+        Ok(None)
     }
 
     // Takes the lock of a folder, and says whether no other run holds it.
-    fn try_one<R: Locking>(&mut self, rt: &R, alloc: Global, claim: &Claim) -> io::Result<bool> {
+    fn try_one<R: Locking>(
+        &mut self,
+        rt: &R,
+        alloc: Global,
+        claim: &Claim,
+    ) -> Result<bool, Failure> {
         let Some(folder) = self.open(rt, alloc, claim)? else {
             self.is_complete = false;
             return Ok(true);
         };
-        let entry = again(|| folder.metadata())?;
+        let entry = at(alloc, Call::Look, claim.path(), again(|| folder.metadata()))?;
         if self
             .held
             .iter()
@@ -117,7 +139,12 @@ impl Locks {
             // The file system has no locks.
             Err(TryLockError::Error(_)) => self.is_locked = false,
         }
-        let still = disk::target_at(rt, claim.path())?;
+        let still = at(
+            alloc,
+            Call::Look,
+            claim.path(),
+            disk::target_at(rt, claim.path()),
+        )?;
         if !still.is_some_and(|still| disk::is_same(&still, &entry)) {
             return Ok(false);
         }
@@ -134,15 +161,28 @@ impl Locks {
         rt: &R,
         alloc: Global,
         claim: &Claim,
-    ) -> io::Result<Option<File>> {
-        let found = disk::open_folder(rt, alloc, claim.path())?;
+    ) -> Result<Option<File>, Failure> {
+        let folder = claim.path();
+        let found = at(
+            alloc,
+            Call::Enter,
+            folder,
+            disk::open_folder(rt, alloc, folder),
+        )?;
         if found.is_some() || claim.purpose == Purpose::Read {
             return Ok(found);
         }
-        match self.make(rt, alloc, claim.path()) {
-            Err(e) if e.kind() == ErrorKind::OutOfMemory => Err(e),
+        match self.make(rt, alloc, folder) {
+            Err(e) if e.kind() == ErrorKind::OutOfMemory => {
+                Err(Failure::new(alloc, Call::Make, folder, e))
+            }
             Err(_) => Ok(None),
-            Ok(()) => disk::open_folder(rt, alloc, claim.path()),
+            Ok(()) => at(
+                alloc,
+                Call::Enter,
+                folder,
+                disk::open_folder(rt, alloc, folder),
+            ),
         }
     }
 

@@ -1,6 +1,7 @@
 //! Which objects have reached the disk, as far as a run knows.
 use crate::claim::Claim;
 use crate::disk;
+use crate::failure::{Call, Failure, at};
 use crate::place::folder_of;
 use crate::unsynced::Unsynced;
 use crate::ways::Ways;
@@ -10,7 +11,6 @@ use git_object::{Commit, Frame, Kind, Mode, Tree};
 use object_store::{MOST_BYTES, path_of};
 use std::alloc::{AllocError, Global};
 use std::collections::BTreeSet;
-use std::io;
 use std::rt::Files;
 
 /// The objects, by their paths, that have reached the disk with all that they name, but for those that wait.
@@ -36,7 +36,7 @@ impl Settled {
         claim: &Claim,
         path: &str,
         text: &[u8],
-    ) -> io::Result<()> {
+    ) -> Result<(), Failure> {
         self.add_whole(alloc, path)?;
         self.add_names(alloc, claim, text)
     }
@@ -47,7 +47,7 @@ impl Settled {
     }
 
     /// The ref that names this object stands, so the object reached the disk before, with all that it names.
-    pub fn add_head(&mut self, alloc: Global, claim: &Claim, head: &Name) -> io::Result<()> {
+    pub fn add_head(&mut self, alloc: Global, claim: &Claim, head: &Name) -> Result<(), Failure> {
         let path = object_path(alloc, claim, head)?;
         Ok(self.add_whole(alloc, path.as_str())?)
     }
@@ -62,7 +62,7 @@ impl Settled {
         head: &Name,
         ways: &mut Ways,
         unsynced: &mut Unsynced,
-    ) -> io::Result<()> {
+    ) -> Result<(), Failure> {
         self.waiting.push(object_path(alloc, claim, head)?)?;
         for _ in 0..u64::MAX {
             let Some(path) = self.waiting.pop() else {
@@ -86,21 +86,22 @@ impl Settled {
         path: &str,
         ways: &mut Ways,
         unsynced: &mut Unsynced,
-    ) -> io::Result<()> {
+    ) -> Result<(), Failure> {
         let folder = folder_of(path);
         if self.whole.contains(path) || !ways.stands(rt, alloc, claim, folder)? {
             return Ok(());
         }
         ways.enter(rt, alloc, claim, folder, unsynced)?;
         unsynced.add(alloc, folder)?;
-        if let Content::Whole(text) = disk::read_synced(rt, alloc, path, MOST_BYTES)? {
+        let read = disk::read_synced(rt, alloc, path, MOST_BYTES);
+        if let Content::Whole(text) = at(alloc, Call::Sync, path, read)? {
             self.add_names(alloc, claim, text.as_slice())?;
         }
         Ok(self.add_whole(alloc, path)?)
     }
 
     // Has the objects wait that the text of an object names, but those that reached the disk.
-    fn add_names(&mut self, alloc: Global, claim: &Claim, text: &[u8]) -> io::Result<()> {
+    fn add_names(&mut self, alloc: Global, claim: &Claim, text: &[u8]) -> Result<(), Failure> {
         for name in names_in(alloc, text)? {
             let path = object_path(alloc, claim, &name)?;
             if !self.whole.contains(path.as_str()) {
@@ -116,12 +117,12 @@ impl Settled {
     }
 }
 
-fn object_path(alloc: Global, claim: &Claim, name: &Name) -> io::Result<Text> {
-    path_of(alloc, &claim.folder, name).map_err(|_| disk::want_of_memory())
+fn object_path(alloc: Global, claim: &Claim, name: &Name) -> Result<Text, AllocError> {
+    path_of(alloc, &claim.folder, name).map_err(|_| AllocError)
 }
 
 // The objects that the text of an object names. A commit of another repository is none of them.
-fn names_in(alloc: Global, text: &[u8]) -> io::Result<Vec<Name>> {
+fn names_in(alloc: Global, text: &[u8]) -> Result<Vec<Name>, Failure> {
     match Frame::read(text) {
         Some(frame) => match frame.kind {
             Kind::Blob => Ok(Vec::new(alloc)),
@@ -132,9 +133,9 @@ fn names_in(alloc: Global, text: &[u8]) -> io::Result<Vec<Name>> {
     }
 }
 
-fn entries_of(alloc: Global, content: &[u8]) -> io::Result<Vec<Name>> {
+fn entries_of(alloc: Global, content: &[u8]) -> Result<Vec<Name>, Failure> {
     let mut names = Vec::new(alloc);
-    if let Some(tree) = Tree::read(alloc, content).map_err(|_| disk::want_of_memory())? {
+    if let Some(tree) = Tree::read(alloc, content).map_err(|_| AllocError)? {
         for entry in tree.entries.as_slice() {
             if entry.mode != Mode::Module {
                 names.push(entry.object)?;
@@ -144,9 +145,9 @@ fn entries_of(alloc: Global, content: &[u8]) -> io::Result<Vec<Name>> {
     Ok(names)
 }
 
-fn tree_and_parents_of(alloc: Global, content: &[u8]) -> io::Result<Vec<Name>> {
+fn tree_and_parents_of(alloc: Global, content: &[u8]) -> Result<Vec<Name>, Failure> {
     let mut names = Vec::new(alloc);
-    if let Some(commit) = Commit::read(alloc, content).map_err(|_| disk::want_of_memory())? {
+    if let Some(commit) = Commit::read(alloc, content).map_err(|_| AllocError)? {
         names.push(commit.tree)?;
         for parent in commit.parents.as_slice() {
             names.push(*parent)?;

@@ -1,18 +1,16 @@
 //! A store over real folders.
-ghost use Rattle.std.specs.Prelude.{◌≡◌, ◌↔◌, Ok, IfOk, IfErr, IsErr, OnErr, IsErrOf, IsErrAnd};
-ghost use Rattle.std.specs.IoError.{error_kind};
+ghost use Rattle.std.specs.Prelude.{◌≡◌, ◌↔◌, Ok, IfOk, IfErr, IsErr, OnErr, IsErrOf, IsErrAnd, IsTrue};
 ghost use Rattle.gb_store.specs.Counts.{raised};
 ghost use Rattle.gb_store.specs.Faults.{KeepsFaults};
 ghost use Rattle.gb_store.specs.ObjectPath.{reads_after};
 
 use crate::claim::Claim;
+use crate::failure::Failure;
 use crate::folders::Folders;
 use crate::lock::Locking;
 use gb_store::{Content, Store, StoreFault, is_object_path};
 use gb_text::{List, Text};
 use std::alloc::Global;
-use std::io;
-use std::io::ErrorKind;
 use std::marker::Model;
 
 /// The files below the folders that the words name, by their paths from the folder in which the program runs. It tells no
@@ -23,6 +21,7 @@ pub struct FolderStore<R: Locking + AllocGlobal + Clone + Drop> {
     folders: Folders,
     faults: u64,
     reads: u64,
+    failure: Option<Failure>,
 }
 
 impl<R: Locking + AllocGlobal + Clone + Drop> Model for FolderStore<R> {
@@ -47,6 +46,7 @@ impl<R: Locking + AllocGlobal + Clone + Drop> FolderStore<R> {
             folders,
             faults: 0,
             reads: 0,
+            failure: None,
         }
     }
 
@@ -71,12 +71,17 @@ impl<R: Locking + AllocGlobal + Clone + Drop> FolderStore<R> {
         self.reads
     }
 
-    // The answer to what the system did, and a failure counted.
-    fn settle<T: Drop>(&mut self, done: io::Result<T>) -> Result<T, StoreFault>
+    /// The first call of the system that failed, for people: nothing is decided by it.
+    pub fn failure(&self) -> Option<&Failure> {
+        self.failure.as_ref()
+    }
+
+    // The answer to what the system did, and a failure counted. The first one is kept.
+    fn settle<T: Drop>(&mut self, done: Result<T, Failure>) -> Result<T, StoreFault>
         ensures ok { IfOk done (λ value. result ≡ Ok value) }
         ensures err { OnErr done (IsErr result) }
-        ensures memory { IsErrOf result StoreFault.Memory ↔ IsErrAnd done (λ e. error_kind e
-            ≡ ErrorKind.OutOfMemory) }
+        ensures memory { IsErrOf result StoreFault.Memory ↔ IsErrAnd done (λ e.
+            IsTrue e.is_out_of_memory) }
         ensures kept { ¬ IsErrOf result StoreFault.Failed → self.new ≡ self.old }
         ensures reads { self.new.reads ≡ self.old.reads }
         ensures caused { KeepsFaults (λ _. false) fault_count
@@ -84,10 +89,13 @@ impl<R: Locking + AllocGlobal + Clone + Drop> FolderStore<R> {
     {
         match done {
             Ok(value) => Ok(value),
-            Err(e) if e.kind() == ErrorKind::OutOfMemory => Err(StoreFault::Memory),
-            Err(_) => {
+            Err(e) if e.is_out_of_memory => Err(StoreFault::Memory),
+            Err(e) => {
                 let faults = self.faults;
                 self.faults = faults.saturating_add(1);
+                if self.failure.is_none() {
+                    self.failure = Some(e);
+                }
                 Err(StoreFault::Failed)
             }
         }

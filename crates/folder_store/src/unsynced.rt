@@ -1,9 +1,9 @@
 //! The folders whose entries may not have reached the disk yet.
 use crate::claim::Claim;
 use crate::disk;
+use crate::failure::{Call, Failure, at};
 use std::alloc::{AllocError, Global};
 use std::collections::BTreeSet;
-use std::io;
 use std::io::ErrorKind;
 use std::rt::Files;
 
@@ -30,7 +30,12 @@ impl Unsynced {
     }
 
     /// Syncs each of the folders. Where one cannot be synced, it stays, and so do those after it.
-    pub fn sync<R: Files>(&mut self, rt: &R, alloc: Global, claims: &[Claim]) -> io::Result<()> {
+    pub fn sync<R: Files>(
+        &mut self,
+        rt: &R,
+        alloc: Global,
+        claims: &[Claim],
+    ) -> Result<(), Failure> {
         for _ in 0..self.folders.len() {
             let Some(folder) = self.folders.first() else {
                 break;
@@ -43,12 +48,17 @@ impl Unsynced {
 }
 
 // Syncs a folder, if it stands. One outside of the folders that the words name is passed over where it may not be opened.
-fn sync_one<R: Files>(rt: &R, alloc: Global, claims: &[Claim], folder: &str) -> io::Result<()> {
+fn sync_one<R: Files>(
+    rt: &R,
+    alloc: Global,
+    claims: &[Claim],
+    folder: &str,
+) -> Result<(), Failure> {
     match disk::open_folder(rt, alloc, folder) {
-        Ok(Some(open)) => disk::sync_folder(&open),
+        Ok(Some(open)) => at(alloc, Call::Sync, folder, disk::sync_folder(&open)),
         Ok(None) => Ok(()),
         Err(e) if e.kind() == ErrorKind::PermissionDenied && !is_claimed(claims, folder) => Ok(()),
-        Err(e) => Err(e),
+        Err(e) => Err(Failure::new(alloc, Call::Enter, folder, e)),
     }
 }
 

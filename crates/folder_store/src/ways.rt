@@ -1,6 +1,7 @@
 //! The folders on the way to a path.
 use crate::claim::Claim;
 use crate::disk;
+use crate::failure::{Call, Failure, at};
 use crate::place::folder_of;
 use crate::unsynced::Unsynced;
 use std::alloc::{AllocError, Global};
@@ -32,7 +33,7 @@ impl Ways {
         alloc: Global,
         claim: &Claim,
         folder: &str,
-    ) -> io::Result<bool> {
+    ) -> Result<bool, Failure> {
         if self.seen.contains(folder) {
             return Ok(true);
         }
@@ -55,7 +56,7 @@ impl Ways {
         claim: &Claim,
         folder: &str,
         unsynced: &mut Unsynced,
-    ) -> io::Result<()> {
+    ) -> Result<(), Failure> {
         if self.entered.contains(folder) {
             return Ok(());
         }
@@ -75,15 +76,15 @@ impl Ways {
         claim: &Claim,
         folder: &str,
         unsynced: &mut Unsynced,
-    ) -> io::Result<()> {
+    ) -> Result<(), Failure> {
         if self.entered.contains(folder) {
             return Ok(());
         }
         unsynced.add(alloc, folder_of(folder))?;
         if !self.is_folder(rt, alloc, claim, folder)? {
-            disk::make_folder(rt, folder)?;
+            at(alloc, Call::Make, folder, disk::make_folder(rt, folder))?;
             if !self.is_folder(rt, alloc, claim, folder)? {
-                return Err(io::Error::from(ErrorKind::NotADirectory));
+                return Err(refused(alloc, folder, "a file has its name"));
             }
         }
         add(alloc, &mut self.entered, folder)?;
@@ -97,21 +98,23 @@ impl Ways {
         alloc: Global,
         claim: &Claim,
         folder: &str,
-    ) -> io::Result<bool> {
+    ) -> Result<bool, Failure> {
         if self.seen.contains(folder) {
             return Ok(true);
         }
-        let entry = if claim.covers(folder) {
-            disk::entry_at(rt, folder)?
+        let looked = if claim.covers(folder) {
+            disk::entry_at(rt, folder)
         } else {
-            disk::target_at(rt, folder)?
+            disk::target_at(rt, folder)
         };
-        match entry {
+        match at(alloc, Call::Look, folder, looked)? {
             Some(entry) if entry.is_dir() => {
                 add(alloc, &mut self.seen, folder)?;
                 Ok(true)
             }
-            Some(entry) if entry.is_symlink() => Err(io::Error::from(ErrorKind::NotADirectory)),
+            Some(entry) if entry.is_symlink() => {
+                Err(refused(alloc, folder, "it is a link, and links are not followed"))
+            }
             _ => Ok(false),
         }
     }
@@ -123,6 +126,12 @@ pub fn front_at(folder: &str, end: usize) -> Option<&str> {
         Some((front, rest)) if !front.is_empty() && rest.starts_with('/') => Some(front),
         _ => None,
     }
+}
+
+// A folder that is not entered, and why.
+fn refused(alloc: Global, folder: &str, why: &str) -> Failure {
+    let said = io::Error::new(ErrorKind::NotADirectory, why);
+    Failure::new(alloc, Call::Enter, folder, said)
 }
 
 fn add(alloc: Global, folders: &mut BTreeSet<String>, folder: &str) -> Result<(), AllocError> {
