@@ -6,6 +6,7 @@ use Rattle.repo_state.specs.declared.refusal.Stop.TheVariants as stop
 use Rattle.repo_steps.specs.declared.edit.Edit.{Edit as Edits}
 use Rattle.repo_steps.specs.declared.edit.Edit.TheVariants.{New, OfBug, UserEdit, UserNew, UserSet}
 use Rattle.repo_edit.specs.Reads.{ReadsFor}
+use Rattle.bug_run.specs.Asked.{written_in}
 use Rattle.bug_run.specs.Printed.{Printed}
 use Rattle.bug_run.specs.Reads.{ReadsAsked, ReadsCommand}
 use Rattle.bug_run.specs.Run.{status_of, text_of}
@@ -47,5 +48,5 @@ command_narrower files folder (Edit edit) P Q before after less reads = edit_nar
 
 pub asked_narrower : (asked : Option Request) (files : Files) (P Q : Type 0) (before after : ℕ) → (Q → P) → ReadsAsked asked files P before after → ReadsAsked asked files Q before after
 asked_narrower asked files P Q before after less (inl same) = inl same
-asked_narrower asked files P Q before after less (inr (folder, asks, reads)) =
-    inr (folder, asks, command_narrower files folder asks.request.command P Q before after less reads)
+asked_narrower asked files P Q before after less (inr (at, asks, reads)) =
+    inr (at, asks, command_narrower files (written_in asks.request.command at) asks.request.command P Q before after less reads)

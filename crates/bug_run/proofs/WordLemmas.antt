@@ -1,5 +1,6 @@
 -- What the words alone decide of an answer.
-use Rattle.std.proofs.Common.{◌≡◌, inl, inr, ℕ, zero, suc, List, Option, Some, None, Result, Ok, Err, refl, sym, ◌∙◌, ap, subst}
+use Rattle.std.proofs.Common.{◌≡◌, inl, inr, ℕ, zero, suc, true, List, Option, Some, None, Result, Ok, Err, refl, sym, ◌∙◌, ap, subst}
+use Rattle.std.specs.Option.{option_map}
 use Rattle.gb_text.specs.Folder.{folder_of}
 use Rattle.gb_store.specs.Files.{History}
 use Rattle.repo_state.specs.declared.refusal.Refusal.{Refusal}
@@ -9,7 +10,8 @@ use Rattle.repo_state.specs.declared.refusal.Stop.TheVariants as stop
 use Rattle.repo_steps.specs.Answers.{TakesFolder, bad_text_of}
 use Rattle.bug_run.specs.Printed.{IsTold, Printed}
 use Rattle.bug_run.specs.Refusals.{usage_text}
-use Rattle.bug_run.specs.Run.{AskedAnswers, Call, RequestAnswers, RunAnswers, bad_word_in, status_for, status_of, text_of}
+use Rattle.bug_run.specs.Asked.{bad_word_in, is_by_words, refusal_in, word_refusal}
+use Rattle.bug_run.specs.Run.{AskedAnswers, Call, RequestAnswers, RunAnswers, status_for, status_of, text_of}
 use Rattle.bug_run.specs.Told.{Said}
 use Rattle.bug_run.specs.declared.status.Status.{Status}
 use Rattle.bug_run.specs.declared.status.Status.TheVariants as status
@@ -99,12 +101,12 @@ usage_only call old new before after is = each call.asked is
 -- ---- words that give one
 
 -- what was answered to them
-record Answered (call : Call) (request : Request) (old new : History) (before after : List ℕ) (answer : Status) : Type 0 where
+pub record Answered (call : Call) (request : Request) (old new : History) (before after : List ℕ) (answer : Status) : Type 0 where
   pub result : Result Said Stop
   pub done : RequestAnswers call.store_tells request call.now call.seed old new result
   pub printed : Printed call.sink_tells call.takes_memory (text_of result) (status_of result) before after answer
 
-answered : (call : Call) (request : Request) (old new : History) (before after : List ℕ) (answer : Status) → call.asked ≡ Some request
+pub answered : (call : Call) (request : Request) (old new : History) (before after : List ℕ) (answer : Status) → call.asked ≡ Some request
     → RunAnswers call old new before after answer → Answered call request old new before after answer
 answered call request old new before after answer asks is =
     let some : AskedAnswers (Some request) call old new before after answer = subst (λ (o : Option Request). AskedAnswers o call old new before after answer) asks is in
@@ -120,7 +122,7 @@ refusal_answered call request old new before after r other a = each a.printed
     each (inr (inl (fault, front))) = absurd (cc (fault))
     each (inr (inr (memory, front))) = absurd (cc (memory))
 
-pub folder_told : (call : Call) (old new : History) (before after : List ℕ) (answer : Status) (request : Request) → call.asked ≡ Some request → folder_of request.folder ≡ None
+folder_told : (call : Call) (old new : History) (before after : List ℕ) (answer : Status) (request : Request) → call.asked ≡ Some request → folder_of request.folder ≡ None
     → RunAnswers call old new before after answer → IsTold (status.Refused refusal.BadFolder) answer
 folder_told call old new before after answer request asks none is = each (answered call request old new before after answer asks is)
   where
@@ -132,7 +134,7 @@ folder_told call old new before after answer request asks none is = each (answer
         way (inl (inr bad, same)) = told_so call before after answer a.result refusal.BadFolder bad.0 a.printed
         way (inr (folder, done)) = let both : None ≡ Some folder = sym none ∙ done.is_folder in absurd (cc (both))
 
-pub folder_only : (call : Call) (old new : History) (before after : List ℕ) (request : Request) → call.asked ≡ Some request
+folder_only : (call : Call) (old new : History) (before after : List ℕ) (request : Request) → call.asked ≡ Some request
     → RunAnswers call old new before after (status.Refused refusal.BadFolder) → folder_of request.folder ≡ None
 folder_only call old new before after request asks is = each (answered call request old new before after (status.Refused refusal.BadFolder) asks is)
   where
@@ -147,7 +149,7 @@ folder_only call old new before after request asks is = each (answered call requ
         way (inl (inr bad, same)) = bad.1
         way (inr (folder, done)) = absurd (subst (λ (r : Result Said Stop). TakesFolder r) refused done.words.folder)
 
-pub word_told : (call : Call) (old new : History) (before after folder : List ℕ) (answer : Status) (request : Request) (place : ℕ) → call.asked ≡ Some request
+word_told : (call : Call) (old new : History) (before after folder : List ℕ) (answer : Status) (request : Request) (place : ℕ) → call.asked ≡ Some request
     → folder_of request.folder ≡ Some folder → bad_word_in request.command ≡ Some place → RunAnswers call old new before after answer
     → IsTold (status.Refused (refusal.BadText place)) answer
 word_told call old new before after folder answer request place asks reads breaks is = each (answered call request old new before after answer asks is)
@@ -160,17 +162,57 @@ word_told call old new before after folder answer request place asks reads break
         way (inl (inr bad, same)) = let both : Some folder ≡ None = sym reads ∙ bad.1 in absurd (cc (both))
         way (inr (other, done)) = told_so call before after answer a.result (refusal.BadText place) (bad_text_is a.result place (done.words.words ∙ breaks)) a.printed
 
-pub word_only : (call : Call) (old new : History) (before after : List ℕ) (request : Request) (place : ℕ) → call.asked ≡ Some request
-    → RunAnswers call old new before after (status.Refused (refusal.BadText place)) → bad_word_in request.command ≡ Some place
+word_only : (call : Call) (old new : History) (before after : List ℕ) (request : Request) (place : ℕ) → call.asked ≡ Some request
+    → RunAnswers call old new before after (status.Refused (refusal.BadText place)) → word_refusal request ≡ Some (refusal.BadText place)
 word_only call old new before after request place asks is = each (answered call request old new before after (status.Refused (refusal.BadText place)) asks is)
   where
-    each : Answered call request old new before after (status.Refused (refusal.BadText place)) → bad_word_in request.command ≡ Some place
+    each : Answered call request old new before after (status.Refused (refusal.BadText place)) → word_refusal request ≡ Some (refusal.BadText place)
     each a = way a.done
       where
         refused : a.result ≡ Err (stop.Refused (refusal.BadText place))
         refused = refusal_answered call request old new before after (refusal.BadText place) (λ n e. cc (e)) a
 
-        way : RequestAnswers call.store_tells request call.now call.seed old new a.result → bad_word_in request.command ≡ Some place
+        way : RequestAnswers call.store_tells request call.now call.seed old new a.result → word_refusal request ≡ Some (refusal.BadText place)
         way (inl (inl memory, same)) = let both : Err stop.Memory ≡ Err (stop.Refused (refusal.BadText place)) = sym memory ∙ refused in absurd (cc (both))
         way (inl (inr bad, same)) = let both : Err (stop.Refused refusal.BadFolder) ≡ Err (stop.Refused (refusal.BadText place)) = sym bad.0 ∙ refused in absurd (cc (both))
-        way (inr (folder, done)) = sym done.words.words ∙ ap bad_text_of refused
+        way (inr (folder, done)) =
+            ap (λ (found : Option (List ℕ)). refusal_in found (bad_word_in request.command)) done.is_folder
+            ∙ ap (option_map (λ (n : ℕ). refusal.BadText n)) (sym done.words.words ∙ ap bad_text_of refused)
+
+-- ---- both
+
+-- what words alone refuse is reported, whatever the store has
+pub refusal_told : (call : Call) (old new : History) (before after : List ℕ) (answer : Status) (request : Request) (r : Refusal) → call.asked ≡ Some request
+    → word_refusal request ≡ Some r → RunAnswers call old new before after answer → IsTold (status.Refused r) answer
+refusal_told call old new before after answer request r asks refuses is = by_folder (folder_of request.folder) refl refuses
+  where
+    by_word : (folder : List ℕ) → folder_of request.folder ≡ Some folder → (bad : Option ℕ) → bad_word_in request.command ≡ bad
+        → refusal_in (Some folder) bad ≡ Some r → IsTold (status.Refused r) answer
+    by_word folder reads None e one = absurd (cc (one))
+    by_word folder reads (Some place) e one =
+        let same : refusal.BadText place ≡ r = cc in
+        subst (λ (x : Refusal). IsTold (status.Refused x) answer) same (word_told call old new before after folder answer request place asks reads e is)
+
+    by_folder : (found : Option (List ℕ)) → folder_of request.folder ≡ found → refusal_in found (bad_word_in request.command) ≡ Some r → IsTold (status.Refused r) answer
+    by_folder None e one =
+        let same : refusal.BadFolder ≡ r = cc in
+        subst (λ (x : Refusal). IsTold (status.Refused x) answer) same (folder_told call old new before after answer request asks e is)
+    by_folder (Some folder) e one = by_word folder e (bad_word_in request.command) refl one
+
+-- and nothing else is reported as refused by the words
+pub refusal_only : (call : Call) (old new : History) (before after : List ℕ) (request : Request) (r : Refusal) → call.asked ≡ Some request → is_by_words r ≡ true
+    → RunAnswers call old new before after (status.Refused r) → word_refusal request ≡ Some r
+refusal_only call old new before after request refusal.BadFolder asks by is =
+    ap (λ (found : Option (List ℕ)). refusal_in found (bad_word_in request.command)) (folder_only call old new before after request asks is)
+refusal_only call old new before after request (refusal.BadText place) asks by is = word_only call old new before after request place asks is
+refusal_only call old new before after request refusal.NoUser asks by is = absurd (cc (by))
+refusal_only call old new before after request refusal.NotFound asks by is = absurd (cc (by))
+refusal_only call old new before after request refusal.NoLabelChange asks by is = absurd (cc (by))
+refusal_only call old new before after request refusal.SameStatus asks by is = absurd (cc (by))
+refusal_only call old new before after request (refusal.ClockFull name) asks by is = absurd (cc (by))
+refusal_only call old new before after request (refusal.RepeatedOperation id) asks by is = absurd (cc (by))
+refusal_only call old new before after request (refusal.EntityExists id) asks by is = absurd (cc (by))
+refusal_only call old new before after request (refusal.NameTaken name) asks by is = absurd (cc (by))
+refusal_only call old new before after request (refusal.TooLarge count) asks by is = absurd (cc (by))
+refusal_only call old new before after request (refusal.Damaged path) asks by is = absurd (cc (by))
+refusal_only call old new before after request (refusal.SomeRefused count) asks by is = absurd (cc (by))

@@ -1,7 +1,9 @@
+pub mod Asked
 pub mod Printed
 pub mod Reads
 pub mod Refusals
 pub mod Run
 pub mod Runs
+pub mod Served
 pub mod Told
 pub mod Words

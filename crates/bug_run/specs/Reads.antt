@@ -5,7 +5,7 @@ use Rattle.repo_state.specs.Answers.{ReadsPeople}
 use Rattle.repo_edit.specs.Reads.{ReadsFor}
 use Rattle.repo_view.specs.Log.{ReadsLog}
 use Rattle.repo_view.specs.Shown.{ReadsShow}
-use Rattle.bug_run.specs.Run.{AsksIn}
+use Rattle.bug_run.specs.Asked.{AsksIn, Folders, written_in}
 use Rattle.bug_run.specs.declared.words.Command.{Command}
 use Rattle.bug_run.specs.declared.words.Command.TheVariants.{Edit, Log, Show, Users}
 use Rattle.bug_run.specs.declared.words.Request.{Request}
@@ -17,7 +17,7 @@ ReadsCommand files folder (Show bug) IsDone before after = ReadsShow files folde
 ReadsCommand files folder (Log bug) IsDone before after = ReadsLog files folder bug before after
 ReadsCommand files folder (Edit edit) IsDone before after = ReadsFor files folder edit IsDone before after
 
--- of words that ask this, or nothing: none, or those of the command in the folder for which they ask
+-- of words that ask this, or nothing: none, or those of the command in the folder in which it writes
 abbrev pub ReadsAsked : Option Request → Files → Type 0 → ℕ → ℕ → Type 0
 ReadsAsked asked files IsDone before after =
-    (after ≡ before) ⊎ ((folder : List ℕ) × (asks : AsksIn asked folder) × ReadsCommand files folder asks.request.command IsDone before after)
+    (after ≡ before) ⊎ ((at : Folders) × (asks : AsksIn asked at) × ReadsCommand files (written_in asks.request.command at) asks.request.command IsDone before after)

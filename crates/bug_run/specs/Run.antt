@@ -2,7 +2,7 @@
 use Rattle.std.specs.Prelude.{◌≡◌, ◌⊎◌, ℕ, ℤ, pos, negsuc, zero, suc, Bool, IsTrue, List, [], Option, Some, None, Result, Ok, Err}
 use Rattle.gb_text.specs.Folder.{folder_of}
 use Rattle.gb_text.specs.declared.id.Id.{Id}
-use Rattle.gb_store.specs.Files.{Files, History, files_of}
+use Rattle.gb_store.specs.Files.{History, files_of}
 use Rattle.gb_store.specs.Moments.{AllMoments}
 use Rattle.gb_store.specs.declared.store.Change.{Change}
 use Rattle.repo_state.specs.Sound.{IsSound, KeepsParts}
@@ -12,11 +12,12 @@ use Rattle.repo_state.specs.declared.refusal.Refusal.TheVariants as refusal
 use Rattle.repo_state.specs.declared.refusal.Stop.{Stop}
 use Rattle.repo_state.specs.declared.refusal.Stop.TheVariants as stop
 use Rattle.repo_steps.specs.Answers.{KeepsToWords}
-use Rattle.repo_steps.specs.Doings.{EditAnswers, bad_word_of}
-use Rattle.repo_steps.specs.Kinds.{IsWrite}
+use Rattle.repo_steps.specs.Doings.{EditAnswers}
+use Rattle.repo_steps.specs.Writes.{IsWriteOf}
 use Rattle.repo_steps.specs.declared.edit.Edit.{Edit as Edits}
 use Rattle.repo_view.specs.Log.{LogAnswers}
 use Rattle.repo_view.specs.Shown.{ShowAnswers, UsersAnswers}
+use Rattle.bug_run.specs.Asked.{AsksIn, Folders, bad_word_in, written_in}
 use Rattle.bug_run.specs.Printed.{Printed}
 use Rattle.bug_run.specs.Refusals.{refusal_line, usage_text}
 use Rattle.bug_run.specs.Told.{Said}
@@ -65,13 +66,6 @@ CommandAnswers env Users old new result = TextSaid (UsersAnswers (files_of old) 
 CommandAnswers env (Show bug) old new result = TextSaid (ShowAnswers (files_of old) env.folder bug) result × (new ≡ old)
 CommandAnswers env (Log bug) old new result = TextSaid (LogAnswers (files_of old) env.folder bug) result × (new ≡ old)
 CommandAnswers env (Edit edit) old new result = EditSaid env edit old new result
-
--- the place of the first word of a command that breaks its rule
-abbrev pub bad_word_in : Command → Option ℕ
-bad_word_in Users = None
-bad_word_in (Show bug) = None
-bad_word_in (Log bug) = None
-bad_word_in (Edit edit) = bad_word_of edit
 
 -- a command was performed in the folder that its word reads as: its words are refused exactly where one breaks its rule,
 -- and the answer is the command's where the store tells its files
@@ -127,21 +121,23 @@ RunAnswers call old new before after answer = AskedAnswers call.asked call old n
 
 -- ---- the writes
 
--- words ask for something in this folder
-pub record AsksIn (asked : Option Request) (folder : List ℕ) : Type 0 where
-  pub request : Request
-  pub is_asked : asked ≡ Some request
-  pub is_folder : folder_of request.folder ≡ Some folder
+-- the writes that a command may make, by the history at entry and the writes of the call so far: an edit its own, a command
+-- that reads none
+abbrev pub CommandWrites : Env → Command → History → List Change → Change → Type 0
+CommandWrites env (Edit edit) entry earlier change = IsWriteOf env edit entry earlier change
+CommandWrites env _ entry earlier change = ⊥
 
--- the writes that a run may make for words that ask this, or nothing: one of a kind in the folder that they ask for
-abbrev pub RunWrites : Option Request → Files → Change → Type 0
-RunWrites asked files change = (folder : List ℕ) × AsksIn asked folder × IsWrite folder files change
+-- the writes that a run may make: those of the command that its words ask for, in the folder in which that writes
+abbrev pub RunWrites : Call → History → List Change → Change → Type 0
+RunWrites call entry earlier change =
+    (at : Folders) × (asks : AsksIn call.asked at)
+    × CommandWrites (env_at call.now call.seed (written_in asks.request.command at)) asks.request.command entry earlier change
 
 -- a folder keeps each part that was sound, at each moment; and a sound folder is sound at each
 pub record StaysSound (folder : List ℕ) (old new : History) : Type 0 where
   pub parts : KeepsParts folder old new
   pub whole : IsSound folder (files_of old) → AllMoments (IsSound folder) old new
 
--- so does the folder for which words ask something
+-- so does the folder in which a command writes that words ask for
 abbrev pub RunStaysSound : Option Request → History → History → Type 0
-RunStaysSound asked old new = (folder : List ℕ) → AsksIn asked folder → StaysSound folder old new
+RunStaysSound asked old new = (at : Folders) → (asks : AsksIn asked at) → StaysSound (written_in asks.request.command at) old new

@@ -1,4 +1,4 @@
--- What a command answers, as the text that it tells.
+-- What a command answers, as the text that it prints.
 use Rattle.std.specs.Prelude.{ℕ, List, Result, Ok, Err}
 use Rattle.repo_state.specs.Users.{id_line}
 use Rattle.repo_state.specs.declared.refusal.Stop.{Stop}

@@ -1,22 +1,23 @@
 //! Laws of runs, each the contract of a function that does nothing.
-ghost use Rattle.std.specs.Prelude.{◌≡◌, ◌≤◌, ◌+◌, ◌++◌, List, ℕ, Some, None, Ok, Err, codes};
+ghost use Rattle.std.specs.Prelude.{◌≡◌, ◌⊎◌, ◌≤◌, ◌+◌, ◌++◌, [], true, IsTrue, Contains, List, ℕ, Some, None, Ok, Err, codes};
 ghost use Rattle.hex.specs.Hex.{encode_lower};
 ghost use Rattle.gb_text.specs.Folder.{folder_of};
 ghost use Rattle.gb_text.specs.declared.id.Id.{Id};
 ghost use Rattle.gb_store.specs.Files.{Files, History, files_of};
 ghost use Rattle.repo_state.specs.Sound.{IsSound};
-ghost use Rattle.repo_steps.specs.Kept.{LosesNothing};
+ghost use Rattle.repo_writes.specs.Kept.{LosesNothing};
 ghost use Rattle.repo_steps.specs.Steps.{Steps};
 ghost use Rattle.repo_steps.specs.declared.edit.Edit.{Edit as Edits};
 ghost use Rattle.repo_steps.specs.declared.edit.Edit.TheVariants as edits;
 ghost use Rattle.repo_state.specs.declared.env.Env.{Env};
 ghost use Rattle.repo_state.specs.declared.refusal.Refusal.{Refusal};
-ghost use Rattle.repo_state.specs.declared.refusal.Refusal.TheVariants as refusal;
 ghost use Rattle.repo_state.specs.declared.refusal.Stop.TheVariants as stop;
+ghost use Rattle.bug_run.specs.Asked.{is_by_words, word_refusal};
 ghost use Rattle.bug_run.specs.Printed.{IsTold};
 ghost use Rattle.bug_run.specs.Reads.{ReadsCommand};
-ghost use Rattle.bug_run.specs.Run.{Call, CommandAnswers, RunAnswers, bad_word_in};
-ghost use Rattle.bug_run.specs.Runs.{Runs};
+ghost use Rattle.bug_run.specs.Run.{Call, CommandAnswers, RunAnswers, env_at};
+ghost use Rattle.bug_run.specs.Runs.{AreApart, Runs};
+ghost use Rattle.bug_run.specs.Served.{HasCause, ShowsOperations};
 ghost use Rattle.bug_run.specs.Told.{Said};
 ghost use Rattle.bug_run.specs.declared.status.Status.{Status as StatusValue};
 ghost use Rattle.bug_run.specs.declared.status.Status.TheVariants as status;
@@ -24,20 +25,54 @@ ghost use Rattle.bug_run.specs.declared.words.Command.{Command};
 ghost use Rattle.bug_run.specs.declared.words.Command.TheVariants as ask;
 ghost use Rattle.bug_run.specs.declared.words.Request.{Request};
 
-/// Whatever is run over a folder and over folders that do not overlap it, by whatever words, and
-/// wherever each run stops: a sound folder stays sound, no object is lost, below the head of each
-/// identity and of each bug stands what stood there, and no clock falls.
+/// Whatever is run over folders of which no two overlap, by whatever words, and wherever each run
+/// stops: each of them that is sound stays sound, no object is lost, everything below the head of an
+/// identity or of a bug stays below it, and no clock falls.
 pub fn runs_keep_folders()
-    ensures sound { (folder : List ℕ) (old new : History) → Runs folder old new
+    ensures sound { (folders : List (List ℕ)) (old new : History) → AreApart folders
+        → Runs folders old new → (folder : List ℕ) → Contains folders folder
         → IsSound folder (files_of old) → IsSound folder (files_of new) }
-    ensures kept { (folder : List ℕ) (old new : History) → Runs folder old new
+    ensures kept { (folders : List (List ℕ)) (old new : History) → AreApart folders
+        → Runs folders old new → (folder : List ℕ) → Contains folders folder
         → LosesNothing folder (files_of old) (files_of new) }
 {}
 
-/// From the same files and with the same words, moment and seed a command tells one text at most,
-/// whatever writes left the files so. And where it may be done, no refusal has a cause: so whether it is
-/// done or refused is determined, but for want of memory and faults of the disk. A command that edits
-/// nothing has one refusal too, so that all that it tells is determined.
+/// Where there were no files at all, each of these folders is sound whatever was run.
+pub fn runs_from_nothing_are_sound()
+    ensures { (folders : List (List ℕ)) (new : History) → AreApart folders → Runs folders [] new
+        → (folder : List ℕ) → Contains folders folder → IsSound folder (files_of new) }
+{}
+
+/// In a sound folder a command is done wherever nothing is a cause to refuse it, but where the store
+/// fails, the output fails or memory runs out. An edit has a cause where a check of it fails, a command
+/// that reads a bug where its word finds none, and the list of people has none.
+pub fn sound_folders_are_served()
+    ensures { (call : Call) (old new : History) (before after : List ℕ) (answer : StatusValue)
+        (request : Request) (folder : List ℕ) → IsTrue call.store_tells
+        → call.asked ≡ Some request → folder_of request.folder ≡ Some folder
+        → IsSound folder (files_of old)
+        → (HasCause (env_at call.now call.seed folder) request.command old → ⊥)
+        → RunAnswers call old new before after answer
+        → (answer ≡ status.Done) ⊎ ((answer ≡ status.Memory)
+        ⊎ ((answer ≡ status.DiskFault) ⊎ (answer ≡ status.OutFault))) }
+{}
+
+/// What `show` prints, where it is done: the fields that the operations of the operation commits below
+/// the bug's head give, in order of edit clock, pack id and name, with the names of the folder's people.
+/// It writes nothing.
+pub fn show_prints_the_operations_in_order()
+    ensures { (call : Call) (old new : History) (before after word words folder : List ℕ)
+        → IsTrue call.store_tells → IsTrue call.sink_tells
+        → call.asked ≡ Some (record { folder = words; command = ask.Show word })
+        → folder_of words ≡ Some folder → RunAnswers call old new before after status.Done
+        → (text : List ℕ) × ShowsOperations (files_of old) folder word text
+        × (after ≡ before ++ text) × (new ≡ old) }
+{}
+
+/// From the same files, arguments, time and seed a command prints at most one text, whichever writes led
+/// to these files. And where it may be done, no refusal has a cause: so whether it is done or refused is
+/// determined, but for want of memory and faults of the disk. A command that edits nothing has one
+/// refusal too, so that all that it tells is determined.
 pub fn answers_are_determined()
     ensures told { (env : Env) (command : Command) (old elder one two : History)
         (first second : Said) → files_of old ≡ files_of elder
@@ -53,8 +88,7 @@ pub fn answers_are_determined()
         → CommandAnswers env command elder two (Err (stop.Refused second)) → first ≡ second }
 {}
 
-/// A command that edits and is done tells the line of the id of what it made, and no line of it is a
-/// refusal.
+/// A done command that edits prints the line of the id of what it made, and no refusal.
 pub fn edits_tell_what_they_made()
     ensures { (env : Env) (edit : Edits) (old new : History) (said : Said)
         → CommandAnswers env (ask.Edit edit) old new (Ok said)
@@ -62,8 +96,8 @@ pub fn edits_tell_what_they_made()
         × (said.text ≡ encode_lower id.bytes ++ codes "\n") × (said.refused ≡ 0) }
 {}
 
-/// How few objects the commands read that look at no chain and no bug: a new person three, a new bug
-/// four, another user none.
+/// Commands that read no chain and no bug read few objects: `user-new` at most three, `new` four,
+/// `user-set` none.
 pub fn edits_read_few_objects()
     ensures person { (files : Files) (folder name email : List ℕ) (before after : ℕ)
         → ReadsCommand files folder (ask.Edit (edits.UserNew name email)) ⊥ before after
@@ -76,31 +110,23 @@ pub fn edits_read_few_objects()
         → after ≡ before }
 {}
 
-/// What the words alone decide, over every store: the usage is told exactly where they give no
-/// command; `bad folder` exactly where they give one and the folder's word is none; and `bad text`,
-/// with its place, exactly where that reads and a word of the command breaks its rule. Only the sink
-/// and want of memory may keep each from being told.
+/// What the words alone decide, over every store: the usage is reported if and only if they give no
+/// command. Where they give one, a refusal by words is reported if and only if the words alone give it:
+/// `bad folder` where the folder's word is not one, else `bad text` with the place of the first word of
+/// the command that breaks its rule. Only the sink and a lack of memory may keep each from being told.
 pub fn words_decide_first()
     ensures usage { (call : Call) (old new : History) (before after : List ℕ)
         (answer : StatusValue) → call.asked ≡ None → RunAnswers call old new before after answer
         → IsTold status.Usage answer }
     ensures only_usage { (call : Call) (old new : History) (before after : List ℕ)
         → RunAnswers call old new before after status.Usage → call.asked ≡ None }
-    ensures folder { (call : Call) (old new : History) (before after : List ℕ)
-        (answer : StatusValue) (request : Request) → call.asked ≡ Some request
-        → folder_of request.folder ≡ None → RunAnswers call old new before after answer
-        → IsTold (status.Refused refusal.BadFolder) answer }
-    ensures only_folder { (call : Call) (old new : History) (before after : List ℕ)
-        (request : Request) → call.asked ≡ Some request
-        → RunAnswers call old new before after (status.Refused refusal.BadFolder)
-        → folder_of request.folder ≡ None }
-    ensures word { (call : Call) (old new : History) (before after folder : List ℕ)
-        (answer : StatusValue) (request : Request) (place : ℕ) → call.asked ≡ Some request
-        → folder_of request.folder ≡ Some folder → bad_word_in request.command ≡ Some place
-        → RunAnswers call old new before after answer
-        → IsTold (status.Refused (refusal.BadText place)) answer }
-    ensures only_word { (call : Call) (old new : History) (before after : List ℕ)
-        (request : Request) (place : ℕ) → call.asked ≡ Some request
-        → RunAnswers call old new before after (status.Refused (refusal.BadText place))
-        → bad_word_in request.command ≡ Some place }
+    ensures refused { (call : Call) (old new : History) (before after : List ℕ)
+        (answer : StatusValue) (request : Request) (refused : Refusal)
+        → call.asked ≡ Some request → word_refusal request ≡ Some refused
+        → RunAnswers call old new before after answer → IsTold (status.Refused refused) answer }
+    ensures only_refused { (call : Call) (old new : History) (before after : List ℕ)
+        (request : Request) (refused : Refusal) → call.asked ≡ Some request
+        → is_by_words refused ≡ true
+        → RunAnswers call old new before after (status.Refused refused)
+        → word_refusal request ≡ Some refused }
 {}

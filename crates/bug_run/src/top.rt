@@ -2,11 +2,12 @@
 ghost use Rattle.std.specs.Prelude.{◌≡◌, ◌↔◌, ◌≤◌, IsTrue, IsErrOf, IsOk, Some, map, string_bytes};
 ghost use Rattle.gb_store.specs.Faults.{KeepsFaults};
 ghost use Rattle.gb_store.specs.Files.{files_of};
-ghost use Rattle.gb_store.specs.Moments.{WroteIf};
+ghost use Rattle.gb_store.specs.Moments.{WroteByIf};
 ghost use Rattle.repo_steps.specs.Answers.{KeepsToWords};
+ghost use Rattle.bug_run.specs.Asked.{bad_word_in};
 ghost use Rattle.bug_run.specs.Printed.{Printed};
 ghost use Rattle.bug_run.specs.Reads.{ReadsAsked, ReadsCommand};
-ghost use Rattle.bug_run.specs.Run.{CommandAnswers, RequestAnswers, RunAnswers, RunStaysSound, RunWrites, bad_word_in, call_of, moment, status_for, status_of, text_of};
+ghost use Rattle.bug_run.specs.Run.{CommandAnswers, RequestAnswers, RunAnswers, RunStaysSound, RunWrites, call_of, moment, status_for, status_of, text_of};
 ghost use Rattle.bug_run.specs.Told.{as_said, told_text};
 ghost use Rattle.bug_run.specs.Words.{request_of};
 
@@ -38,7 +39,8 @@ pub fn run<S: Store, K: Sink>(
         (call_of S.tells K.tells K.takes_memory (map string_bytes words.now) now seed)
         (S.history disk.old) (S.history disk.new)
         (K.written out.old) (K.written out.new) result }
-    ensures wrote { WroteIf S.tells (RunWrites (request_of (map string_bytes words.now)))
+    ensures wrote { WroteByIf S.tells (RunWrites
+        (call_of S.tells K.tells K.takes_memory (map string_bytes words.now) now seed))
         (S.history disk.old) (S.history disk.new) }
     ensures sound { IsTrue S.tells → RunStaysSound (request_of (map string_bytes words.now))
         (S.history disk.old) (S.history disk.new) }

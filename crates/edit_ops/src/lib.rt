@@ -1,4 +1,4 @@
-//! The operations that commands make: each by its words, the moment and the seed, and by what the bug says.
+//! The operations that commands make, from the arguments, the time, the seed and what the bug says.
 #![tactic(auto)]
 
 mod edit;

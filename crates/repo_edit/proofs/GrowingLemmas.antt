@@ -1,5 +1,5 @@
 -- What is read of a bug is what an edit adds to.
-use Rattle.std.proofs.Common.{◌≡◌, ℕ, List, [], ◌∷◌, Ok, refl, sym, subst}
+use Rattle.std.proofs.Common.{◌≡◌, ℕ, List, [], ◌∷◌, Ok, Err, inl, inr, refl, sym, ◌∙◌, ap, subst}
 use Rattle.gb_text.specs.declared.id.Id.{Id}
 use Rattle.gb_store.specs.Files.{Files}
 use Rattle.object_store.specs.Held.{objects_in}
@@ -8,25 +8,28 @@ use Rattle.bug_ops.specs.declared.op.BugOp.{BugOp}
 use Rattle.snapshot.specs.LastMention.{IsBugList}
 use Rattle.dag_entity.specs.Entities.{KeepsRules, ops_in}
 use Rattle.dag_entity.specs.declared.entity.Entity.{Entity}
-use Rattle.repo_state.specs.Answers.{FindsHead}
-use Rattle.repo_state.specs.Bugs.{IsBug}
+use Rattle.repo_state.specs.Bugs.{BugRefused, FindsBug, IsBug}
 use Rattle.repo_state.specs.Clocks.{clock_at}
-use Rattle.repo_state.specs.Users.{User, user_at}
+use Rattle.repo_state.specs.Finds.{FinderAnswers, bug_finder}
+use Rattle.repo_state.specs.Users.{BadUser, NoUser, User, user_at}
+use Rattle.repo_state.specs.declared.refusal.Refusal.TheVariants as refusal
+use Rattle.repo_state.specs.declared.refusal.Stop.{Stop}
+use Rattle.repo_state.specs.declared.refusal.Stop.TheVariants as stop
 use Rattle.repo_state.specs.declared.clocks.ClockFile.TheVariants as file
 use Rattle.repo_state.specs.declared.side.HeadEntry.{HeadEntry}
-use Rattle.repo_state.specs.declared.side.Side.TheVariants as side
-use Rattle.repo_edit.specs.Growing.{Grows}
+use Rattle.repo_steps.proofs.PickLemmas.{no_entry}
+use Rattle.repo_edit.specs.Growing.{AuthorAnswers, GrowingAnswers, Grows}
 use Rattle.repo_state.proofs.BugLemmas.{edit_within}
 use Rattle.repo_state.proofs.BugListLemmas.{entity_is_bug_list}
 
 -- the bug that was read, and the user, who adds to it
 pub growing_grows : (files : Files) (folder word : List ℕ) (author : Id) → user_at files folder ≡ User author
-    → (head : HeadEntry) → FindsHead files folder side.Bugs word (Ok head) → (entity : Entity BugOp) → IsBug files folder head entity → KeepsRules bug_kind entity.packs
+    → (head : HeadEntry) → FindsBug files folder word head → (entity : Entity BugOp) → IsBug files folder head entity → KeepsRules bug_kind entity.packs
     → (ops : List BugOp) → ops ≡ ops_in bug_kind entity.packs → (seen : ℕ) → seen ≡ clock_at files folder file.BugsEdit
     → Grows files folder word (record { author = author; head = head; ops = ops; seen = seen; edit = entity.edit; commits = entity.commits })
 growing_grows files folder word author is_user head finds entity is rules ops are seen sees = record {
   is_user = is_user;
-  bug = record { bug = head; finds = record { found = finds.0; head = finds.1 }; entity = entity; is = is };
+  bug = record { bug = head; finds = finds; entity = entity; is = is };
   is_head = refl;
   are_ops = sym are;
   begins = subst IsBugList (sym are) (entity_is_bug_list (objects_in files folder) head.id (head.name ∷ []) is.authors entity is.is rules);
@@ -35,3 +38,34 @@ growing_grows files folder word author is_user head finds entity is rules ops ar
   within = edit_within (objects_in files folder) is.is.edit.head entity.edit is.is.edit.says;
   is_count = sym is.is.count;
 }
+
+-- ---- why nothing is added
+
+module _ (files : Files) (folder word : List ℕ) where
+  -- there is no user
+  pub growing_nobody : (s : Stop) → AuthorAnswers files folder (Err s) → GrowingAnswers files folder word (Err s)
+  growing_nobody stop.Memory h = tt
+  growing_nobody stop.Disk h = tt
+  growing_nobody (stop.Refused refusal.NoUser) none = (no_entry, inr ((λ e. cc (sym none ∙ e)), inl (none, refl)))
+  growing_nobody (stop.Refused (refusal.Damaged path)) h = (no_entry, inl (h.1, ap refusal.Damaged h.0))
+  growing_nobody (stop.Refused _) h = absurd h
+
+  module _ (author : Id) (is_user : user_at files folder ≡ User author) where
+    not_bad : user_at files folder ≡ BadUser → ⊥
+    not_bad e = cc (sym is_user ∙ e)
+
+    somebody : user_at files folder ≡ NoUser → ⊥
+    somebody e = cc (sym is_user ∙ e)
+
+    -- the word finds no bug
+    pub growing_lost : (s : Stop) → FinderAnswers (bug_finder files folder word) (Err s) → GrowingAnswers files folder word (Err s)
+    growing_lost stop.Memory h = tt
+    growing_lost stop.Disk h = tt
+    growing_lost (stop.Refused r) h = (no_entry, inr (not_bad, inr (somebody, inl h)))
+
+    -- something is wrong with the bug
+    pub growing_broken : (head : HeadEntry) → FindsBug files folder word head → (s : Stop) → BugRefused files folder head s → GrowingAnswers files folder word (Err s)
+    growing_broken head finds stop.Memory h = tt
+    growing_broken head finds stop.Disk h = tt
+    growing_broken head finds (stop.Refused (refusal.Damaged path)) h = (head, inr (not_bad, inr (somebody, inr (finds, inl (h.1, ap refusal.Damaged h.0)))))
+    growing_broken head finds (stop.Refused _) h = absurd h

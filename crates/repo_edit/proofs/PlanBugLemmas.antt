@@ -39,16 +39,18 @@ use Rattle.repo_state.specs.declared.refusal.Stop.TheVariants as stop
 use Rattle.repo_state.specs.declared.side.HeadEntry.{HeadEntry}
 use Rattle.repo_state.specs.declared.side.Side.TheVariants as side
 use Rattle.repo_steps.specs.Answers.{Plans}
-use Rattle.repo_steps.specs.BugDoings.{added_by, addition_objects, addition_writes, begun_bug, bug_entry, bug_says, clock_room, commit_room, edit_adds, later_addition, later_by, new_operation, op_ids, root_addition, some_id}
+use Rattle.repo_steps.specs.BugDoings.{addition_objects, addition_writes, begun_bug, bug_says, clock_room, commit_room, edit_adds, later_addition, later_by, new_operation, op_ids, root_addition, some_id}
 use Rattle.repo_steps.specs.BugEdits.{bad_edit, edit_op, noop_op}
 use Rattle.repo_steps.specs.Checks.{Check, FirstFails}
 use Rattle.repo_steps.specs.Doing.{names, sizes}
 use Rattle.repo_steps.specs.NewOps.{MayWriteOp, one_op_pack, op_id}
 use Rattle.repo_steps.specs.declared.edit.Addition.{Addition}
+use Rattle.repo_steps.specs.Picked.{Picked}
 use Rattle.repo_steps.specs.declared.edit.BugEdit.{BugEdit}
 use Rattle.repo_steps.specs.declared.edit.Plan.{Plan}
 use Rattle.repo_edit.specs.Additions.{AddsCommit}
 use Rattle.edit_ops.specs.Answers.{OpAnswers}
+use Rattle.repo_steps.proofs.PickLemmas.{no_pick}
 use Rattle.repo_edit.specs.Growing.{AuthorAnswers, EditPlans, GrowingAnswers, GrownPlans, Grows, RoomAnswers, grown_checks, grown_objects, growing_checks, has_id}
 use Rattle.repo_edit.specs.declared.growing.Growing.{Growing}
 use Rattle.repo_edit.proofs.RepeatLemmas.{repeats}
@@ -113,24 +115,27 @@ module _ (env : Env) (edit : BugEdit) (word : List ℕ) (old : History) (moment 
   abbrev files : Files
   files = files_of old
 
-  abbrev addition : BugOp → Option Addition
-  addition op = option_and_then (later_by env.folder files word op) (some_id (user_at files env.folder))
+  abbrev addition : HeadEntry → BugOp → Option Addition
+  addition bug op = option_and_then (later_by env.folder files bug op) (some_id (user_at files env.folder))
 
   -- what is checked once the bug was read
-  abbrev later_checks : BugOp → List Check
-  later_checks op =
+  abbrev later_checks : HeadEntry → BugOp → List Check
+  later_checks bug op =
       edit_adds env files word edit op ∷
       clock_room env.folder files word ∷
       commit_room env.folder files word ∷
-      sizes (addition_objects env.now (addition op)) ∷
+      sizes (addition_objects env.now (addition bug op)) ∷
       new_operation env.folder files word op ∷
-      names env.folder (addition_objects env.now (addition op)) old ∷ []
+      names env.folder (addition_objects env.now (addition bug op)) old ∷ []
 
   -- there is no user or no bug
   pub edit_barred : (s : Stop) → GrowingAnswers (files_of old) env.folder word (Err s) → EditPlans env edit word old (Err s)
-  edit_barred stop.Memory h = (noop_op env, tt)
-  edit_barred stop.Disk h = (noop_op env, tt)
-  edit_barred (stop.Refused r) h = (noop_op env, inr ((good, moment), more_fail (growing_checks files env.folder word) (later_checks (noop_op env)) r h))
+  edit_barred stop.Memory h = (no_pick env, tt)
+  edit_barred stop.Disk h = (no_pick env, tt)
+  edit_barred (stop.Refused r) (bug, h) = (
+    record { op = noop_op env; bug = bug; person = bug.id },
+    inr ((good, moment), more_fail (growing_checks files env.folder word bug) (later_checks bug (noop_op env)) r h),
+  )
 
   module _ (g : Growing) (grows : Grows (files_of old) env.folder word g) where
     not_bad : user_at files env.folder ≡ BadUser → ⊥
@@ -139,9 +144,13 @@ module _ (env : Env) (edit : BugEdit) (word : List ℕ) (old : History) (moment 
     some : user_at files env.folder ≡ NoUser → ⊥
     some e = cc (sym grows.is_user ∙ e)
 
+    -- the bug that was read, and an operation
+    abbrev picked : BugOp → Picked
+    picked op = record { op = op; bug = grows.bug.bug; person = g.author }
+
     -- what is refused once the bug was read
-    refused : (op : BugOp) (r : Refusal) → FirstFails (later_checks op) r → EditPlans env edit word old (Err (stop.Refused r))
-    refused op r fails = (op, inr ((good, moment), inr (not_bad, inr (some, inr ((grows.bug.bug.id, grows.bug.finds.found), inr (grows.bug, fails))))))
+    refused : (op : BugOp) (r : Refusal) → FirstFails (later_checks grows.bug.bug op) r → EditPlans env edit word old (Err (stop.Refused r))
+    refused op r fails = (picked op, inr ((good, moment), inr (not_bad, inr (some, inr (grows.bug.finds, inr ((grows.bug.entity, grows.bug.is), fails))))))
 
     -- what the bug says is what its operations say
     says : (P : Snapshot → Type 0) → P (snapshot_of g.ops) → P (bug_says grows.bug.entity)
@@ -149,7 +158,7 @@ module _ (env : Env) (edit : BugEdit) (word : List ℕ) (old : History) (moment 
 
     -- the edit adds nothing
     pub edit_unmade : (s : Stop) → OpAnswers env edit (snapshot_of g.ops) (Err s) → EditPlans env edit word old (Err s)
-    edit_unmade stop.Memory h = (noop_op env, tt)
+    edit_unmade stop.Memory h = (no_pick env, tt)
     edit_unmade stop.Disk h = absurd h
     edit_unmade (stop.Refused r) h = refused (noop_op env) r (inl (grows.bug, says (λ bug. edit_op env edit bug ≡ Err r) h))
 
@@ -177,23 +186,17 @@ module _ (env : Env) (edit : BugEdit) (word : List ℕ) (old : History) (moment 
         abbrev later_of : HeadEntry → ℕ → Option Addition
         later_of head edit = Some (later_addition env.folder files op g.author head edit)
 
-        entry_is : bug_entry env.folder files word ≡ Some grows.bug.bug
-        entry_is =
-            ap (option_and_then (λ (id : Id). entry_by id (head_at files env.folder side.Bugs id))) grows.bug.finds.found
-            ∙ ap (entry_by grows.bug.bug.id) grows.bug.finds.head
-
         clock_is : clock ≡ edit_time_of (clock_at files env.folder file.BugsEdit) grows.bug.entity.edit
         clock_is = has_room.2 ∙ ap (λ (seen : ℕ). edit_time_of seen g.edit) grows.is_seen ∙ ap (edit_time_of (clock_at files env.folder file.BugsEdit)) (sym grows.is_edit)
 
-        addition_is : addition op ≡ Some grown
+        addition_is : addition grows.bug.bug op ≡ Some grown
         addition_is =
-            ap (λ u. option_and_then (later_by env.folder files word op) (some_id u)) grows.is_user
-            ∙ ap (option_and_then (added_by env.folder files op g.author)) entry_is
+            ap (λ u. option_and_then (later_by env.folder files grows.bug.bug op) (some_id u)) grows.is_user
             ∙ ap (option_map (later_addition env.folder files op g.author grows.bug.bug)) (head_edit (objects_in files env.folder) grows.bug.bug.name grows.bug.entity.edit grows.bug.is.is.edit)
             ∙ ap (λ (head : HeadEntry). later_of head grows.bug.entity.edit) grows.is_head
             ∙ ap (λ (edit : ℕ). Some (record { bug = g.head.id; parents = g.head.name ∷ []; pack = one_op_pack g.author edit None op })) (sym clock_is)
 
-        objects_are : (P : List (List ℕ) → Type 0) → P (grown_objects env g clock op) → P (addition_objects env.now (addition op))
+        objects_are : (P : List (List ℕ) → Type 0) → P (grown_objects env g clock op) → P (addition_objects env.now (addition grows.bug.bug op))
         objects_are P = subst (λ (a : Option Addition). P (addition_objects env.now a)) (sym addition_is)
 
         clock_left : grows.bug.entity.edit ≡ LIMIT → ⊥
@@ -211,7 +214,7 @@ module _ (env : Env) (edit : BugEdit) (word : List ℕ) (old : History) (moment 
 
         -- what is refused of the commit
         unmade : (r : Refusal) → FirstFails (grown_checks env g clock op old) r
-            → FirstFails (sizes (addition_objects env.now (addition op)) ∷ new_operation env.folder files word op ∷ names env.folder (addition_objects env.now (addition op)) old ∷ []) r
+            → FirstFails (sizes (addition_objects env.now (addition grows.bug.bug op)) ∷ new_operation env.folder files word op ∷ names env.folder (addition_objects env.now (addition grows.bug.bug op)) old ∷ []) r
         unmade r (inl long) = inl (objects_are HasLong long.0, long.1)
         unmade r (inr (short, inl repeated)) = inr (objects_are (All IsShort) short, inl (grows.bug, repeats_bug repeated.0, repeated.1))
         unmade r (inr (short, inr (fresh, inl (name, cannot, is)))) =
@@ -220,11 +223,11 @@ module _ (env : Env) (edit : BugEdit) (word : List ℕ) (old : History) (moment 
 
         -- the plan of the commit is that of the edit
         pub edit_planned : (r : Result Plan Stop) → GrownPlans env g clock op old r → EditPlans env edit word old r
-        edit_planned (Err stop.Memory) h = (op, tt)
-        edit_planned (Err stop.Disk) h = (op, tt)
+        edit_planned (Err stop.Memory) h = (picked op, tt)
+        edit_planned (Err stop.Disk) h = (picked op, tt)
         edit_planned (Err (stop.Refused r)) h = refused op r (inr (adds, inr ((grows.bug, clock_left), inr ((grows.bug, room_left), unmade r h))))
         edit_planned (Ok plan) h = (
-          op,
+          picked op,
           (
             (
               (good, moment),
@@ -233,9 +236,9 @@ module _ (env : Env) (edit : BugEdit) (word : List ℕ) (old : History) (moment 
                 (
                   some,
                   (
-                    (grows.bug.bug.id, grows.bug.finds.found),
+                    grows.bug.finds,
                     (
-                      grows.bug,
+                      (grows.bug.entity, grows.bug.is),
                       (
                         adds,
                         (

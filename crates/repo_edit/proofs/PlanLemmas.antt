@@ -30,10 +30,15 @@ use Rattle.repo_state.specs.declared.side.HeadEntry.{HeadEntry}
 use Rattle.repo_state.specs.declared.side.Side.TheVariants as side
 use Rattle.repo_steps.specs.Answers.{DoingAnswers, Plans}
 use Rattle.repo_steps.specs.Doing.{Doing, nonce_from}
-use Rattle.repo_steps.specs.PeopleDoings.{HasUser, MayWrite, bad_person, edited_user, first_user_write, new_made, new_objects, new_text, new_user, user_writes, version_writes}
+use Rattle.repo_steps.specs.BugEdits.{noop_op}
+use Rattle.repo_steps.specs.Doings.{EditAnswers}
+use Rattle.repo_steps.specs.PeopleDoings.{HasUser, MayWrite, bad_person, edited_user, first_user_write, new_made, new_objects, new_text, new_user, set_user, user_writes, version_writes}
+use Rattle.repo_steps.specs.declared.edit.Edit.TheVariants.{UserSet}
 use Rattle.repo_steps.specs.declared.edit.Plan.{Plan}
 use Rattle.edit_ops.proofs.WordLemmas.{both_good, is_nonce}
+use Rattle.repo_steps.proofs.PickLemmas.{no_entry, no_pick}
 use Rattle.repo_edit.specs.Carrying.{Carries}
+use Rattle.repo_edit.specs.Growing.{SetPlans}
 use Rattle.repo_edit.specs.Adding.{AddsVersion, first_write}
 use Rattle.repo_edit.specs.Room.{HasRoom}
 
@@ -55,6 +60,20 @@ carried doing plan old mid new (Err stop.Memory) same plans made =
 carried doing plan old mid new (Err stop.Disk) same plans made =
     inr (plans.0, subst (λ (h : History). WroteSome doing.writes h new) same (subst (λ (writes : List Change). WroteSome writes mid new) plans.1 made))
 carried doing plan old mid new (Err (stop.Refused r)) same plans made = absurd made
+
+-- a person who is not found, or cannot be looked for, does not become the user
+pub set_not_planned : (env : Env) (word : List ℕ) (old new : History) (s : Stop) → new ≡ old → SetPlans env word old (Err s) → EditAnswers env (UserSet word) old new (Err s)
+set_not_planned env word old new stop.Memory same h = (no_pick env, inl same)
+set_not_planned env word old new stop.Disk same h = (no_pick env, inl same)
+set_not_planned env word old new (stop.Refused r) same h = (no_pick env, (inl h, same))
+
+-- one who is found does
+pub set_carried : (env : Env) (word : List ℕ) (plan : Plan) (old mid new : History) (r : Result Id Stop) → mid ≡ old → SetPlans env word old (Ok plan) → Carries plan mid new r
+    → EditAnswers env (UserSet word) old new r
+set_carried env word plan old mid new r same plans made = (
+  record { op = noop_op env; bug = no_entry; person = plan.id },
+  carried (set_user env word plan.id old) plan old mid new r same plans made,
+)
 
 -- ---- words
 

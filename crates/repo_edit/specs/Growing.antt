@@ -19,6 +19,7 @@ use Rattle.dag_entity.specs.Appending.{appended_name, appended_objects}
 use Rattle.dag_entity.specs.Entities.{ops_in}
 use Rattle.repo_state.specs.Bugs.{FindsBug, ReadsBelow}
 use Rattle.repo_state.specs.Clocks.{clock_at, see_writes}
+use Rattle.repo_state.specs.Finds.{FinderAnswers, bug_finder, person_finder}
 use Rattle.repo_state.specs.Sides.{ref_place}
 use Rattle.repo_state.specs.Users.{BadUser, NoUser, User, user_at, user_place}
 use Rattle.repo_state.specs.declared.clocks.ClockFile.TheVariants as file
@@ -33,6 +34,8 @@ use Rattle.repo_steps.specs.BugDoings.{HasBug, bug_reads, longer_bug, op_ids}
 use Rattle.repo_steps.specs.Checks.{AllPass, Check, FirstFails}
 use Rattle.repo_steps.specs.Doing.{found, names, sizes, some_user, user_file}
 use Rattle.repo_steps.specs.NewOps.{one_op_pack, op_id}
+use Rattle.repo_steps.specs.PeopleDoings.{set_user}
+use Rattle.repo_steps.specs.Picked.{Picked}
 use Rattle.repo_steps.specs.declared.edit.BugEdit.{BugEdit}
 use Rattle.repo_steps.specs.declared.edit.Plan.{Plan}
 use Rattle.repo_edit.specs.declared.growing.Beginning.{Beginning}
@@ -66,12 +69,12 @@ RoomAnswers seen name edit commits (Err (stop.Refused (refusal.TooLarge count)))
 RoomAnswers seen name edit commits (Err _) = ⊥
 
 -- what is checked before anything is made
-abbrev pub growing_checks : Files → List ℕ → List ℕ → List Check
-growing_checks files folder word =
+abbrev pub growing_checks : Files → List ℕ → List ℕ → HeadEntry → List Check
+growing_checks files folder word bug =
     user_file folder files ∷
     some_user folder files ∷
-    found folder files side.Bugs word ∷
-    bug_reads folder files word ∷ []
+    found (bug_finder files folder word) bug ∷
+    bug_reads folder files bug ∷ []
 
 -- the bug that a word finds, and the user, who adds to it
 pub record Grows (files : Files) (folder word : List ℕ) (g : Growing) : Type 0 where
@@ -90,7 +93,7 @@ abbrev pub GrowingAnswers : Files → List ℕ → List ℕ → Result Growing S
 GrowingAnswers files folder word (Ok g) = Grows files folder word g
 GrowingAnswers files folder word (Err stop.Memory) = ⊤
 GrowingAnswers files folder word (Err stop.Disk) = ⊤
-GrowingAnswers files folder word (Err (stop.Refused r)) = FirstFails (growing_checks files folder word) r
+GrowingAnswers files folder word (Err (stop.Refused r)) = (bug : HeadEntry) × FirstFails (growing_checks files folder word bug) r
 
 -- the objects that were read: those of the bug, or none where it wasn't read
 abbrev pub ReadsGrowing : Files → List ℕ → List ℕ → ℕ → ℕ → Result Growing Stop → Type 0
@@ -127,9 +130,14 @@ GrownPlans env g edit op old (Err stop.Memory) = ⊤
 GrownPlans env g edit op old (Err stop.Disk) = ⊤
 GrownPlans env g edit op old (Err (stop.Refused r)) = FirstFails (grown_checks env g edit op old) r
 
--- the plan of an edit of a bug that stands, or why there is none
+-- the plan of an edit of a bug that exists, or why there is none
 abbrev pub EditPlans : Env → BugEdit → List ℕ → History → Result Plan Stop → Type 0
-EditPlans env edit word old result = (op : BugOp) × Plans (longer_bug env edit word op old) result
+EditPlans env edit word old result = (picked : Picked) × Plans (longer_bug env edit word picked.bug picked.op old) result
+
+-- the plan that makes the person whom a word finds the user, or why there is none
+abbrev pub SetPlans : Env → List ℕ → History → Result Plan Stop → Type 0
+SetPlans env word old (Ok plan) = Plans (set_user env word plan.id old) (Ok plan)
+SetPlans env word old (Err s) = FinderAnswers (person_finder (files_of old) env.folder word) (Err s)
 
 -- an operation of a kind has this id
 abbrev pub has_id : {Op State Row : Type 0} → Meaning Op State Row → Id → Op → Bool

@@ -1,4 +1,4 @@
-//! The commands that edit a folder: each is planned by reading alone, and then its writes are made.
+//! The commands that edit a folder: each is planned by reading, and then written.
 #![tactic(auto)]
 
 mod addition;

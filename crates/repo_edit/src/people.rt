@@ -3,7 +3,10 @@ ghost use Rattle.std.specs.Prelude.{◌≡◌, ◌≤◌, ◌+◌, None, IsTrue,
 ghost use Rattle.gb_store.specs.Faults.{KeepsFaults};
 ghost use Rattle.gb_store.specs.Files.{files_of};
 ghost use Rattle.repo_steps.specs.Answers.{DoingAnswers, KeepsToWords, Plans};
-ghost use Rattle.repo_steps.specs.PeopleDoings.{bad_person, edited_user, new_user, set_user};
+ghost use Rattle.repo_steps.specs.Doings.{EditAnswers};
+ghost use Rattle.repo_steps.specs.PeopleDoings.{bad_person, edited_user, new_user};
+ghost use Rattle.repo_steps.specs.declared.edit.Edit.TheVariants.{UserSet};
+ghost use Rattle.repo_edit.specs.Growing.{SetPlans};
 ghost use Rattle.repo_edit.specs.Reads.{ReadsVersions};
 
 use crate::carry::carry_out;
@@ -142,8 +145,8 @@ fn plan_edited_user<S: Store>(
 /// where the word finds none. The user file isn't read.
 pub fn user_set<S: Store>(alloc: Global, disk: &mut S, env: &Env, word: &str) -> Result<Id, Stop>
     ensures answers { IsTrue S.tells
-        → DoingAnswers (set_user env.entry.now word.now (S.history disk.old))
-        (S.history disk.old) (S.history disk.new) result }
+        → EditAnswers env.entry.now (UserSet word.now) (S.history disk.old)
+        (S.history disk.new) result }
     ensures words { KeepsToWords None result }
     ensures reads { S.object_reads disk.new ≡ S.object_reads disk.old }
     ensures caused { KeepsFaults S.never_fails S.faults (IsErrOf result Stop.Disk)
@@ -156,7 +159,7 @@ pub fn user_set<S: Store>(alloc: Global, disk: &mut S, env: &Env, word: &str) ->
 // What `user_set` is to write.
 fn plan_set_user<S: Store>(alloc: Global, disk: &mut S, env: &Env, word: &str) -> Result<Plan, Stop>
     ensures answers { IsTrue S.tells
-        → Plans (set_user env.entry.now word.now (S.history disk.old)) result }
+        → SetPlans env.entry.now word.now (S.history disk.old) result }
     ensures words { KeepsToWords None result }
     ensures unwritten { IsTrue S.tells → S.history disk.new ≡ S.history disk.old }
     ensures reads { S.object_reads disk.new ≡ S.object_reads disk.old }

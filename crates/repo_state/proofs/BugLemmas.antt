@@ -30,19 +30,17 @@ use Rattle.op_kind.specs.Members.{only_value}
 use Rattle.op_pack.specs.Heads.{clock_at as clock_value, clock_in_range, edit_clock_of, edit_clocks}
 use Rattle.op_pack.specs.declared.pack.Pack.{Pack}
 use Rattle.repo_state.specs.Bugs.{AreLocal, FindsBug, HasBugFault, IsBug, IsDamagedBug}
-use Rattle.repo_state.specs.Sides.{found_by, head_at}
+use Rattle.repo_state.specs.Finds.{Finds, One}
+use Rattle.repo_state.specs.Sides.{head_at}
 use Rattle.repo_state.specs.declared.side.HeadEntry.{HeadEntry}
 use Rattle.repo_state.specs.declared.side.Side.TheVariants as side
+use Rattle.repo_state.proofs.FoundLemmas.{finds_one_entity, finds_the_same}
 use Rattle.repo_state.proofs.HeadIdLemmas.{ids-same}
 use Rattle.repo_state.proofs.ListingLemmas.{Contains-from_map, Contains-map}
 
 -- a word finds one bug
 pub one_bug : (files : Files) (folder word : List ℕ) (one two : HeadEntry) → FindsBug files folder word one → FindsBug files folder word two → one ≡ two
-one_bug files folder word one two first second =
-    let ids : one.id ≡ two.id = same_Some one.id two.id (sym first.found ∙ second.found) in
-    let heads : Head one.name ≡ Head two.name = sym first.head ∙ ap (head_at files folder side.Bugs) ids ∙ second.head in
-    let names : one.name ≡ two.name = cc in
-    λ i. record { id = ids i; name = names i }
+one_bug files folder word one two first second = finds_one_entity one two first second
 
 -- the local identities have one list of ids
 locals_within : (files : Files) (folder : List ℕ) (ones twos : List Id) → AreLocal files folder ones → AreLocal files folder twos
@@ -81,9 +79,9 @@ bug_no_fault files folder bug entity is wrong =
 
 -- nor is a bug damaged that a word finds and that was read
 pub bug_not_damaged : (files : Files) (folder word : List ℕ) (bug : HeadEntry) (entity : Entity BugOp) (id : Id) → FindsBug files folder word bug → IsBug files folder bug entity
-    → found_by files folder side.Bugs word ≡ Some id → IsDamagedBug files folder id → ⊥
+    → Finds files folder side.Bugs word (One id) → IsDamagedBug files folder id → ⊥
 bug_not_damaged files folder word bug entity id finds is found (inl bad) =
-    let ids : bug.id ≡ id = same_Some bug.id id (sym finds.found ∙ found) in
+    let ids : bug.id ≡ id = finds_the_same bug.id id finds.found found in
     let heads : Head bug.name ≡ Bad = sym finds.head ∙ ap (head_at files folder side.Bugs) ids ∙ bad in
     cc (heads)
 bug_not_damaged files folder word bug entity id finds is found (inr (head, has, wrong)) =

@@ -7,11 +7,13 @@ use Rattle.hex.proofs.OnLiterals.{hex_on_literals}
 use Rattle.gb_text.specs.declared.id.Id.{Id}
 use Rattle.gb_store.specs.Files.{Files, Put}
 use Rattle.repo_state.specs.Clocks.{clock_at, clock_write, see_writes}
-use Rattle.repo_state.specs.Sides.{found_by, ref_place}
+use Rattle.repo_state.specs.Finds.{Finds, Nothing, One}
+use Rattle.repo_state.specs.Sides.{ref_place}
 use Rattle.repo_state.specs.Users.{BadUser, NoUser, User, user_at, user_of, user_write}
 use Rattle.repo_state.specs.declared.clocks.ClockFile.TheVariants as file
 use Rattle.repo_state.specs.declared.side.Side.TheVariants as side
 use Rattle.repo_state.specs.declared.user_file.TheConstants.{MOST_BYTES}
+use Rattle.repo_state.proofs.FoundLemmas.{finds_no_digits, finds_no_ref, finds_one}
 
 abbrev id : Id
 id = record { bytes = repeat 32 (10 ∷ []) }
@@ -47,25 +49,25 @@ unfolding hex_on_literals
 place_of_a_remote_identity = refl
 
 -- what a word finds: all 64 digits, where a ref stands
-word_found : found_by (all_say head_digits) (codes "f") side.Bugs id_digits ≡ Some id
+word_found : Finds (all_say head_digits) (codes "f") side.Bugs id_digits (One id)
 unfolding hex_on_literals
-word_found = refl
+word_found = finds_one id refl refl
 
-word_of_a_bad_ref : found_by (all_say (codes "x")) (codes "f") side.Bugs id_digits ≡ Some id
+word_of_a_bad_ref : Finds (all_say (codes "x")) (codes "f") side.Bugs id_digits (One id)
 unfolding hex_on_literals
-word_of_a_bad_ref = refl
+word_of_a_bad_ref = finds_one id refl refl
 
-word_of_no_ref : found_by no_files (codes "f") side.Bugs id_digits ≡ None
+word_of_no_ref : Finds no_files (codes "f") side.Bugs id_digits Nothing
 unfolding hex_on_literals
-word_of_no_ref = refl
+word_of_no_ref = finds_no_ref id refl refl
 
-word_with_a_line_feed : found_by (all_say head_digits) (codes "f") side.Bugs (id_digits ++ codes "\n") ≡ None
+word_with_a_line_feed : Finds (all_say head_digits) (codes "f") side.Bugs (id_digits ++ codes "\n") Nothing
 unfolding hex_on_literals
-word_with_a_line_feed = refl
+word_with_a_line_feed = finds_no_digits refl
 
-word_of_63_digits : found_by (all_say head_digits) (codes "f") side.Bugs (repeat 31 (codes "0a") ++ codes "0") ≡ None
+word_of_63_digits : Finds (all_say head_digits) (codes "f") side.Bugs (repeat 31 (codes "0a") ++ codes "0") Nothing
 unfolding hex_on_literals
-word_of_63_digits = refl
+word_of_63_digits = finds_no_digits refl
 
 -- clocks
 clock_of_no_file : clock_at no_files (codes "f") file.BugsEdit ≡ 0

@@ -10,6 +10,7 @@ pub mod HeadIdLemmas
 pub mod IdLemmas
 pub mod KindLemmas
 pub mod LedLemmas
+pub mod ListedLemmas
 pub mod ListingLemmas
 pub mod PeopleLemmas
 pub mod PlaceLemmas

@@ -89,12 +89,12 @@ stands_found (Head name) stands = (found.Head name, refl)
 stands_found Bad stands = (found.Bad, refl)
 
 -- what is found is what the ref is
-head_found : (ref : Ref) (name : Name) → found_of ref ≡ Some (found.Head name) → ref ≡ Head name
+pub head_found : (ref : Ref) (name : Name) → found_of ref ≡ Some (found.Head name) → ref ≡ Head name
 head_found Absent name e = cc
 head_found (Head other) name e = cc
 head_found Bad name e = cc
 
-bad_found : (ref : Ref) → found_of ref ≡ Some found.Bad → ref ≡ Bad
+pub bad_found : (ref : Ref) → found_of ref ≡ Some found.Bad → ref ≡ Bad
 bad_found Absent e = cc
 bad_found (Head other) e = cc
 bad_found Bad e = refl

@@ -3,7 +3,6 @@ use Rattle.std.proofs.Common.{◌≡◌, ℕ, inl, inr, List, [], ◌∷◌, Som
 use Rattle.gb_text.specs.Digits.{IsId}
 use Rattle.gb_text.specs.declared.id.Id.{Id}
 use Rattle.gb_text.specs.declared.id.Name.{Name}
-use Rattle.gb_text.proofs.DigitLemmas.{id_of-is}
 use Rattle.gb_store.specs.Files.{Files}
 use Rattle.object_store.specs.Held.{objects_in}
 use Rattle.ref_store.specs.Refs.{Head}
@@ -13,11 +12,11 @@ use Rattle.dag_entity.specs.declared.fault.EntityFault.{EntityFault}
 use Rattle.dag_entity.specs.declared.fault.EntityFault.TheVariants as entity
 use Rattle.dag_entity.proofs.AgreeGrowth.{other_fault}
 use Rattle.repo_state.specs.Bugs.{AreLocal, IsDamagedBug, IsLocal}
-use Rattle.repo_state.specs.Sides.{found_by}
+use Rattle.repo_state.specs.Finds.{Finds, One}
 use Rattle.repo_state.specs.Sound.{AreAuthorsLocal, HasNoFault, IsAuthoredBug, IsSound}
 use Rattle.repo_state.specs.Sound as parts
 use Rattle.repo_state.specs.declared.side.Side.TheVariants as side
-use Rattle.repo_state.proofs.FoundLemmas.{found_is}
+use Rattle.repo_state.proofs.FoundLemmas.{finds_an_id}
 
 module _ (folder : List ℕ) (files : Files) (sound : IsSound folder files) where
   -- nothing is wrong with the entity at a bug's head, whose authors are local identities
@@ -37,5 +36,5 @@ module _ (folder : List ℕ) (files : Files) (sound : IsSound folder files) wher
       sound_entity id head good.0 good.1 wrong.authors wrong.locals wrong.fault wrong.holds
 
   -- nor the check of the bug that a word finds
-  pub no_bad_found : (word : List ℕ) (id : Id) → found_by files folder side.Bugs word ≡ Some id → IsDamagedBug files folder id → ⊥
-  no_bad_found word id found = no_bad_bug id (id_of-is word id (found_is files folder side.Bugs word id found).0).0
+  pub no_bad_found : (word : List ℕ) (id : Id) → Finds files folder side.Bugs word (One id) → IsDamagedBug files folder id → ⊥
+  no_bad_found word id found = no_bad_bug id (finds_an_id id found)

@@ -18,7 +18,8 @@ use Rattle.identity.specs.Persons.{Shows}
 use Rattle.identity.specs.declared.chain.Person.{Person}
 use Rattle.identity.specs.declared.fault.IdentityFault.{IdentityFault}
 use Rattle.repo_state.specs.Clocks.{clock_at, see_writes}
-use Rattle.repo_state.specs.Sides.{AreIds, IsFirst, found_by, head_at, ref_place}
+use Rattle.repo_state.specs.Finds.{Finds, Nothing, One}
+use Rattle.repo_state.specs.Sides.{AreIds, IsBadRef, IsFirst, head_at, ref_place}
 use Rattle.repo_state.specs.Users.{UserFound, NoUser, User, BadUser, user_at, user_place, user_write}
 use Rattle.repo_state.specs.People.{AllShow}
 use Rattle.repo_state.specs.declared.clocks.ClockFile.{ClockFile}
@@ -75,10 +76,6 @@ abbrev pub IsHeadAt : Files → List ℕ → Side → Id → Option Name → Typ
 IsHeadAt files folder of id None = head_at files folder of id ≡ Absent
 IsHeadAt files folder of id (Some name) = head_at files folder of id ≡ Head name
 
--- the ref of this id, at this path, is no ref text
-abbrev pub IsBadRef : Files → List ℕ → Side → Id → List ℕ → Type 0
-IsBadRef files folder of id path = (path ≡ joined folder (ref_place of id)) × (head_at files folder of id ≡ Bad)
-
 -- the first ref of the side, in the order of ids, that is no ref text stands at this path
 abbrev pub HasBadRef : Files → List ℕ → Side → List ℕ → Type 0
 HasBadRef files folder of path = (id : Id) × IsFirst (λ one. head_at files folder of one ≡ Bad) id × (path ≡ joined folder (ref_place of id))
@@ -124,23 +121,6 @@ SeeAnswers folder which number old new (Err (stop.Refused r)) = ⊥
 abbrev pub PutsUser : List ℕ → Id → Files → Change → Type 0
 PutsUser folder id files change = change ≡ user_write folder id
 
--- the id that a word finds, or that it finds none
-abbrev pub Finds : Files → List ℕ → Side → List ℕ → Result Id Stop → Type 0
-Finds files folder of word (Ok id) = found_by files folder of word ≡ Some id
-Finds files folder of word (Err stop.Memory) = ⊤
-Finds files folder of word (Err stop.Disk) = ⊤
-Finds files folder of word (Err (stop.Refused refusal.NotFound)) = found_by files folder of word ≡ None
-Finds files folder of word (Err (stop.Refused _)) = ⊥
-
--- the same with its head, or the path of its ref, which is no ref text
-abbrev pub FindsHead : Files → List ℕ → Side → List ℕ → Result HeadEntry Stop → Type 0
-FindsHead files folder of word (Ok e) = (found_by files folder of word ≡ Some e.id) × (head_at files folder of e.id ≡ Head e.name)
-FindsHead files folder of word (Err stop.Memory) = ⊤
-FindsHead files folder of word (Err stop.Disk) = ⊤
-FindsHead files folder of word (Err (stop.Refused refusal.NotFound)) = found_by files folder of word ≡ None
-FindsHead files folder of word (Err (stop.Refused (refusal.Damaged path))) = (id : Id) × (found_by files folder of word ≡ Some id) × IsBadRef files folder of id path
-FindsHead files folder of word (Err (stop.Refused _)) = ⊥
-
 -- the user with its head, or none where no user file stands; or the path of the user file or of the user's ref, which is damaged
 abbrev pub FindsUser : Files → List ℕ → Result (Option HeadEntry) Stop → Type 0
 FindsUser files folder (Ok None) = user_at files folder ≡ NoUser
@@ -168,10 +148,10 @@ EntityAnswers files folder of id (Err (stop.Refused r)) = ⊥
 
 -- the ref that a word finds, or that it finds none
 abbrev pub FindsRef : Files → List ℕ → Side → List ℕ → Result EntityRef Stop → Type 0
-FindsRef files folder of word (Ok entity) = (found_by files folder of word ≡ Some entity.id) × IsRefOf (head_at files folder of entity.id) entity.head
+FindsRef files folder of word (Ok entity) = Finds files folder of word (One entity.id) × IsRefOf (head_at files folder of entity.id) entity.head
 FindsRef files folder of word (Err stop.Memory) = ⊤
 FindsRef files folder of word (Err stop.Disk) = ⊤
-FindsRef files folder of word (Err (stop.Refused refusal.NotFound)) = found_by files folder of word ≡ None
+FindsRef files folder of word (Err (stop.Refused refusal.NotFound)) = Finds files folder of word Nothing
 FindsRef files folder of word (Err (stop.Refused _)) = ⊥
 
 -- the head of a ref that stands, or the refusal of one that is no ref text

@@ -15,7 +15,8 @@ use Rattle.dag_entity.specs.declared.entity.Entity.{Entity}
 use Rattle.dag_entity.specs.declared.fault.EntityFault.{EntityFault}
 use Rattle.dag_entity.specs.declared.fault.EntityFault.TheVariants as fault
 use Rattle.repo_state.specs.Answers.{DamagedRef}
-use Rattle.repo_state.specs.Sides.{AreIds, found_by, has_ref, head_at, ref_place}
+use Rattle.repo_state.specs.Finds.{FindsEntity}
+use Rattle.repo_state.specs.Sides.{AreIds, has_ref, head_at, ref_place}
 use Rattle.repo_state.specs.declared.refusal.Refusal.TheVariants as refusal
 use Rattle.repo_state.specs.declared.refusal.Stop.{Stop}
 use Rattle.repo_state.specs.declared.refusal.Stop.TheVariants as stop
@@ -53,9 +54,8 @@ pub record HasBugFault (files : Files) (folder : List ℕ) (bug : HeadEntry) : T
   pub holds : EntityFaultHolds bug_kind (objects_in files folder) bug.id (bug.name ∷ []) authors fault
 
 -- the bug that a word finds, whose ref reads
-pub record FindsBug (files : Files) (folder word : List ℕ) (bug : HeadEntry) : Type 0 where
-  pub found : found_by files folder side.Bugs word ≡ Some bug.id
-  pub head : head_at files folder side.Bugs bug.id ≡ Head bug.name
+abbrev pub FindsBug : Files → List ℕ → List ℕ → HeadEntry → Type 0
+FindsBug files folder word bug = FindsEntity files folder side.Bugs word bug
 
 -- why a bug is damaged: its ref is no ref text, or something is wrong with the entity at its head
 abbrev pub IsDamagedBug : Files → List ℕ → Id → Type 0

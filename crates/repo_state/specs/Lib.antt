@@ -1,7 +1,10 @@
 pub mod Answers
 pub mod Bugs
 pub mod Clocks
+pub mod Finds
+pub mod Listed
 pub mod People
+pub mod Places
 pub mod Sides
 pub mod Sound
 pub mod Stops

@@ -1,10 +1,11 @@
--- The refs of a folder: where those of each side stand, and what they read as.
-use Rattle.std.specs.Prelude.{◌≡◌, ◌↔◌, ℕ, List, ◌++◌, codes, map, Contains, Bool, true, false, IsTrue, Option, Some, None, option_and_then, if◌then◌else◌}
+-- The refs of a folder: where those of each side are stored, and what they read as.
+use Rattle.std.specs.Prelude.{◌≡◌, ◌↔◌, ℕ, List, ◌++◌, codes, map, Contains, Bool, true, false, IsTrue}
 use Rattle.std.specs.declared.cmp.Ordering.TheVariants.{Less}
 use Rattle.std.specs.Cmp.Lexicographic.{slice_cmp}
 use Rattle.std.specs.List.Sorted.{IsStrictlySortedBy}
 use Rattle.std.specs.Ordering.{nat_cmp}
-use Rattle.gb_text.specs.Digits.{IsId, id_of}
+use Rattle.gb_text.specs.Digits.{IsId}
+use Rattle.gb_text.specs.Folder.{joined}
 use Rattle.gb_text.specs.declared.id.Id.{Id}
 use Rattle.gb_store.specs.Files.{Files}
 use Rattle.ref_store.specs.Listing.{id_place}
@@ -38,14 +39,6 @@ is_there Bad = true
 abbrev pub has_ref : Files → List ℕ → Side → Id → Bool
 has_ref files folder of id = is_there (head_at files folder of id)
 
--- the id, if a ref of it stands
-abbrev pub standing : Files → List ℕ → Side → Id → Option Id
-standing files folder of id = if has_ref files folder of id then Some id else None
-
--- the id that a word finds on a side: the word is its digits, and a ref of it stands
-abbrev pub found_by : Files → List ℕ → Side → List ℕ → Option Id
-found_by files folder of word = option_and_then (standing files folder of) (id_of word)
-
 -- the ids whose refs stand, each once, in the order of their bytes
 pub record AreIds (files : Files) (folder : List ℕ) (of : Side) (ids : List Id) : Type 0 where
   pub rising : IsStrictlySortedBy (slice_cmp nat_cmp) (map (λ (id : Id). id.bytes) ids)
@@ -70,3 +63,7 @@ pub record IsFirst (IsSo : Id → Type 0) (id : Id) : Type 0 where
   pub is_id : IsId id
   pub is_so : IsSo id
   pub none_before : (other : Id) → IsId other → IsSo other → IsBefore other id → ⊥
+
+-- the ref of this id, at this path, is no ref text
+abbrev pub IsBadRef : Files → List ℕ → Side → Id → List ℕ → Type 0
+IsBadRef files folder of id path = (path ≡ joined folder (ref_place of id)) × (head_at files folder of id ≡ Bad)

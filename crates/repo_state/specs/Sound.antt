@@ -14,7 +14,7 @@ use Rattle.object_batch.specs.Needs.{IsWhole}
 use Rattle.object_store.specs.Typed.{commit_at}
 use Rattle.ref_store.specs.Refs.{Ref, Absent, Head, Bad}
 use Rattle.bug_ops.specs.Kind.{bug_kind}
-use Rattle.bug_ops.specs.declared.op.BugOp.{BugOp}
+use Rattle.op_kind.specs.Meaning.{Meaning}
 use Rattle.dag_entity.specs.Faults.{EntityFaultHolds}
 use Rattle.dag_entity.specs.Nodes.{IsNodeBelow}
 use Rattle.dag_entity.specs.declared.entity.Loaded.{Loaded}
@@ -22,6 +22,7 @@ use Rattle.dag_entity.specs.declared.fault.EntityFault.{EntityFault}
 use Rattle.dag_entity.specs.declared.fault.EntityFault.TheVariants.{AuthorUnknown}
 use Rattle.identity.specs.Persons.{IsChain}
 use Rattle.repo_state.specs.Bugs.{IsLocal}
+use Rattle.repo_state.specs.Places.{bug_places}
 use Rattle.repo_state.specs.Sides.{head_at}
 use Rattle.repo_state.specs.Users.{BadUser, user_at}
 use Rattle.repo_state.specs.declared.side.Side.{Side}
@@ -45,25 +46,42 @@ IsSoundTracking objects Absent = ⊤
 IsSoundTracking objects (Head head) = (commit : Commit) × (commit_at objects head ≡ Some commit)
 IsSoundTracking objects Bad = ⊥
 
--- nothing is wrong with the entity of a bug at this head, but perhaps that an author is unknown
-abbrev pub HasNoFault : Held → Id → Name → Type 0
-HasNoFault objects id head = (f : EntityFault) → ((author : Id) → f ≢ AuthorUnknown author) → EntityFaultHolds bug_kind objects id (head ∷ []) [] f → ⊥
+-- ---- entities of a kind, by what its operations mean
 
--- the author of each pack below a bug's head is a local identity
-abbrev pub AreAuthorsLocal : List ℕ → Files → Name → Type 0
-AreAuthorsLocal folder files head = (node : Loaded BugOp) → IsNodeBelow bug_kind (objects_in files folder) (head ∷ []) node → IsLocal files folder node.placed.pack.author
+-- nothing is wrong with the entity at this head, but perhaps that an author is unknown
+abbrev pub HasNoFaultOf : {Op State Row : Type 0} → Meaning Op State Row → Held → Id → Name → Type 0
+HasNoFaultOf k objects id head = (f : EntityFault) → ((author : Id) → f ≢ AuthorUnknown author) → EntityFaultHolds k objects id (head ∷ []) [] f → ⊥
 
--- a bug's ref: one that stands reads, and nothing is wrong with the entity at its head, but perhaps that an author is unknown
-abbrev pub IsSoundBug : Held → Id → Ref → Type 0
-IsSoundBug objects id Absent = ⊤
-IsSoundBug objects id (Head head) = HasNoFault objects id head
-IsSoundBug objects id Bad = ⊥
+-- the author of each pack below a head is a local identity
+abbrev pub AreAuthorsLocalOf : {Op State Row : Type 0} → Meaning Op State Row → List ℕ → Files → Name → Type 0
+AreAuthorsLocalOf {Op = Op} k folder files head =
+    (node : Loaded Op) → IsNodeBelow k (objects_in files folder) (head ∷ []) node → IsLocal files folder node.placed.pack.author
+
+-- a ref: one that exists reads, and nothing is wrong with the entity at its head, but perhaps that an author is unknown
+abbrev pub IsSoundEntity : {Op State Row : Type 0} → Meaning Op State Row → Held → Id → Ref → Type 0
+IsSoundEntity k objects id Absent = ⊤
+IsSoundEntity k objects id (Head head) = HasNoFaultOf k objects id head
+IsSoundEntity k objects id Bad = ⊥
 
 -- and its authors are local identities
+abbrev pub IsAuthoredEntity : {Op State Row : Type 0} → Meaning Op State Row → List ℕ → Files → Id → Ref → Type 0
+IsAuthoredEntity k folder files id Absent = ⊤
+IsAuthoredEntity k folder files id (Head head) = HasNoFaultOf k (objects_in files folder) id head × AreAuthorsLocalOf k folder files head
+IsAuthoredEntity k folder files id Bad = ⊥
+
+-- ---- bugs
+
+abbrev pub HasNoFault : Held → Id → Name → Type 0
+HasNoFault objects id head = HasNoFaultOf bug_kind objects id head
+
+abbrev pub AreAuthorsLocal : List ℕ → Files → Name → Type 0
+AreAuthorsLocal folder files head = AreAuthorsLocalOf bug_kind folder files head
+
+abbrev pub IsSoundBug : Held → Id → Ref → Type 0
+IsSoundBug objects id ref = IsSoundEntity bug_kind objects id ref
+
 abbrev pub IsAuthoredBug : List ℕ → Files → Id → Ref → Type 0
-IsAuthoredBug folder files id Absent = ⊤
-IsAuthoredBug folder files id (Head head) = HasNoFault (objects_in files folder) id head × AreAuthorsLocal folder files head
-IsAuthoredBug folder files id Bad = ⊥
+IsAuthoredBug folder files id ref = IsAuthoredEntity bug_kind folder files id ref
 
 -- the name of a remote: 1 to 64 letters, digits, `_` or `-` of ASCII
 pub record IsRemoteName (remote : List ℕ) : Type 0 where
@@ -90,11 +108,11 @@ HasSoundIdentities folder files = (id : Id) → IsId id → IsSoundIdentity (obj
 
 -- each local bug's ref reads, and nothing is wrong with the entity at its head, but perhaps that an author is unknown
 abbrev pub HasSoundBugs : List ℕ → Files → Type 0
-HasSoundBugs folder files = (id : Id) → IsId id → IsSoundBug (objects_in files folder) id (head_at files folder side.Bugs id)
+HasSoundBugs folder files = (id : Id) → IsId id → IsSoundBug (objects_in files folder) id (head_at files folder bug_places.heads id)
 
 -- and the authors of each are local identities
 abbrev pub HasKnownAuthors : List ℕ → Files → Type 0
-HasKnownAuthors folder files = (id : Id) → IsId id → IsAuthoredBug folder files id (head_at files folder side.Bugs id)
+HasKnownAuthors folder files = (id : Id) → IsId id → IsAuthoredBug folder files id (head_at files folder bug_places.heads id)
 
 -- each tracking ref reads, and names a held commit
 abbrev pub HasSoundTracking : List ℕ → Files → Type 0

@@ -1,6 +1,7 @@
 //! Laws of a folder's state, each the contract of a function that does nothing.
-ghost use Rattle.std.specs.Prelude.{◌≡◌, ◌≢◌, ◌↔◌, ◌≤◌, ◌++◌, [], ◌∷◌, List, ℕ, IsTrue, Some, None, codes, map, reverse};
+ghost use Rattle.std.specs.Prelude.{◌≡◌, ◌≢◌, ◌↔◌, ◌≤◌, ◌++◌, [], ◌∷◌, List, ℕ, IsTrue, Some, None, codes, false, map, reverse};
 ghost use Rattle.std.specs.List.{AllByRecursion, repeat};
+ghost use Rattle.hex.specs.Hex.{encode_lower};
 ghost use Rattle.gb_text.specs.Digits.{IsId, IsName};
 ghost use Rattle.gb_text.specs.Folder.{joined};
 ghost use Rattle.gb_text.specs.declared.id.Id.{Id};
@@ -15,6 +16,7 @@ ghost use Rattle.ref_store.specs.Setting.{ref_write};
 ghost use Rattle.lamport.specs.Clock.{seen_by};
 ghost use Rattle.lamport.specs.declared.clock.TheConstants.{CAP};
 ghost use Rattle.repo_state.specs.Clocks.{clock_at, clock_write, see_writes};
+ghost use Rattle.repo_state.specs.Finds.{Finding, Finds, IsDetermined, Many, Nothing, One, head_finder, id_finder};
 ghost use Rattle.repo_state.specs.Sides.{AllRead, AreHeads, AreIds, has_ref, head_at, ref_place};
 ghost use Rattle.repo_state.specs.Sound.{IsNamedSide, IsRemoteName, IsSound};
 ghost use Rattle.repo_state.specs.Users.{BadUser, User, user_at, user_entry, user_write};
@@ -23,14 +25,14 @@ ghost use Rattle.repo_state.specs.declared.side.HeadEntry.{HeadEntry};
 ghost use Rattle.repo_state.specs.declared.side.Side.{Side as SideValue};
 ghost use Rattle.repo_state.specs.declared.side.Side.TheVariants as side;
 
-/// A folder below which no file stands is sound, whatever stands elsewhere.
+/// A folder without files is sound, whatever is stored elsewhere.
 pub fn an_empty_folder_is_sound()
     ensures { (folder : List ℕ) (files : Files)
         → ((place : List ℕ) → files (joined folder place) ≡ None) → IsSound folder files }
 {}
 
-/// In a sound folder the head of each ref, also of one of a remote with such a name as remotes have, is
-/// a commit that is held, and so is all that it leads to by what objects name, each as of its kind.
+/// In a sound folder the head of each ref, also of a remote with a valid name, is a held commit, and
+/// everything that it leads to is held.
 pub fn sound_folders_hold_what_heads_lead_to()
     ensures { (folder : List ℕ) (files : Files) (of : SideValue) (id : Id) (head : Name)
         (one : Reference) → IsSound folder files → IsNamedSide of → IsId id
@@ -39,8 +41,8 @@ pub fn sound_folders_hold_what_heads_lead_to()
         → IsHeldAs (objects_in files folder) one.name one.kind }
 {}
 
-/// Where `heads` answers, `ids` answers the ids of those heads, in the same order. There are heads to
-/// answer exactly where every ref of the side reads.
+/// `ids` gives the ids of the heads that `heads` gives, in the same order. There are heads to answer
+/// exactly where every ref of the side reads.
 pub fn ids_are_those_of_the_heads()
     ensures same { (files : Files) (folder : List ℕ) (of : SideValue) (ids : List Id)
         (heads : List HeadEntry) → AreIds files folder of ids
@@ -74,11 +76,10 @@ pub fn remote_names_are_known()
         (0 ∷ 10 ∷ 32 ∷ 44 ∷ 46 ∷ 47 ∷ 58 ∷ 64 ∷ 91 ∷ 94 ∷ 96 ∷ 123 ∷ 127 ∷ 128 ∷ 195 ∷ []) }
 {}
 
-/// A head that was set reads as it was set, and every other head, the user and the clocks as before;
-/// but a user file that named no local identity may name one once the head of an identity was set.
-/// The user that was set reads as it was set where its ref stands, and every head and the clocks as
-/// before. A clock that was set to at most 2^62 reads as it was set, and every head, the user and the
-/// other clock as before.
+/// A head that was set reads back and all other state reads as before, except that a user file may
+/// name a local identity only now. The user that was set reads as it was set where its ref stands,
+/// and every head and the clocks as before. A clock that was set to at most 2^62 reads as it was set,
+/// and every head, the user and the other clock as before.
 pub fn heads_and_user_are_a_map()
     ensures same { (files : Files) (folder : List ℕ) (of : SideValue) (id : Id) (head : Name)
         → IsName head
@@ -126,8 +127,7 @@ pub fn heads_and_user_are_a_map()
         ≡ clock_at files folder which }
 {}
 
-/// A clock that was let see a number reads as one that has seen it, whatever its file said before and
-/// however great the number is, also where it need not be written.
+/// A clock file that sees a number reads as a clock that has seen it, whatever the file said before.
 pub fn clocks_read_as_they_were_seen()
     ensures { (old : History) (folder : List ℕ) (which : ClockFile) (number : ℕ)
         → clock_at (files_of (reverse (see_writes folder which
@@ -135,9 +135,8 @@ pub fn clocks_read_as_they_were_seen()
         ≡ seen_by (clock_at (files_of old) folder which) number }
 {}
 
-/// A file that is put at the path of an object, of any name and any text, leaves each head, the user,
-/// also one that names nobody, and each clock. A head, a user or a clock that is set leaves all that
-/// stands at the paths of objects.
+/// Putting an object leaves each head, the user and each clock. A head, a user or a clock that is set
+/// leaves all that stands at the paths of objects.
 pub fn objects_and_state_are_apart()
     ensures heads { (files : Files) (folder text : List ℕ) (of : SideValue) (id : Id) (name : Name)
         → head_at (written files (Put (joined folder (object_place name)) text)) folder of id
@@ -156,4 +155,33 @@ pub fn objects_and_state_are_apart()
     ensures by_clock { (files : Files) (folder : List ℕ) (which : ClockFile) (n : ℕ)
         → objects_in (written files (clock_write folder which n)) folder
         ≡ objects_in files folder }
+{}
+
+/// What a word finds on a side is one thing, and each word finds an id or nothing: the id whose 64
+/// digits it is, where a ref of the id stands; and nothing exactly where there is no such id. No word
+/// finds several.
+pub fn words_find_whole_ids()
+    ensures determined { (files : Files) (folder : List ℕ) (of : SideValue) (word : List ℕ)
+        (one other : Finding) → Finds files folder of word one → Finds files folder of word other
+        → one ≡ other }
+    ensures some { (files : Files) (folder : List ℕ) (of : SideValue) (word : List ℕ)
+        → (finding : Finding) × Finds files folder of word finding }
+    ensures one { (files : Files) (folder : List ℕ) (of : SideValue) (word : List ℕ) (id : Id)
+        → Finds files folder of word (One id) ↔ (IsId id × (word ≡ encode_lower id.bytes)
+        × IsTrue (has_ref files folder of id)) }
+    ensures nothing { (files : Files) (folder : List ℕ) (of : SideValue) (word : List ℕ)
+        → Finds files folder of word Nothing
+        ↔ ((id : Id) → IsId id → word ≡ encode_lower id.bytes
+        → has_ref files folder of id ≡ false) }
+    ensures never_many { (files : Files) (folder : List ℕ) (of : SideValue) (word : List ℕ)
+        (first second : Id) → Finds files folder of word (Many first second) → ⊥ }
+{}
+
+/// A finder of ids, or of entities with their heads, finds one value, or fails with one number of
+/// refusal, and never both.
+pub fn finders_are_determined()
+    ensures ids { (of : SideValue) (files : Files) (folder word : List ℕ)
+        → IsDetermined (id_finder of files folder word) }
+    ensures heads { (of : SideValue) (files : Files) (folder word : List ℕ)
+        → IsDetermined (head_finder of files folder word) }
 {}

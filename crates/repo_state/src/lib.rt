@@ -5,6 +5,7 @@ mod bugs;
 mod clocks;
 mod env;
 mod laws;
+mod listing;
 mod operations;
 mod people;
 mod refs;
@@ -16,10 +17,12 @@ pub use bugs::{bug_at, read_bug};
 pub use clocks::{ClockFile, clock, clock_changes, see};
 pub use env::Env;
 pub use laws::{
-    an_empty_folder_is_sound, clocks_read_as_they_were_seen, heads_and_user_are_a_map,
-    ids_are_those_of_the_heads, objects_and_state_are_apart, remote_names_are_known,
-    sound_folders_hold_what_heads_lead_to, users_have_their_heads,
+    an_empty_folder_is_sound, clocks_read_as_they_were_seen, finders_are_determined,
+    heads_and_user_are_a_map, ids_are_those_of_the_heads, objects_and_state_are_apart,
+    remote_names_are_known, sound_folders_hold_what_heads_lead_to, users_have_their_heads,
+    words_find_whole_ids,
 };
+pub use listing::all_refs;
 pub use operations::ops_of;
 pub use people::names;
 pub use refs::{

@@ -8,9 +8,10 @@ ghost use Rattle.gb_text.specs.Folder.{joined};
 ghost use Rattle.ref_store.specs.Listing.{IsRefList};
 ghost use Rattle.ref_store.specs.Refs.{Answers, Head};
 ghost use Rattle.ref_store.specs.Setting.{PutsRef, ref_write};
-ghost use Rattle.repo_state.specs.Answers.{DamagedRef, EntityAnswers, Finds, FindsHead, FindsRef, HasBadRef, HeadOf, HeadsOf, IsBadRef, IsHeadAt, NeverRefused, OnlyDamaged, OnlyMissed, OnlyNotFound, PutAnswers, Reads, WholeAnswers};
+ghost use Rattle.repo_state.specs.Answers.{DamagedRef, EntityAnswers, FindsRef, HasBadRef, HeadOf, HeadsOf, IsHeadAt, NeverRefused, OnlyDamaged, OnlyMissed, OnlyNotFound, PutAnswers, Reads, WholeAnswers};
+ghost use Rattle.repo_state.specs.Finds.{FinderAnswers, head_finder, id_finder};
 ghost use Rattle.repo_state.specs.Sound.{IsNamedSide};
-ghost use Rattle.repo_state.specs.Sides.{AreHeads, AreIds, dir_of, has_ref, head_at, ref_place};
+ghost use Rattle.repo_state.specs.Sides.{AreHeads, AreIds, IsBadRef, dir_of, has_ref, head_at, ref_place};
 
 use crate::refusal::{Refusal, Stop};
 use crate::side::{HeadEntry, Side};
@@ -73,8 +74,8 @@ pub fn find<S: Store>(
     side: &Side,
     word: &str,
 ) -> Result<Id, Stop>
-    ensures answers { IsTrue S.tells
-        → Finds (files_of (S.history disk.old)) folder.now side.now word.now result }
+    ensures answers { IsTrue S.tells → FinderAnswers
+        (id_finder side.now (files_of (S.history disk.old)) folder.now word.now) result }
     ensures only_not_found { OnlyNotFound result }
     ensures unwritten { IsTrue S.tells → S.history disk.new ≡ S.history disk.old }
     ensures reads { S.object_reads disk.new ≡ S.object_reads disk.old }
@@ -93,8 +94,8 @@ pub fn find_head<S: Store>(
     side: &Side,
     word: &str,
 ) -> Result<HeadEntry, Stop>
-    ensures answers { IsTrue S.tells
-        → FindsHead (files_of (S.history disk.old)) folder.now side.now word.now result }
+    ensures answers { IsTrue S.tells → FinderAnswers
+        (head_finder side.now (files_of (S.history disk.old)) folder.now word.now) result }
     ensures only_missed { OnlyMissed result }
     ensures unwritten { IsTrue S.tells → S.history disk.new ≡ S.history disk.old }
     ensures reads { S.object_reads disk.new ≡ S.object_reads disk.old }
@@ -106,6 +107,7 @@ pub fn find_head<S: Store>(
 }
 
 // The ref that a word finds on a side. What words find is said here alone.
+#[tactic(auto, using(crate::proofs::FoundLemmas::finds_ref, crate::proofs::FoundLemmas::finds_no_digits, crate::proofs::FoundLemmas::finds_no_entity))]
 fn find_ref<S: Store>(
     alloc: Global,
     disk: &mut S,

@@ -44,7 +44,7 @@ use Rattle.repo_state.proofs.BugSoundLemmas.{EachIsLocal-over, IsBug-over, bug_a
 use Rattle.repo_state.proofs.KindLemmas.{clock_at-capped, clock_at-other, clock_at-set, head_at-clock_write, head_at-other_side, objects-clock_write, objects-ref_write}
 use Rattle.repo_state.proofs.PlaceLemmas.{clock-not_object, ref-not_clock, ref-not_object}
 use Rattle.repo_steps.specs.BugDoings.{addition_head, addition_objects}
-use Rattle.repo_steps.specs.Kinds.{IsClockOf, IsUnder, IsWrite, a_bug_head, a_clock, an_object, ref_to}
+use Rattle.repo_writes.specs.Kinds.{IsClockOf, IsUnder, IsWrite, a_bug_head, a_clock, an_object, ref_to}
 use Rattle.repo_steps.specs.Steps.{OnlyChanges}
 use Rattle.repo_steps.specs.declared.edit.Addition.{Addition}
 use Rattle.repo_steps.proofs.OnlyLemmas.{AddsObject, OnlyChanges-objects, OnlyChanges-put, OnlyChanges-then, head_kept}

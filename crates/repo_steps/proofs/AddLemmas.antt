@@ -28,7 +28,7 @@ use Rattle.repo_state.proofs.KindLemmas.{objects-ref_write}
 use Rattle.repo_state.proofs.PlaceLemmas.{ref-not_object}
 use Rattle.repo_steps.specs.Doing.{nonce_from}
 use Rattle.repo_steps.specs.PeopleDoings.{MayWrite, new_made, new_objects, new_text, version_writes}
-use Rattle.repo_steps.specs.Kinds.{IsBelow, IsWrite, an_identity_head, an_object, ref_to}
+use Rattle.repo_writes.specs.Kinds.{IsBelow, IsWrite, an_identity_head, an_object, ref_to}
 use Rattle.repo_steps.specs.Steps.{OnlyChanges, new_version}
 use Rattle.repo_steps.proofs.OnlyLemmas.{AddsObject, OnlyChanges-objects, OnlyChanges-put, OnlyChanges-then, head_kept}
 

@@ -58,7 +58,7 @@ use Rattle.repo_state.proofs.BugSoundLemmas.{IsBug-over}
 use Rattle.repo_state.proofs.KindLemmas.{clock_at-capped}
 use Rattle.repo_steps.specs.BugDoings.{HasBug, addition_head, addition_objects, addition_writes, bug_says, clock_writes, later_addition, op_ids, root_addition}
 use Rattle.repo_steps.specs.BugEdits.{edit_op}
-use Rattle.repo_steps.specs.Kinds.{IsWrite}
+use Rattle.repo_writes.specs.Kinds.{IsWrite}
 use Rattle.repo_steps.specs.NewOps.{MayWriteOp, one_op_pack, op_id}
 use Rattle.repo_steps.specs.Steps.{BugBegins, BugGrows, begun_entity}
 use Rattle.repo_steps.specs.declared.edit.Addition.{Addition}

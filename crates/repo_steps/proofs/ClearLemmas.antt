@@ -19,6 +19,7 @@ use Rattle.ref_store.specs.Refs.{Head}
 use Rattle.identity.specs.Persons.{IsChain}
 use Rattle.identity.proofs.NoFaultLemmas.{no_fault}
 use Rattle.repo_state.specs.Bugs.{IsBug}
+use Rattle.repo_state.specs.Finds.{Finder, IsDetermined, bug_finder, person_finder}
 use Rattle.repo_state.specs.Sides.{head_at}
 use Rattle.repo_state.specs.Stops.{number_of}
 use Rattle.repo_state.specs.Users.{User, user_at, user_entry}
@@ -34,8 +35,10 @@ use Rattle.repo_steps.specs.BugEdits.{bad_edit, edit_op}
 use Rattle.repo_steps.specs.Doing.{found, fresh, names, sizes, some_user, user_file, words}
 use Rattle.repo_steps.specs.Doings.{MayStep, Refused, doing_of}
 use Rattle.repo_steps.specs.NewOps.{MayWriteOp, create_op, op_id}
+use Rattle.repo_steps.specs.Picked.{Picked}
 use Rattle.repo_steps.specs.PeopleDoings.{HasBadChain, HasUser, MayWrite, bad_person, edited_user, new_made, new_objects, new_user, set_user, user_chain, user_room}
-use Rattle.repo_state.proofs.BugLemmas.{bug_not_damaged, one_bug, one_entity}
+use Rattle.repo_state.proofs.BugLemmas.{bug_no_fault, one_bug, one_entity}
+use Rattle.repo_state.proofs.FoundLemmas.{heads_are_determined, ids_are_determined}
 use Rattle.repo_steps.specs.declared.edit.BugEdit.{BugEdit}
 use Rattle.repo_steps.specs.declared.edit.Edit.{Edit}
 use Rattle.repo_steps.specs.declared.edit.Edit.TheVariants as edit
@@ -136,8 +139,15 @@ module _ (folder : List ℕ) (files : Files) where
   fresh_clear : (of : Side) (id : Id) → IsClear (fresh folder files of id)
   fresh_clear of id = record { apart = λ r fails passes. cc (sym passes ∙ fails.0); one = λ r s one two. both 9 r s (ap number_of one.1) (ap number_of two.1) }
 
-  found_clear : (of : Side) (word : List ℕ) → IsClear (found folder files of word)
-  found_clear of word = record { apart = λ r fails passes. cc (sym fails.0 ∙ passes.1); one = λ r s one two. both 2 r s (ap number_of one.1) (ap number_of two.1) }
+  -- what a word finds is one bug or none, and one person or none
+  bug_finds : (word : List ℕ) → IsDetermined (bug_finder files folder word)
+  bug_finds word = heads_are_determined side.Bugs files folder word
+
+  person_finds : (word : List ℕ) → IsDetermined (person_finder files folder word)
+  person_finds word = ids_are_determined side.Identities files folder word
+
+found_clear : {T : Type 0} → (finder : Finder T) → IsDetermined finder → (value : T) → IsClear (found finder value)
+found_clear finder is value = record { apart = λ r fails passes. is.apart value r passes fails; one = is.number }
 
 sizes_clear : (texts : List (List ℕ)) → IsClear (sizes texts)
 sizes_clear texts = record {
@@ -157,10 +167,10 @@ module _ (folder : List ℕ) (files : Files) (word : List ℕ) where
       let bugs = one_bug files folder word one.bug two.bug one.finds two.finds in
       (bugs, one_entity files folder two.bug one.entity two.entity (subst (λ (bug : HeadEntry). IsBug files folder bug one.entity) bugs one.is) two.is)
 
-  bug_reads_clear : IsClear (bug_reads folder files word)
-  bug_reads_clear = record {
-    apart = λ r fails passes. bug_not_damaged files folder word passes.bug passes.entity fails.0 passes.finds passes.is fails.1 fails.2;
-    one = λ r s one two. both 14 r s (ap number_of one.3) (ap number_of two.3);
+  bug_reads_clear : (bug : HeadEntry) → IsClear (bug_reads folder files bug)
+  bug_reads_clear bug = record {
+    apart = λ r fails passes. bug_no_fault files folder bug passes.0 passes.1 fails.0;
+    one = λ r s one two. both 14 r s (ap number_of one.1) (ap number_of two.1);
   }
 
   -- what bars a bug is said of its head and its entity, and each of its refusals is of this number
@@ -238,60 +248,102 @@ module _ (env : Env) (word : List ℕ) (e : BugEdit) (old : History) where
   abbrev before : Files
   before = files_of old
 
-  -- what is checked before the operation is known
+  -- what is checked before the bug is sought
   abbrev first_checks : List Check
   first_checks =
       words (bad_edit e) (env.now ≤ LIMIT) ∷
       user_file env.folder before ∷
-      some_user env.folder before ∷
-      found env.folder before side.Bugs word ∷
-      bug_reads env.folder before word ∷ []
+      some_user env.folder before ∷ []
 
   first_clear : AreClear first_checks
-  first_clear = (
-    words_clear (bad_edit e) (env.now ≤ LIMIT),
-    (user_file_clear env.folder before, (some_user_clear env.folder before, (found_clear env.folder before side.Bugs word, (bug_reads_clear env.folder before word, tt)))),
-  )
+  first_clear = (words_clear (bad_edit e) (env.now ≤ LIMIT), (user_file_clear env.folder before, (some_user_clear env.folder before, tt)))
 
-  -- and of that
-  abbrev then_checks : BugOp → List Check
-  then_checks op =
-      let objects = addition_objects env.now (option_and_then (later_by env.folder before word op) (some_id (user_at before env.folder))) in
+  finds : IsDetermined (bug_finder before env.folder word)
+  finds = bug_finds env.folder before word
+
+  -- once it is found
+  abbrev found_checks : HeadEntry → List Check
+  found_checks bug = bug_reads env.folder before bug ∷ []
+
+  found_checks_clear : (bug : HeadEntry) → AreClear (found_checks bug)
+  found_checks_clear bug = (bug_reads_clear env.folder before word bug, tt)
+
+  -- and once the operation is known
+  abbrev then_checks : HeadEntry → BugOp → List Check
+  then_checks bug op =
+      let objects = addition_objects env.now (option_and_then (later_by env.folder before bug op) (some_id (user_at before env.folder))) in
       clock_room env.folder before word ∷
       commit_room env.folder before word ∷
       sizes objects ∷
       new_operation env.folder before word op ∷
       names env.folder objects old ∷ []
 
-  then_clear : (op : BugOp) → AreClear (then_checks op)
-  then_clear op =
-      let objects = addition_objects env.now (option_and_then (later_by env.folder before word op) (some_id (user_at before env.folder))) in
+  then_clear : (bug : HeadEntry) (op : BugOp) → AreClear (then_checks bug op)
+  then_clear bug op =
+      let objects = addition_objects env.now (option_and_then (later_by env.folder before bug op) (some_id (user_at before env.folder))) in
       (clock_room_clear env.folder before word, (commit_room_clear env.folder before word, (sizes_clear objects, (new_operation_clear env.folder before word op, (names_clear env.folder objects old, tt)))))
 
-  -- with one operation all of them are clear
-  longer_clear : (op : BugOp) → AreClear (longer_bug env e word op old).checks
-  longer_clear op = clear_over first_checks (edit_adds env before word e op ∷ then_checks op) first_clear (edit_adds_clear env before word e op, then_clear op)
+  -- with one bug and one operation all of them are clear
+  abbrev op_checks : HeadEntry → BugOp → List Check
+  op_checks bug op = edit_adds env before word e op ∷ then_checks bug op
 
-  rest_never : (op other : BugOp) (r : Refusal) → FirstFails (edit_adds env before word e op ∷ then_checks op) r → AllPass (edit_adds env before word e other ∷ then_checks other) → ⊥
-  rest_never op other r (inl fails) passes = never_adds env before word e other r passes.0.0 fails.0 passes.0.1 fails.1
-  rest_never op other r (inr later) passes =
-      never_both (then_checks op) r (then_clear op) (subst (λ (o : BugOp). AllPass (then_checks o)) (adds_one env before word e other op passes.0.0 later.0.0 passes.0.1 later.0.1) passes.1) later.1
+  abbrev bug_checks : HeadEntry → BugOp → List Check
+  bug_checks bug op = found (bug_finder before env.folder word) bug ∷ found_checks bug ++ op_checks bug op
 
-  rest_one : (op other : BugOp) (r s : Refusal) → FirstFails (edit_adds env before word e op ∷ then_checks op) r → FirstFails (edit_adds env before word e other ∷ then_checks other) s → number_of r ≡ number_of s
-  rest_one op other r s (inl one) (inl two) = ap number_of (refuses_one env before word e r s one.0 two.0 one.1 two.1)
-  rest_one op other r s (inl one) (inr two) = absurd (never_adds env before word e other r two.0.0 one.0 two.0.1 one.1)
-  rest_one op other r s (inr one) (inl two) = absurd (never_adds env before word e op s one.0.0 two.0 one.0.1 two.1)
-  rest_one op other r s (inr one) (inr two) =
-      one_number (then_checks op) r s (then_clear op) one.1
-      (subst (λ (o : BugOp). FirstFails (then_checks o) s) (adds_one env before word e other op two.0.0 one.0.0 two.0.1 one.0.1) two.1)
+  longer_clear : (bug : HeadEntry) (op : BugOp) → AreClear (longer_bug env e word bug op old).checks
+  longer_clear bug op =
+      clear_over first_checks (bug_checks bug op) first_clear
+      (found_clear (bug_finder before env.folder word) finds bug, clear_over (found_checks bug) (op_checks bug op) (found_checks_clear bug) (edit_adds_clear env before word e op, then_clear bug op))
 
-  pub longer_never : (op other : BugOp) (r : Refusal) → FirstFails (longer_bug env e word op old).checks r → AllPass (longer_bug env e word other old).checks → ⊥
-  longer_never op other r fails passes =
-      never_over first_checks (edit_adds env before word e op ∷ then_checks op) (edit_adds env before word e other ∷ then_checks other) first_clear (rest_never op other) r fails passes
+  -- of two operations of one bug
+  rest_never : (bug : HeadEntry) (op other : BugOp) (r : Refusal) → FirstFails (op_checks bug op) r → AllPass (op_checks bug other) → ⊥
+  rest_never bug op other r (inl fails) passes = never_adds env before word e other r passes.0.0 fails.0 passes.0.1 fails.1
+  rest_never bug op other r (inr later) passes =
+      never_both (then_checks bug op) r (then_clear bug op) (subst (λ (o : BugOp). AllPass (then_checks bug o)) (adds_one env before word e other op passes.0.0 later.0.0 passes.0.1 later.0.1) passes.1) later.1
 
-  pub longer_one : (op other : BugOp) (r s : Refusal) → FirstFails (longer_bug env e word op old).checks r → FirstFails (longer_bug env e word other old).checks s → number_of r ≡ number_of s
-  longer_one op other r s one two =
-      one_over first_checks (edit_adds env before word e op ∷ then_checks op) (edit_adds env before word e other ∷ then_checks other) first_clear (rest_one op other) r s one two
+  rest_one : (bug : HeadEntry) (op other : BugOp) (r s : Refusal) → FirstFails (op_checks bug op) r → FirstFails (op_checks bug other) s → number_of r ≡ number_of s
+  rest_one bug op other r s (inl one) (inl two) = ap number_of (refuses_one env before word e r s one.0 two.0 one.1 two.1)
+  rest_one bug op other r s (inl one) (inr two) = absurd (never_adds env before word e other r two.0.0 one.0 two.0.1 one.1)
+  rest_one bug op other r s (inr one) (inl two) = absurd (never_adds env before word e op s one.0.0 two.0 one.0.1 two.1)
+  rest_one bug op other r s (inr one) (inr two) =
+      one_number (then_checks bug op) r s (then_clear bug op) one.1
+      (subst (λ (o : BugOp). FirstFails (then_checks bug o) s) (adds_one env before word e other op two.0.0 one.0.0 two.0.1 one.0.1) two.1)
+
+  -- of two bugs that the word finds, which are one
+  bugs_never : (bug top : HeadEntry) (op other : BugOp) (r : Refusal) → FirstFails (bug_checks bug op) r → AllPass (bug_checks top other) → ⊥
+  bugs_never bug top op other r (inl fails) passes = finds.apart top r passes.0 fails
+  bugs_never bug top op other r (inr later) passes =
+      never_over (found_checks bug) (op_checks bug op) (op_checks bug other) (found_checks_clear bug) (rest_never bug op other) r later.1
+      (subst (λ (head : HeadEntry). AllPass (found_checks head ++ op_checks head other)) (finds.one top bug passes.0 later.0) passes.1)
+
+  bugs_one : (bug top : HeadEntry) (op other : BugOp) (r s : Refusal) → FirstFails (bug_checks bug op) r → FirstFails (bug_checks top other) s → number_of r ≡ number_of s
+  bugs_one bug top op other r s (inl one) (inl two) = finds.number r s one two
+  bugs_one bug top op other r s (inl one) (inr two) = absurd (finds.apart top r two.0 one)
+  bugs_one bug top op other r s (inr one) (inl two) = absurd (finds.apart bug s one.0 two)
+  bugs_one bug top op other r s (inr one) (inr two) =
+      one_over (found_checks bug) (op_checks bug op) (op_checks bug other) (found_checks_clear bug) (rest_one bug op other) r s one.1
+      (subst (λ (head : HeadEntry). FirstFails (found_checks head ++ op_checks head other) s) (finds.one top bug two.0 one.0) two.1)
+
+  pub longer_never : (bug top : HeadEntry) (op other : BugOp) (r : Refusal) → FirstFails (longer_bug env e word bug op old).checks r → AllPass (longer_bug env e word top other old).checks → ⊥
+  longer_never bug top op other r fails passes = never_over first_checks (bug_checks bug op) (bug_checks top other) first_clear (bugs_never bug top op other) r fails passes
+
+  pub longer_one : (bug top : HeadEntry) (op other : BugOp) (r s : Refusal) → FirstFails (longer_bug env e word bug op old).checks r → FirstFails (longer_bug env e word top other old).checks s → number_of r ≡ number_of s
+  longer_one bug top op other r s one two = one_over first_checks (bug_checks bug op) (bug_checks top other) first_clear (bugs_one bug top op other) r s one two
+
+-- ---- another user
+
+module _ (env : Env) (word : List ℕ) (old : History) where
+  person_is : IsDetermined (person_finder (files_of old) env.folder word)
+  person_is = person_finds env.folder (files_of old) word
+
+  set_never : (person other : Id) (r : Refusal) → FirstFails (set_user env word person old).checks r → AllPass (set_user env word other old).checks → ⊥
+  set_never person other r (inl fails) passes = person_is.apart other r passes.0 fails
+  set_never person other r (inr later) passes = later.1
+
+  set_one : (person other : Id) (r s : Refusal) → FirstFails (set_user env word person old).checks r → FirstFails (set_user env word other old).checks s → number_of r ≡ number_of s
+  set_one person other r s (inl one) (inl two) = person_is.number r s one two
+  set_one person other r s (inr later) two = absurd later.1
+  set_one person other r s one (inr later) = absurd later.1
 
 -- ---- each command
 
@@ -324,29 +376,29 @@ user_edit_clear env name email old =
       ),
     )
 
-user_set_clear : (env : Env) (word : List ℕ) (old : History) → AreClear (set_user env word old).checks
-user_set_clear env word old = (found_clear env.folder (files_of old) side.Identities word, tt)
+user_set_clear : (env : Env) (word : List ℕ) (person : Id) (old : History) → AreClear (set_user env word person old).checks
+user_set_clear env word person old = (found_clear (person_finder (files_of old) env.folder word) (person_is env word old) person, tt)
 
--- the checks of each command are clear, whatever the operation
-pub checks_clear : (env : Env) (command : Edit) (op : BugOp) (old : History) → AreClear (doing_of env command op old).checks
-checks_clear env (edit.UserNew name email) op old = user_new_clear env name email old
-checks_clear env (edit.UserEdit name email) op old = user_edit_clear env name email old
-checks_clear env (edit.UserSet word) op old = user_set_clear env word old
-checks_clear env (edit.New title message) op old = begun_clear env (bad_bug title message) (create_op env title message) old
-checks_clear env (edit.OfBug word e) op old = longer_clear env word e old op
+-- the checks of each command are clear, whatever it picks
+pub checks_clear : (env : Env) (command : Edit) (picked : Picked) (old : History) → AreClear (doing_of env command picked old).checks
+checks_clear env (edit.UserNew name email) picked old = user_new_clear env name email old
+checks_clear env (edit.UserEdit name email) picked old = user_edit_clear env name email old
+checks_clear env (edit.UserSet word) picked old = user_set_clear env word picked.person old
+checks_clear env (edit.New title message) picked old = begun_clear env (bad_bug title message) (create_op env title message) old
+checks_clear env (edit.OfBug word e) picked old = longer_clear env word e old picked.bug picked.op
 
 -- no command both may be done and is refused
 pub never_refused : (env : Env) (command : Edit) (old : History) (r : Refusal) → MayStep env command old → Refused env command old r → ⊥
 never_refused env (edit.UserNew name email) old r passes fails = never_both (new_user env name email old).checks r (user_new_clear env name email old) passes.1 fails.1
 never_refused env (edit.UserEdit name email) old r passes fails = never_both (edited_user env name email old).checks r (user_edit_clear env name email old) passes.1 fails.1
-never_refused env (edit.UserSet word) old r passes fails = never_both (set_user env word old).checks r (user_set_clear env word old) passes.1 fails.1
+never_refused env (edit.UserSet word) old r passes fails = set_never env word old (fails.0).person (passes.0).person r fails.1 passes.1
 never_refused env (edit.New title message) old r passes fails = never_both (new_bug env title message old).checks r (begun_clear env (bad_bug title message) (create_op env title message) old) passes.1 fails.1
-never_refused env (edit.OfBug word e) old r passes fails = longer_never env word e old fails.0 passes.0 r fails.1 passes.1
+never_refused env (edit.OfBug word e) old r passes fails = longer_never env word e old (fails.0).bug (passes.0).bug (fails.0).op (passes.0).op r fails.1 passes.1
 
 -- and one number is told of its refusals
 pub one_refused : (env : Env) (command : Edit) (old : History) (r s : Refusal) → Refused env command old r → Refused env command old s → number_of r ≡ number_of s
 one_refused env (edit.UserNew name email) old r s one two = one_number (new_user env name email old).checks r s (user_new_clear env name email old) one.1 two.1
 one_refused env (edit.UserEdit name email) old r s one two = one_number (edited_user env name email old).checks r s (user_edit_clear env name email old) one.1 two.1
-one_refused env (edit.UserSet word) old r s one two = one_number (set_user env word old).checks r s (user_set_clear env word old) one.1 two.1
+one_refused env (edit.UserSet word) old r s one two = set_one env word old (one.0).person (two.0).person r s one.1 two.1
 one_refused env (edit.New title message) old r s one two = one_number (new_bug env title message old).checks r s (begun_clear env (bad_bug title message) (create_op env title message) old) one.1 two.1
-one_refused env (edit.OfBug word e) old r s one two = longer_one env word e old one.0 two.0 r s one.1 two.1
+one_refused env (edit.OfBug word e) old r s one two = longer_one env word e old (one.0).bug (two.0).bug (one.0).op (two.0).op r s one.1 two.1

@@ -11,6 +11,7 @@ use Rattle.repo_state.specs.Sound as parts
 use Rattle.repo_state.specs.Users.{User, user_at}
 use Rattle.repo_state.specs.declared.env.Env.{Env}
 use Rattle.repo_state.specs.declared.refusal.Refusal.TheVariants as refusal
+use Rattle.repo_state.specs.declared.side.HeadEntry.{HeadEntry}
 use Rattle.repo_steps.specs.BugDoings.{bad_bug, begun_bug, bug_says, longer_bug}
 use Rattle.repo_steps.specs.BugEdits.{edit_op, named_off, named_on, same_status, status_op, unless_same, with_change}
 use Rattle.repo_steps.specs.Checks.{FirstFails}
@@ -65,20 +66,20 @@ edit_never_damaged env (kind.RemoveLabels labels) bug path is = change_never_dam
 edit_never_damaged env (kind.Metadata key value) bug path is = cc is
 
 -- nor by one of its other checks: only those of the user file and of the bug could tell damage
-longer_not_damaged : (env : Env) (e : BugEdit) (word : List ℕ) (op : BugOp) (old : History) (path : List ℕ) → IsSound env.folder (files_of old)
-    → FirstFails (longer_bug env e word op old).checks (refusal.Damaged path) → ⊥
-longer_not_damaged env e word op old path sound (inl words) = cc words.2
-longer_not_damaged env e word op old path sound (inr (w, inl file)) = sound parts.User file.0
-longer_not_damaged env e word op old path sound (inr (w, inr (f, inl none))) = cc none.1
-longer_not_damaged env e word op old path sound (inr (w, inr (f, inr (u, inl lost)))) = cc lost.1
-longer_not_damaged env e word op old path sound (inr (w, inr (f, inr (u, inr (b, inl wrong))))) = no_bad_found env.folder (files_of old) sound word wrong.0 wrong.1 wrong.2
-longer_not_damaged env e word op old path sound (inr (w, inr (f, inr (u, inr (b, inr (g, inl barred)))))) = edit_never_damaged env e (bug_says barred.0.entity) path barred.1
-longer_not_damaged env e word op old path sound (inr (w, inr (f, inr (u, inr (b, inr (g, inr (a, inl full))))))) = cc full.2
-longer_not_damaged env e word op old path sound (inr (w, inr (f, inr (u, inr (b, inr (g, inr (a, inr (c, inl many)))))))) = cc many.2
-longer_not_damaged env e word op old path sound (inr (w, inr (f, inr (u, inr (b, inr (g, inr (a, inr (c, inr (r, inl long))))))))) = cc long.1
-longer_not_damaged env e word op old path sound (inr (w, inr (f, inr (u, inr (b, inr (g, inr (a, inr (c, inr (r, inr (s, inl twice)))))))))) = cc twice.2
-longer_not_damaged env e word op old path sound (inr (w, inr (f, inr (u, inr (b, inr (g, inr (a, inr (c, inr (r, inr (s, inr (n, inl taken))))))))))) = cc taken.2
-longer_not_damaged env e word op old path sound (inr (w, inr (f, inr (u, inr (b, inr (g, inr (a, inr (c, inr (r, inr (s, inr (n, inr (t, never)))))))))))) = never
+longer_not_damaged : (env : Env) (e : BugEdit) (word : List ℕ) (bug : HeadEntry) (op : BugOp) (old : History) (path : List ℕ) → IsSound env.folder (files_of old)
+    → FirstFails (longer_bug env e word bug op old).checks (refusal.Damaged path) → ⊥
+longer_not_damaged env e word bug op old path sound (inl words) = cc words.2
+longer_not_damaged env e word bug op old path sound (inr (w, inl file)) = sound parts.User file.0
+longer_not_damaged env e word bug op old path sound (inr (w, inr (f, inl none))) = cc none.1
+longer_not_damaged env e word bug op old path sound (inr (w, inr (f, inr (u, inl lost)))) = no_bad_found env.folder (files_of old) sound word lost.0 lost.1 (inl lost.2.1)
+longer_not_damaged env e word bug op old path sound (inr (w, inr (f, inr (u, inr (b, inl wrong))))) = no_bad_found env.folder (files_of old) sound word bug.id b.found (inr (bug.name, b.head, wrong.0))
+longer_not_damaged env e word bug op old path sound (inr (w, inr (f, inr (u, inr (b, inr (g, inl barred)))))) = edit_never_damaged env e (bug_says barred.0.entity) path barred.1
+longer_not_damaged env e word bug op old path sound (inr (w, inr (f, inr (u, inr (b, inr (g, inr (a, inl full))))))) = cc full.2
+longer_not_damaged env e word bug op old path sound (inr (w, inr (f, inr (u, inr (b, inr (g, inr (a, inr (c, inl many)))))))) = cc many.2
+longer_not_damaged env e word bug op old path sound (inr (w, inr (f, inr (u, inr (b, inr (g, inr (a, inr (c, inr (r, inl long))))))))) = cc long.1
+longer_not_damaged env e word bug op old path sound (inr (w, inr (f, inr (u, inr (b, inr (g, inr (a, inr (c, inr (r, inr (s, inl twice)))))))))) = cc twice.2
+longer_not_damaged env e word bug op old path sound (inr (w, inr (f, inr (u, inr (b, inr (g, inr (a, inr (c, inr (r, inr (s, inr (n, inl taken))))))))))) = cc taken.2
+longer_not_damaged env e word bug op old path sound (inr (w, inr (f, inr (u, inr (b, inr (g, inr (a, inr (c, inr (r, inr (s, inr (n, inr (t, never)))))))))))) = never
 
 -- no command is refused for damage
 pub not_damaged : (env : Env) (command : Edit) (old : History) (path : List ℕ) → IsSound env.folder (files_of old) → Refused env command old (refusal.Damaged path) → ⊥
@@ -102,7 +103,7 @@ not_damaged env (edit.UserEdit name email) old path sound fails = each fails.1
     each (inr (w, inr (f, inr (u, inr (c, inr (r, inl long)))))) = cc long.1
     each (inr (w, inr (f, inr (u, inr (c, inr (r, inr (s, inl taken))))))) = cc taken.2
     each (inr (w, inr (f, inr (u, inr (c, inr (r, inr (s, inr (t, never)))))))) = never
-not_damaged env (edit.UserSet word) old path sound (op, inl none) = cc none.1
-not_damaged env (edit.UserSet word) old path sound (op, inr later) = later.1
+not_damaged env (edit.UserSet word) old path sound (picked, inl none) = none
+not_damaged env (edit.UserSet word) old path sound (picked, inr later) = later.1
 not_damaged env (edit.New title message) old path sound fails = begun_not_damaged env (bad_bug title message) (create_op env title message) old path sound fails.1
-not_damaged env (edit.OfBug word e) old path sound fails = longer_not_damaged env e word fails.0 old path sound fails.1
+not_damaged env (edit.OfBug word e) old path sound fails = longer_not_damaged env e word (fails.0).bug (fails.0).op old path sound fails.1

@@ -2,11 +2,10 @@
 use Rattle.std.proofs.Common.{◌≡◌, ◌<◌, ◌≤◌, ◌^◌, ℕ, false, true, Bool, IsTrue, List, [], ◌∷◌, ◌++◌, length, reverse, Contains, Option, Some, None, option_and_then, Result, Ok, Err, inl, inr, refl, sym, ◌∙◌, ap, subst, append_assoc, arith}
 use Rattle.std.proofs.lemmas.List.{reverse-append}
 use Rattle.std.specs.Option.{option_map}
-use Rattle.gb_text.specs.Digits.{IsId, id_of}
+use Rattle.gb_text.specs.Digits.{IsId}
 use Rattle.gb_text.specs.Folder.{joined}
 use Rattle.gb_text.specs.declared.id.Id.{Id}
 use Rattle.gb_text.specs.declared.id.Name.{Name}
-use Rattle.gb_text.proofs.DigitLemmas.{id_of-is}
 use Rattle.gb_store.specs.Files.{Files, History, files_of}
 use Rattle.gb_store.specs.Moments.{Wrote, WroteSome, at_moment}
 use Rattle.gb_store.specs.declared.store.Change.{Change}
@@ -25,7 +24,7 @@ use Rattle.dag_entity.specs.Entities.{ops_in}
 use Rattle.dag_entity.specs.declared.entity.Entity.{Entity}
 use Rattle.repo_state.specs.Bugs.{IsLocal}
 use Rattle.repo_state.proofs.BugLemmas.{head_edit}
-use Rattle.repo_state.specs.Sides.{found_by, has_ref, head_at, is_there, ref_place}
+use Rattle.repo_state.specs.Sides.{has_ref, head_at, is_there, ref_place}
 use Rattle.repo_state.specs.Users.{UserFound, BadUser, NoUser, User, entry_by, entry_of_user, id_line, user_at, user_entry, user_place, user_write}
 use Rattle.repo_state.specs.declared.env.Env.{Env}
 use Rattle.repo_state.specs.declared.refusal.Refusal.{Refusal}
@@ -37,14 +36,15 @@ use Rattle.identity.proofs.IdLemmas.{IsId-version_id}
 use Rattle.repo_state.proofs.KindLemmas.{head_at-user_write, objects-user_write, user_at-set}
 use Rattle.repo_state.proofs.PlaceLemmas.{ref-not_user, same_or_other, user-not_object}
 use Rattle.repo_steps.specs.Answers.{DoingAnswers, IsStopped}
-use Rattle.repo_steps.specs.BugDoings.{HasBug, added_by, addition_objects, addition_writes, bug_entry, bug_says, later_addition, later_by, longer_bug, new_bug, op_ids, root_addition, some_id}
+use Rattle.repo_steps.specs.BugDoings.{HasBug, addition_objects, addition_writes, bug_says, later_addition, later_by, longer_bug, new_bug, op_ids, root_addition, some_id}
 use Rattle.repo_steps.specs.BugEdits.{comment_op, edit_op, labels_op, metadata_op, named_off, named_on, noop_op, same_status, status_op, title_op, unless_same, with_change}
 use Rattle.repo_steps.specs.Checks.{AllPass}
 use Rattle.repo_steps.specs.Doing.{Doing}
 use Rattle.repo_steps.specs.Doings.{Done, EditAnswers, doing_of}
 use Rattle.repo_steps.specs.NewOps.{create_op, op_id}
-use Rattle.repo_steps.specs.PeopleDoings.{HasUser, MayWrite, edited_user, first_user_write, new_made, new_objects, new_text, new_user, set_user, set_writes, user_writes, version_writes}
-use Rattle.repo_steps.specs.Kinds.{IsWrite, a_user}
+use Rattle.repo_steps.specs.Picked.{Picked}
+use Rattle.repo_steps.specs.PeopleDoings.{HasUser, MayWrite, edited_user, first_user_write, new_made, new_objects, new_text, new_user, set_user, user_writes, version_writes}
+use Rattle.repo_writes.specs.Kinds.{IsWrite, a_user}
 use Rattle.repo_steps.specs.Steps.{BugBegins, BugGrows, OnlyChanges, Steps, first_user, first_user_place, new_version}
 use Rattle.repo_steps.specs.declared.edit.Addition.{Addition}
 use Rattle.repo_steps.specs.declared.edit.BugEdit.{BugEdit}
@@ -55,7 +55,7 @@ use Rattle.repo_steps.proofs.AddLemmas.{MayExtend, added_below, added_extends, a
 use Rattle.repo_steps.proofs.BugDoneLemmas.{IsId-op_id, MadeBug, bug_begun, bug_grown, some_user_is}
 use Rattle.repo_steps.proofs.ClearLemmas.{bug_one, says_one}
 use Rattle.repo_steps.proofs.HeadLemmas.{head_at-absent}
-use Rattle.repo_state.proofs.FoundLemmas.{IsLocal-user, found_is}
+use Rattle.repo_state.proofs.FoundLemmas.{IsLocal-user, finds_an_id, found_is}
 use Rattle.repo_steps.proofs.OnlyLemmas.{OnlyChanges-none, OnlyChanges-put, OnlyChanges-then, ref_left, user_left}
 use Rattle.repo_steps.proofs.WriteLemmas.{all_both}
 
@@ -224,34 +224,23 @@ edited_made_so env name email old passes = record {
     all = added_writes env name email user.id old may (Some user.head) free extends ∙ ap (λ (o : Option HeadEntry). reverse (user_writes env name email (files_of old) o) ++ old) (sym entry)
 
 -- another user
-set_made_so : (env : Env) (word : List ℕ) (old : History) → AllPass (set_user env word old).checks → IsMade env (edit.UserSet word) (set_user env word old) old
-set_made_so env word old passes = record {
+set_made_so : (env : Env) (word : List ℕ) (id : Id) (old : History) → AllPass (set_user env word id old).checks → IsMade env (edit.UserSet word) (set_user env word id old) old
+set_made_so env word id old passes = record {
   told = id;
-  is_told = found;
-  wrote = subst (Wrote (IsWrite env.folder) old) all
-      (Wrote-one (IsWrite env.folder) (user_write env.folder id) old (user_write env.folder id ∷ old) (a_user (record { id = id; is_id = is_id; stands = is.1; write = refl })) (inr refl));
-  steps = subst (λ (h : History). Steps env (edit.UserSet word) (files_of old) (files_of h) id) all (record {
-    named = is.0;
-    stands = is.1;
-    user = user_at-set (files_of old) env.folder id is_id is.1;
+  is_told = refl;
+  wrote = Wrote-one (IsWrite env.folder) (user_write env.folder id) old (user_write env.folder id ∷ old) (a_user (record { id = id; is_id = is_id; stands = stands; write = refl })) (inr refl);
+  steps = record {
+    found = passes.0;
+    user = user_at-set (files_of old) env.folder id is_id stands;
     only = refl;
-  });
+  };
 }
   where
-    id : Id
-    id = passes.0.0
-
-    found : found_by (files_of old) env.folder side.Identities word ≡ Some id
-    found = passes.0.1
-
-    is : (id_of word ≡ Some id) × IsTrue (has_ref (files_of old) env.folder side.Identities id)
-    is = found_is (files_of old) env.folder side.Identities word id found
+    stands : IsTrue (has_ref (files_of old) env.folder side.Identities id)
+    stands = (found_is id passes.0).1
 
     is_id : IsId id
-    is_id = (id_of-is word id is.0).0
-
-    all : user_write env.folder id ∷ old ≡ after (set_user env word old) old
-    all = ap (λ (o : Option Id). reverse (set_writes env.folder o) ++ old) (sym found)
+    is_id = finds_an_id id passes.0
 
 -- ---- bugs
 
@@ -264,11 +253,6 @@ local_user_is folder files good some =
 -- a moment within the limit is a number of 64 bits
 before_limit : (env : Env) → env.now ≤ LIMIT → env.now < 2 ^ 64
 before_limit env within = omega (arith, within)
-
--- the bug that a word finds has its head
-bug_entry_is : (folder : List ℕ) (files : Files) (word : List ℕ) (bug : HasBug folder files word) → bug_entry folder files word ≡ Some bug.bug
-bug_entry_is folder files word bug =
-    ap (option_and_then (λ (id : Id). entry_by id (head_at files folder side.Bugs id))) bug.finds.found ∙ ap (entry_by bug.bug.id) bug.finds.head
 
 -- a bug that begins with an operation
 begun_made_so : (env : Env) (title message : List ℕ) (old : History) → AllPass (new_bug env title message old).checks → IsMade env (edit.New title message) (new_bug env title message old) old
@@ -319,8 +303,8 @@ edit_follows env (kind.RemoveLabels labels) bug op is = change_follows (named_on
 edit_follows env (kind.Metadata key value) bug op is = follows_as (metadata_op env bug.row.id key value) op is refl
 
 -- a bug that has one operation more
-longer_made_so : (env : Env) (e : BugEdit) (word : List ℕ) (op : BugOp) (old : History) → AllPass (longer_bug env e word op old).checks → IsMade env (edit.OfBug word e) (longer_bug env e word op old) old
-longer_made_so env e word op old passes = record {
+longer_made_so : (env : Env) (e : BugEdit) (word : List ℕ) (head : HeadEntry) (op : BugOp) (old : History) → AllPass (longer_bug env e word head op old).checks → IsMade env (edit.OfBug word e) (longer_bug env e word head op old) old
+longer_made_so env e word head op old passes = record {
   told = op_id op;
   is_told = refl;
   wrote = subst (λ (o : Option Addition). Wrote (IsWrite env.folder) old (reverse (addition_writes env (files_of old) o) ++ old)) (sym same) made.wrote;
@@ -334,7 +318,7 @@ longer_made_so env e word op old passes = record {
     user = local_user_is env.folder files passes.1.0 passes.1.1.0
 
     bug : HasBug env.folder files word
-    bug = passes.1.1.1.1.0
+    bug = record { bug = head; finds = passes.1.1.1.0; entity = passes.1.1.1.1.0.0; is = passes.1.1.1.1.0.1 }
 
     -- what each check says of the bug is so of this one
     of_this : (Bars : HeadEntry → Entity BugOp → Type 0) (other : HasBug env.folder files word) → (Bars other.bug other.entity → ⊥) → Bars bug.bug bug.entity → ⊥
@@ -349,9 +333,8 @@ longer_made_so env e word op old passes = record {
     addition : Addition
     addition = later_addition env.folder files op user.0 bug.bug bug.entity.edit
 
-    same : option_and_then (later_by env.folder files word op) (some_id (user_at files env.folder)) ≡ Some addition
-    same = ap (λ (found : UserFound). option_and_then (later_by env.folder files word op) (some_id found)) user.1
-        ∙ ap (option_and_then (added_by env.folder files op user.0)) (bug_entry_is env.folder files word bug)
+    same : option_and_then (later_by env.folder files head op) (some_id (user_at files env.folder)) ≡ Some addition
+    same = ap (λ (found : UserFound). option_and_then (later_by env.folder files head op) (some_id found)) user.1
         ∙ ap (option_map (later_addition env.folder files op user.0 bug.bug)) (head_edit (objects_in files env.folder) bug.bug.name bug.entity.edit bug.is.is.edit)
 
     free : MayBePut env.folder (addition_objects env.now (Some addition)) old
@@ -362,14 +345,14 @@ longer_made_so env e word op old passes = record {
         (of_this (λ head entity. entity.edit ≡ LIMIT) passes.1.1.1.1.1.1.0.0 passes.1.1.1.1.1.1.0.1)
         (of_this (λ head entity. MOST_COMMITS ≤ length entity.packs) passes.1.1.1.1.1.1.1.0.0 passes.1.1.1.1.1.1.1.0.1)
         (of_this (λ head entity. Contains (op_ids (ops_in bug_kind entity.packs)) (op_id op)) passes.1.1.1.1.1.1.1.1.1.0.0 passes.1.1.1.1.1.1.1.1.1.0.1)
-        free (id_of-is word bug.bug.id (found_is files env.folder side.Bugs word bug.bug.id bug.finds.found).0).0
+        free (finds_an_id bug.bug.id bug.finds.found)
 
-made_so : (env : Env) (command : Edit) (op : BugOp) (old : History) → AllPass (doing_of env command op old).checks → IsMade env command (doing_of env command op old) old
-made_so env (edit.UserNew name email) op old passes = new_made_so env name email old passes
-made_so env (edit.UserEdit name email) op old passes = edited_made_so env name email old passes
-made_so env (edit.UserSet word) op old passes = set_made_so env word old passes
-made_so env (edit.New title message) op old passes = begun_made_so env title message old passes
-made_so env (edit.OfBug word e) op old passes = longer_made_so env e word op old passes
+pub made_so : (env : Env) (command : Edit) (picked : Picked) (old : History) → AllPass (doing_of env command picked old).checks → IsMade env command (doing_of env command picked old) old
+made_so env (edit.UserNew name email) picked old passes = new_made_so env name email old passes
+made_so env (edit.UserEdit name email) picked old passes = edited_made_so env name email old passes
+made_so env (edit.UserSet word) picked old passes = set_made_so env word picked.person old passes
+made_so env (edit.New title message) picked old passes = begun_made_so env title message old passes
+made_so env (edit.OfBug word e) picked old passes = longer_made_so env e word picked.bug picked.op old passes
 
 -- ---- whatever is answered
 
@@ -387,23 +370,23 @@ some_wrote folder writes old new wrote some =
 
 -- whatever an edit answers, its writes are of a kind
 pub answers_wrote : (env : Env) (command : Edit) (old new : History) (r : Result Id Stop) → EditAnswers env command old new r → Wrote (IsWrite env.folder) old new
-answers_wrote env command old new r (op, answers) = each r answers
+answers_wrote env command old new r (picked, answers) = each r answers
   where
-    stopped : IsStopped (doing_of env command op old) old new → Wrote (IsWrite env.folder) old new
+    stopped : IsStopped (doing_of env command picked old) old new → Wrote (IsWrite env.folder) old new
     stopped (inl same) = Wrote-none (IsWrite env.folder) old new same
-    stopped (inr some) = some_wrote env.folder (doing_of env command op old).writes old new (made_so env command op old some.0).wrote some.1
+    stopped (inr some) = some_wrote env.folder (doing_of env command picked old).writes old new (made_so env command picked old some.0).wrote some.1
 
-    each : (r : Result Id Stop) → DoingAnswers (doing_of env command op old) old new r → Wrote (IsWrite env.folder) old new
-    each (Ok id) done = subst (Wrote (IsWrite env.folder) old) (sym done.writes) (made_so env command op old done.may).wrote
+    each : (r : Result Id Stop) → DoingAnswers (doing_of env command picked old) old new r → Wrote (IsWrite env.folder) old new
+    each (Ok id) done = subst (Wrote (IsWrite env.folder) old) (sym done.writes) (made_so env command picked old done.may).wrote
     each (Err stop.Memory) some = stopped some
     each (Err stop.Disk) some = stopped some
     each (Err (stop.Refused r)) refused = Wrote-none (IsWrite env.folder) old new refused.1
 
 -- a command that was done made its step
 pub done_steps : (env : Env) (command : Edit) (old new : History) (id : Id) → Done env command old new id → Steps env command (files_of old) (files_of new) id
-done_steps env command old new id (op, done) =
-    let made = made_so env command op old done.may in
+done_steps env command old new id (picked, done) =
+    let made = made_so env command picked old done.may in
     let both : Some made.told ≡ Some id = sym made.is_told ∙ done.told in
     let same : made.told ≡ id = cc in
     subst (λ (h : History). Steps env command (files_of old) (files_of h) id) (sym done.writes)
-    (subst (Steps env command (files_of old) (files_of (after (doing_of env command op old) old))) same made.steps)
+    (subst (Steps env command (files_of old) (files_of (after (doing_of env command picked old) old))) same made.steps)

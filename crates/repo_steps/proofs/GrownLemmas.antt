@@ -50,8 +50,8 @@ module _ (env : Env) (edit : BugEdit) (word : List ℕ) (old new : Files) (told 
 
   ids : now.bug.id ≡ step.bug.bug.id
   ids =
-      let here = (found_is new env.folder side.Bugs word now.bug.id now.finds.found).0 in
-      let there = (found_is old env.folder side.Bugs word step.bug.bug.id step.bug.finds.found).0 in
+      let here = (found_is now.bug.id now.finds.found).0 in
+      let there = (found_is step.bug.bug.id step.bug.finds.found).0 in
       same_Some now.bug.id step.bug.bug.id (sym here ∙ there)
 
   names : now.bug.name ≡ later_bug.name

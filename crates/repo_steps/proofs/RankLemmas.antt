@@ -11,6 +11,7 @@ use Rattle.object_store.specs.declared.read.TheConstants.{MOST_BYTES}
 use Rattle.commit_chain.specs.declared.chain.TheConstants.{MOST_COMMITS as MOST_VERSIONS}
 use Rattle.commit_walk.specs.declared.below.TheConstants.{MOST_COMMITS}
 use Rattle.bug_ops.specs.declared.op.BugOp.{BugOp}
+use Rattle.repo_state.specs.Finds.{bug_finder, person_finder}
 use Rattle.repo_state.specs.Sides.{ref_place}
 use Rattle.repo_state.specs.Users.{user_at, user_entry, user_place}
 use Rattle.repo_state.specs.declared.env.Env.{Env}
@@ -26,12 +27,14 @@ use Rattle.repo_steps.specs.Doing.{found, fresh, names, sizes, some_user, user_f
 use Rattle.repo_steps.specs.Doings.{doing_of}
 use Rattle.repo_steps.specs.Effects.{no_change}
 use Rattle.repo_steps.specs.NewOps.{MayWriteOp, create_op, op_id}
+use Rattle.repo_steps.specs.Picked.{Picked}
 use Rattle.repo_steps.specs.PeopleDoings.{MayWrite, bad_person, new_made, new_objects, user_chain, user_room}
 use Rattle.repo_steps.specs.Ranks.{SomeFails, rank_of}
 use Rattle.repo_steps.specs.declared.edit.BugEdit.{BugEdit}
 use Rattle.repo_steps.specs.declared.edit.BugEdit.TheVariants as kind
 use Rattle.repo_steps.specs.declared.edit.Edit.{Edit}
 use Rattle.repo_steps.specs.declared.edit.Edit.TheVariants as edit
+use Rattle.repo_state.proofs.FoundLemmas.{no_head_is, no_id_is}
 use Rattle.repo_steps.proofs.ClearLemmas.{checks_clear}
 use Rattle.repo_steps.proofs.EffectLemmas.{refused_as}
 
@@ -93,8 +96,14 @@ module _ (folder : List ℕ) (files : Files) where
   fresh_rank : (of : Side) (id : Id) → Within (fresh folder files of id) 8
   fresh_rank of id r n fails is = of_rank r (refusal.EntityExists id) n 8 fails.1 refl is
 
-  found_rank : (of : Side) (word : List ℕ) → Within (found folder files of word) 4
-  found_rank of word r n fails is = of_rank r refusal.NotFound n 4 fails.1 refl is
+  person_rank : (word : List ℕ) (person : Id) → Within (found (person_finder files folder word) person) 4
+  person_rank word person r n fails is = of_rank r refusal.NotFound n 4 (no_id_is side.Identities files folder word r fails).1 refl is
+
+  bug_rank : (word : List ℕ) (bug : HeadEntry) → Within (found (bug_finder files folder word) bug) 4
+  bug_rank word bug r n fails is = elim (no_head_is side.Bugs files folder word r fails) [
+    | inl none ↦ of_rank r refusal.NotFound n 4 none.1 refl is
+    | inr bad ↦ of_none r (refusal.Damaged bad.0) n 4 bad.1 refl is
+  ]
 
 sizes_rank : (texts : List (List ℕ)) → Within (sizes texts) 7
 sizes_rank texts r n fails is = of_rank r (refusal.TooLarge (MOST_BYTES + 1)) n 7 fails.1 refl is
@@ -118,8 +127,8 @@ edit_adds_rank : (env : Env) (files : Files) (word : List ℕ) (e : BugEdit) (op
 edit_adds_rank env files word e op r n fails is = of_rank r (no_change e) n 5 (refused_as env e (bug_says fails.0.entity) r fails.1).1 (no_change_rank e) is
 
 module _ (folder : List ℕ) (files : Files) (word : List ℕ) where
-  bug_reads_rank : (rank : ℕ) → Within (bug_reads folder files word) rank
-  bug_reads_rank rank r n fails is = of_none r (refusal.Damaged (joined folder (ref_place side.Bugs fails.0))) n rank fails.3 refl is
+  bug_reads_rank : (bug : HeadEntry) (rank : ℕ) → Within (bug_reads folder files bug) rank
+  bug_reads_rank bug rank r n fails is = of_none r (refusal.Damaged (joined folder (ref_place side.Bugs bug.id))) n rank fails.1 refl is
 
   clock_room_rank : Within (clock_room folder files word) 6
   clock_room_rank r n fails is = of_rank r (refusal.ClockFull fails.0.bug.name) n 6 fails.2 refl is
@@ -133,8 +142,8 @@ module _ (folder : List ℕ) (files : Files) (word : List ℕ) where
 -- ---- each command
 
 -- the checks of each command ascend
-checks_ascend : (env : Env) (command : Edit) (op : BugOp) (old : History) → Ascend 0 (doing_of env command op old).checks
-checks_ascend env (edit.UserNew name email) op old =
+checks_ascend : (env : Env) (command : Edit) (picked : Picked) (old : History) → Ascend 0 (doing_of env command picked old).checks
+checks_ascend env (edit.UserNew name email) picked old =
     let files = files_of old in
     let objects = new_objects env name email None in (
       2,
@@ -147,7 +156,7 @@ checks_ascend env (edit.UserNew name email) op old =
         (7, omega arith, sizes_rank objects, (8, omega arith, fresh_rank env.folder files side.Identities (new_made env name email None).id, (9, omega arith, names_rank env.folder objects old, tt))),
       ),
     )
-checks_ascend env (edit.UserEdit name email) op old =
+checks_ascend env (edit.UserEdit name email) picked old =
     let files = files_of old in
     let objects = new_objects env name email (option_map (λ (e : HeadEntry). e.name) (user_entry files env.folder)) in (
       2,
@@ -170,8 +179,8 @@ checks_ascend env (edit.UserEdit name email) op old =
         ),
       ),
     )
-checks_ascend env (edit.UserSet word) op old = (4, omega arith, found_rank env.folder (files_of old) side.Identities word, tt)
-checks_ascend env (edit.New title message) op old =
+checks_ascend env (edit.UserSet word) picked old = (4, omega arith, person_rank env.folder (files_of old) word picked.person, tt)
+checks_ascend env (edit.New title message) picked old =
     let files = files_of old in
     let new = create_op env title message in
     let objects = addition_objects env.now (option_map (root_addition env.folder files new) (some_id (user_at files env.folder))) in (
@@ -190,9 +199,9 @@ checks_ascend env (edit.New title message) op old =
         ),
       ),
     )
-checks_ascend env (edit.OfBug word e) op old =
+checks_ascend env (edit.OfBug word e) picked old =
     let files = files_of old in
-    let objects = addition_objects env.now (option_and_then (later_by env.folder files word op) (some_id (user_at files env.folder))) in (
+    let objects = addition_objects env.now (option_and_then (later_by env.folder files picked.bug picked.op) (some_id (user_at files env.folder))) in (
       2,
       omega arith,
       words_rank (bad_edit e) (env.now ≤ LIMIT),
@@ -207,15 +216,15 @@ checks_ascend env (edit.OfBug word e) op old =
           (
             4,
             omega arith,
-            found_rank env.folder files side.Bugs word,
+            bug_rank env.folder files word picked.bug,
             (
               4,
               omega arith,
-              bug_reads_rank env.folder files word 4,
+              bug_reads_rank env.folder files word picked.bug 4,
               (
                 5,
                 omega arith,
-                edit_adds_rank env files word e op,
+                edit_adds_rank env files word e picked.op,
                 (
                   6,
                   omega arith,
@@ -224,7 +233,7 @@ checks_ascend env (edit.OfBug word e) op old =
                     7,
                     omega arith,
                     commit_room_rank env.folder files word,
-                    (7, omega arith, sizes_rank objects, (8, omega arith, new_operation_rank env.folder files word op, (9, omega arith, names_rank env.folder objects old, tt))),
+                    (7, omega arith, sizes_rank objects, (8, omega arith, new_operation_rank env.folder files word picked.op, (9, omega arith, names_rank env.folder objects old, tt))),
                   ),
                 ),
               ),
@@ -235,7 +244,7 @@ checks_ascend env (edit.OfBug word e) op old =
     )
 
 -- of the causes that hold, one that comes first is told
-pub told_in_order : (env : Env) (command : Edit) (op : BugOp) (old : History) (told other : Refusal) (first later : ℕ)
-    → FirstFails (doing_of env command op old).checks told → SomeFails (doing_of env command op old).checks other → rank_of told ≡ Some first → rank_of other ≡ Some later → first ≤ later
-told_in_order env command op old told other first later =
-    in_order 0 (doing_of env command op old).checks told other first later (checks_clear env command op old) (checks_ascend env command op old)
+pub told_in_order : (env : Env) (command : Edit) (picked : Picked) (old : History) (told other : Refusal) (first later : ℕ)
+    → FirstFails (doing_of env command picked old).checks told → SomeFails (doing_of env command picked old).checks other → rank_of told ≡ Some first → rank_of other ≡ Some later → first ≤ later
+told_in_order env command picked old told other first later =
+    in_order 0 (doing_of env command picked old).checks told other first later (checks_clear env command picked old) (checks_ascend env command picked old)

@@ -11,11 +11,12 @@ use Rattle.object_store.specs.declared.read.TheConstants.{MOST_BYTES}
 use Rattle.bug_ops.specs.declared.op.BugOp.{BugOp}
 use Rattle.commit_walk.specs.declared.below.TheConstants.{MOST_COMMITS}
 use Rattle.dag_entity.specs.Nodes.{edit_at}
+use Rattle.repo_state.specs.Finds.{bug_finder}
 use Rattle.repo_state.specs.Users.{User, user_at}
 use Rattle.repo_state.specs.declared.env.Env.{Env}
 use Rattle.repo_state.specs.declared.refusal.Refusal.{Refusal}
 use Rattle.repo_state.specs.declared.refusal.Refusal.TheVariants as refusal
-use Rattle.repo_state.specs.declared.side.Side.TheVariants as side
+use Rattle.repo_state.specs.declared.side.HeadEntry.{HeadEntry}
 use Rattle.repo_state.proofs.BugLemmas.{head_edit}
 use Rattle.repo_steps.specs.BugDoings.{HasBug, addition_objects, bug_reads, bug_says, clock_room, commit_room, edit_adds, later_by, new_operation, some_id}
 use Rattle.repo_steps.specs.BugEdits.{bad_edit, edit_op}
@@ -32,17 +33,17 @@ use Rattle.repo_steps.proofs.EffectLemmas.{refused_as}
 -- ---- which check told a refusal
 
 -- none of these checks fails with a refusal
-abbrev Never : List Check → Refusal → Type 0
+abbrev pub Never : List Check → Refusal → Type 0
 Never [] r = ⊤
 Never (check ∷ checks) r = (check.Fails r → ⊥) × Never checks r
 
-none_told : (checks : List Check) (r : Refusal) → Never checks r → FirstFails checks r → ⊥
+pub none_told : (checks : List Check) (r : Refusal) → Never checks r → FirstFails checks r → ⊥
 none_told [] r never fails = fails
 none_told (check ∷ checks) r never (inl fails) = never.0 fails
 none_told (check ∷ checks) r never (inr later) = none_told checks r never.1 later.1
 
 -- a check tells it, where none of the others does
-told_by : (before : List Check) (check : Check) (behind : List Check) (r : Refusal) → Never before r → Never behind r → FirstFails (before ++ check ∷ behind) r → check.Fails r
+pub told_by : (before : List Check) (check : Check) (behind : List Check) (r : Refusal) → Never before r → Never behind r → FirstFails (before ++ check ∷ behind) r → check.Fails r
 told_by [] check behind r before_never behind_never (inl fails) = fails
 told_by [] check behind r before_never behind_never (inr later) = absurd (none_told behind r behind_never later.1)
 told_by (first ∷ before) check behind r before_never behind_never (inl fails) = absurd (before_never.0 fails)
@@ -79,19 +80,19 @@ module _ (env : Env) (e : BugEdit) (word : List ℕ) (old : History) where
   held = objects_in files env.folder
 
   -- what is checked before the room of the bug
-  abbrev first_checks : BugOp → List Check
-  first_checks op =
+  abbrev first_checks : HeadEntry → BugOp → List Check
+  first_checks bug op =
       words (bad_edit e) (env.now ≤ LIMIT) ∷
       user_file env.folder files ∷
       some_user env.folder files ∷
-      found env.folder files side.Bugs word ∷
-      bug_reads env.folder files word ∷
+      found (bug_finder files env.folder word) bug ∷
+      bug_reads env.folder files bug ∷
       edit_adds env files word e op ∷ []
 
   -- and behind it
-  abbrev last_checks : BugOp → List Check
-  last_checks op =
-      let objects = addition_objects env.now (option_and_then (later_by env.folder files word op) (some_id (user_at files env.folder))) in
+  abbrev last_checks : HeadEntry → BugOp → List Check
+  last_checks bug op =
+      let objects = addition_objects env.now (option_and_then (later_by env.folder files bug op) (some_id (user_at files env.folder))) in
       sizes objects ∷ new_operation env.folder files word op ∷ names env.folder objects old ∷ []
 
   -- the edit clock of the bug's head
@@ -105,9 +106,10 @@ module _ (env : Env) (e : BugEdit) (word : List ℕ) (old : History) where
   pub only_full_clocks : (name : Name) → Refused env (edit.OfBug word e) old (refusal.ClockFull name)
       → (bug : HasBug env.folder files word) × (name ≡ bug.bug.name) × (edit_at held bug.bug.name ≡ Some LIMIT)
   only_full_clocks name fails =
-      let op = fails.0 in
-      let told = told_by (first_checks op) (clock_room env.folder files word) (commit_room env.folder files word ∷ last_checks op) (refusal.ClockFull name)
-      ((λ f. cc f.2), ((λ f. cc f.1), ((λ f. cc f.1), ((λ f. cc f.1), ((λ f. cc f.3), ((λ f. no_change_full e name (refused_as env e (bug_says f.0.entity) (refusal.ClockFull name) f.1).1), tt))))))
+      let bug = (fails.0).bug in
+      let op = (fails.0).op in
+      let told = told_by (first_checks bug op) (clock_room env.folder files word) (commit_room env.folder files word ∷ last_checks bug op) (refusal.ClockFull name)
+      ((λ f. cc f.2), ((λ f. cc f.1), ((λ f. cc f.1), ((λ f. f), ((λ f. cc f.1), ((λ f. no_change_full e name (refused_as env e (bug_says f.0.entity) (refusal.ClockFull name) f.1).1), tt))))))
       ((λ f. cc f.2), ((λ f. cc f.1), ((λ f. cc f.2), ((λ f. cc f.2), tt))))
       fails.1 in
       let same_name : name ≡ told.0.bug.name = let is = told.2 in cc in
@@ -117,10 +119,11 @@ module _ (env : Env) (e : BugEdit) (word : List ℕ) (old : History) where
   pub only_many_commits : Refused env (edit.OfBug word e) old (refusal.TooLarge (MOST_COMMITS + 1))
       → (bug : HasBug env.folder files word) × (MOST_COMMITS ≤ length bug.entity.packs)
   only_many_commits fails =
-      let op = fails.0 in
+      let bug = (fails.0).bug in
+      let op = (fails.0).op in
       let count = MOST_COMMITS + 1 in
-      let told = told_by (first_checks op ++ clock_room env.folder files word ∷ []) (commit_room env.folder files word) (last_checks op) (refusal.TooLarge count)
-      ((λ f. cc f.2), ((λ f. cc f.1), ((λ f. cc f.1), ((λ f. cc f.1), ((λ f. cc f.3), ((λ f. no_change_large e count (refused_as env e (bug_says f.0.entity) (refusal.TooLarge count) f.1).1), ((λ f. cc f.2), tt)))))))
+      let told = told_by (first_checks bug op ++ clock_room env.folder files word ∷ []) (commit_room env.folder files word) (last_checks bug op) (refusal.TooLarge count)
+      ((λ f. cc f.2), ((λ f. cc f.1), ((λ f. cc f.1), ((λ f. f), ((λ f. cc f.1), ((λ f. no_change_large e count (refused_as env e (bug_says f.0.entity) (refusal.TooLarge count) f.1).1), ((λ f. cc f.2), tt)))))))
       ((λ f. absurd (omega (arith, same_count count (MOST_BYTES + 1) f.1))), ((λ f. cc f.2), ((λ f. cc f.2), tt)))
       fails.1 in
       (told.0, told.1)
@@ -129,12 +132,12 @@ module _ (env : Env) (e : BugEdit) (word : List ℕ) (old : History) where
   module _ (user : Id) (kept : bad_edit e ≡ None) (now : env.now ≤ LIMIT) (is_user : user_at files env.folder ≡ User user) (bug : HasBug env.folder files word)
       (op : BugOp) (adds : edit_op env e (bug_says bug.entity) ≡ Ok op) (rules : MayWriteOp op) where
     -- all before its room passes
-    reached : (r : Refusal) → FirstFails (clock_room env.folder files word ∷ commit_room env.folder files word ∷ last_checks op) r → Refused env (edit.OfBug word e) old r
+    reached : (r : Refusal) → FirstFails (clock_room env.folder files word ∷ commit_room env.folder files word ∷ last_checks bug.bug op) r → Refused env (edit.OfBug word e) old r
     reached r fails = (
-      op,
+      record { op = op; bug = bug.bug; person = bug.bug.id },
       inr (
         (kept, now),
-        inr ((λ bad. cc (sym is_user ∙ bad)), inr ((λ lacks. cc (sym is_user ∙ lacks)), inr ((bug.bug.id, bug.finds.found), inr (bug, inr ((bug, adds, rules), fails))))),
+        inr ((λ bad. cc (sym is_user ∙ bad)), inr ((λ lacks. cc (sym is_user ∙ lacks)), inr (bug.finds, inr ((bug.entity, bug.is), inr ((bug, adds, rules), fails))))),
       ),
     )
 

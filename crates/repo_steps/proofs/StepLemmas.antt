@@ -24,6 +24,7 @@ use Rattle.repo_state.proofs.PlaceLemmas.{clock-not_object, clock-not_user, cloc
 use Rattle.repo_steps.specs.BugDoings.{addition_head, later_addition, root_addition}
 use Rattle.repo_steps.specs.NewOps.{create_op, op_id}
 use Rattle.repo_steps.specs.PeopleDoings.{new_made}
+use Rattle.repo_state.proofs.FoundLemmas.{finds_the_same}
 use Rattle.repo_steps.specs.Steps.{BugBegins, BugGrows, IsObjectFile, OnlyChanges, Steps, UserEditSteps, UserNewSteps, UserSetSteps, first_user, first_user_place}
 use Rattle.repo_steps.specs.declared.edit.BugEdit.{BugEdit}
 use Rattle.repo_steps.specs.declared.edit.Edit.{Edit}
@@ -177,7 +178,7 @@ set-same env word old one two first second here there = record {
 }
   where
     ids : first ≡ second
-    ids = let both : Some first ≡ Some second = sym here.named ∙ there.named in cc
+    ids = finds_the_same first second here.found there.found
 
     files : one ≡ two
     files = here.only ∙ ap (λ (id : Id). written old (user_write env.folder id)) ids ∙ sym there.only

@@ -11,7 +11,7 @@ use Rattle.op_kind.specs.declared.place.Common.{Common}
 use Rattle.bug_ops.specs.declared.op.BugOp.{BugOp}
 use Rattle.bug_ops.specs.declared.op.BugOp.TheVariants.{LabelChange, SetTitle}
 use Rattle.bug_ops.specs.declared.snapshot.Snapshot.{Snapshot}
-use Rattle.repo_state.specs.Sides.{found_by}
+use Rattle.repo_state.specs.Finds.{Finds, Nothing}
 use Rattle.repo_state.specs.Users.{User, user_at}
 use Rattle.repo_state.specs.declared.env.Env.{Env}
 use Rattle.repo_state.specs.declared.refusal.Refusal.TheVariants as refusal
@@ -25,6 +25,7 @@ use Rattle.repo_steps.specs.declared.edit.BugEdit.{BugEdit}
 use Rattle.repo_steps.specs.declared.edit.BugEdit.TheVariants as kind
 use Rattle.repo_steps.specs.declared.edit.Edit.{Edit}
 use Rattle.repo_steps.specs.declared.edit.Edit.TheVariants as edit
+use Rattle.repo_steps.proofs.PickLemmas.{no_pick}
 use Rattle.repo_steps.proofs.SayLemmas.{added_is, change_is, status_is}
 
 -- ---- words
@@ -91,11 +92,11 @@ none_bad command told = none_false 1 (words_keep command) (sym (word_is command)
 
 -- whatever else is so, a command is refused with it
 pub told_so : (env : Env) (command : Edit) (old : History) (place : ℕ) → bad_word_of command ≡ Some place → Refused env command old (refusal.BadText place)
-told_so env (edit.UserNew name email) old place told = (noop_op env, inl (place, told, refl))
-told_so env (edit.UserEdit name email) old place told = (noop_op env, inl (place, told, refl))
+told_so env (edit.UserNew name email) old place told = (no_pick env, inl (place, told, refl))
+told_so env (edit.UserEdit name email) old place told = (no_pick env, inl (place, told, refl))
 told_so env (edit.UserSet word) old place told = absurd (cc told)
-told_so env (edit.New title message) old place told = (noop_op env, inl (place, told, refl))
-told_so env (edit.OfBug word e) old place told = (noop_op env, inl (place, told, refl))
+told_so env (edit.New title message) old place told = (no_pick env, inl (place, told, refl))
+told_so env (edit.OfBug word e) old place told = (no_pick env, inl (place, told, refl))
 
 -- the place of a word that does not keep its rule
 abbrev told_at : ℕ → Bool → Option ℕ
@@ -163,11 +164,11 @@ writes_what_is_taken_off env labels bug op is =
 -- ---- a word that finds nothing
 
 pub no_bug_found : (env : Env) (e : BugEdit) (word : List ℕ) (old : History) (user : Id) → bad_edit e ≡ None → env.now ≤ LIMIT
-    → user_at (files_of old) env.folder ≡ User user → found_by (files_of old) env.folder side.Bugs word ≡ None
+    → user_at (files_of old) env.folder ≡ User user → Finds (files_of old) env.folder side.Bugs word Nothing
     → Refused env (edit.OfBug word e) old refusal.NotFound
 no_bug_found env e word old user kept now is none =
-    (noop_op env, inr ((kept, now), inr ((λ bad. cc (sym is ∙ bad)), inr ((λ lacks. cc (sym is ∙ lacks)), inl (none, refl)))))
+    (no_pick env, inr ((kept, now), inr ((λ bad. cc (sym is ∙ bad)), inr ((λ lacks. cc (sym is ∙ lacks)), inl none))))
 
-pub no_person_found : (env : Env) (word : List ℕ) (old : History) → found_by (files_of old) env.folder side.Identities word ≡ None
+pub no_person_found : (env : Env) (word : List ℕ) (old : History) → Finds (files_of old) env.folder side.Identities word Nothing
     → Refused env (edit.UserSet word) old refusal.NotFound
-no_person_found env word old none = (noop_op env, inl (none, refl))
+no_person_found env word old none = (no_pick env, inl none)

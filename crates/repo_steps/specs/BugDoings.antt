@@ -1,4 +1,4 @@
--- What each command on bugs does: when it is refused, what it writes, and the id that it tells.
+-- What each command on bugs does: when it is refused, what it writes, and the id that it returns.
 use Rattle.std.specs.Prelude.{◌≡◌, ◌≤◌, ◌+◌, ℕ, List, [], ◌∷◌, ◌++◌, length, map, Contains, Option, Some, None, option_and_then, Ok, Err, if◌then◌else◌}
 use Rattle.std.specs.Option.{option_map}
 use Rattle.gb_text.specs.Folder.{joined}
@@ -22,10 +22,11 @@ use Rattle.dag_entity.specs.Appending.{appended_name, appended_objects}
 use Rattle.dag_entity.specs.Entities.{ops_in}
 use Rattle.dag_entity.specs.Nodes.{edit_at}
 use Rattle.dag_entity.specs.declared.entity.Entity.{Entity}
-use Rattle.repo_state.specs.Bugs.{FindsBug, IsBug, IsDamagedBug}
+use Rattle.repo_state.specs.Bugs.{FindsBug, HasBugFault, IsBug}
 use Rattle.repo_state.specs.Clocks.{clock_at, see_writes}
-use Rattle.repo_state.specs.Sides.{found_by, head_at, ref_place}
-use Rattle.repo_state.specs.Users.{UserFound, BadUser, NoUser, User, entry_by, user_at}
+use Rattle.repo_state.specs.Finds.{bug_finder}
+use Rattle.repo_state.specs.Sides.{ref_place}
+use Rattle.repo_state.specs.Users.{UserFound, BadUser, NoUser, User, user_at}
 use Rattle.repo_state.specs.declared.clocks.ClockFile.TheVariants as file
 use Rattle.repo_state.specs.declared.env.Env.{Env}
 use Rattle.repo_state.specs.declared.refusal.Refusal.{Refusal}
@@ -34,7 +35,7 @@ use Rattle.repo_state.specs.declared.side.HeadEntry.{HeadEntry}
 use Rattle.repo_state.specs.declared.side.Side.TheVariants as side
 use Rattle.repo_steps.specs.BugEdits.{bad_edit, edit_op}
 use Rattle.repo_steps.specs.Checks.{Check}
-use Rattle.repo_steps.specs.Doing.{Doing, words, user_file, some_user, sizes, fresh, names, found}
+use Rattle.repo_steps.specs.Doing.{Doing, HeadSet, Shown, words, user_file, some_user, sizes, fresh, names, found}
 use Rattle.repo_steps.specs.NewOps.{MayWriteOp, create_op, one_op_pack, op_id}
 use Rattle.repo_steps.specs.declared.edit.Addition.{Addition}
 use Rattle.repo_steps.specs.declared.edit.BugEdit.{BugEdit}
@@ -71,6 +72,19 @@ addition_writes env files (Some a) =
     missing_writes env.folder (addition_objects env.now (Some a)) files
     ++ ref_write env.folder (ref_place side.Bugs a.bug) (addition_head env.now a) ∷ clock_writes env.folder files a.pack
 
+-- the head of a bug, a commit over the parents that the addition has: none for a new bug, the present head for another
+abbrev pub bug_set : ℕ → Addition → HeadSet
+bug_set now a = record { of = side.Bugs; id = a.bug; head = addition_head now a; parents = a.parents }
+
+-- the clocks of a pack, by the files to which they are shown
+abbrev pub shown_create : Option ℕ → List Shown
+shown_create None = []
+shown_create (Some create) = record { which = file.BugsCreate; number = create } ∷ []
+
+abbrev pub addition_shows : Option Addition → List Shown
+addition_shows None = []
+addition_shows (Some a) = shown_create a.pack.create ++ record { which = file.BugsEdit; number = a.pack.edit } ∷ []
+
 -- the user, if there is one
 abbrev pub some_id : UserFound → Option Id
 some_id NoUser = None
@@ -93,17 +107,9 @@ later_addition folder files op author bug edit = record {
   pack = one_op_pack author (edit_time_of (clock_at files folder file.BugsEdit) edit) None op;
 }
 
--- the bug that a word finds, with its head, where its ref reads
-abbrev pub bug_entry : List ℕ → Files → List ℕ → Option HeadEntry
-bug_entry folder files word = option_and_then (λ (id : Id). entry_by id (head_at files folder side.Bugs id)) (found_by files folder side.Bugs word)
-
--- what the user adds to the bug at a head that has an edit clock
-abbrev pub added_by : List ℕ → Files → BugOp → Id → HeadEntry → Option Addition
-added_by folder files op author bug = option_map (later_addition folder files op author bug) (edit_at (objects_in files folder) bug.name)
-
--- what the user adds to the bug that a word finds
-abbrev pub later_by : List ℕ → Files → List ℕ → BugOp → Id → Option Addition
-later_by folder files word op author = option_and_then (added_by folder files op author) (bug_entry folder files word)
+-- what the user adds to a bug at a head that has an edit clock
+abbrev pub later_by : List ℕ → Files → HeadEntry → BugOp → Id → Option Addition
+later_by folder files bug op author = option_map (later_addition folder files op author bug) (edit_at (objects_in files folder) bug.name)
 
 -- ---- checks of a bug
 
@@ -114,11 +120,11 @@ pub record HasBug (folder : List ℕ) (files : Files) (word : List ℕ) : Type 0
   pub entity : Entity BugOp
   pub is : IsBug files folder bug entity
 
--- nothing is wrong with the bug that a word finds
-abbrev pub bug_reads : List ℕ → Files → List ℕ → Check
-bug_reads folder files word = record {
-  Fails = λ r. (id : Id) × (found_by files folder side.Bugs word ≡ Some id) × IsDamagedBug files folder id × (r ≡ refusal.Damaged (joined folder (ref_place side.Bugs id)));
-  Passes = HasBug folder files word;
+-- nothing is wrong with the entity of the bug at this head
+abbrev pub bug_reads : List ℕ → Files → HeadEntry → Check
+bug_reads folder files bug = record {
+  Fails = λ r. HasBugFault files folder bug × (r ≡ refusal.Damaged (joined folder (ref_place side.Bugs bug.id)));
+  Passes = (entity : Entity BugOp) × IsBug files folder bug entity;
 }
 
 -- nothing of this kind bars the bug that a word finds
@@ -172,29 +178,35 @@ begun_bug env bad op old =
           sizes objects ∷
           fresh env.folder files side.Bugs (op_id op) ∷
           names env.folder objects old ∷ [];
+      objects = objects;
+      sets = option_map (bug_set env.now) addition;
+      shows = addition_shows addition;
       writes = addition_writes env files addition;
       told = Some (op_id op);
     }
 
--- the operation that an edit adds to the bug that a word finds, by the user
-abbrev pub longer_bug : Env → BugEdit → List ℕ → BugOp → History → Doing
-longer_bug env edit word op old =
+-- the operation that an edit adds to the bug that a word finds, at its head, by the user
+abbrev pub longer_bug : Env → BugEdit → List ℕ → HeadEntry → BugOp → History → Doing
+longer_bug env edit word bug op old =
     let files = files_of old in
-    let addition = option_and_then (later_by env.folder files word op) (some_id (user_at files env.folder)) in
+    let addition = option_and_then (later_by env.folder files bug op) (some_id (user_at files env.folder)) in
     let objects = addition_objects env.now addition in
     record {
       checks =
           words (bad_edit edit) (env.now ≤ LIMIT) ∷
           user_file env.folder files ∷
           some_user env.folder files ∷
-          found env.folder files side.Bugs word ∷
-          bug_reads env.folder files word ∷
+          found (bug_finder files env.folder word) bug ∷
+          bug_reads env.folder files bug ∷
           edit_adds env files word edit op ∷
           clock_room env.folder files word ∷
           commit_room env.folder files word ∷
           sizes objects ∷
           new_operation env.folder files word op ∷
           names env.folder objects old ∷ [];
+      objects = objects;
+      sets = option_map (bug_set env.now) addition;
+      shows = addition_shows addition;
       writes = addition_writes env files addition;
       told = Some (op_id op);
     }

@@ -1,4 +1,5 @@
--- What each edit of a bug that stands adds to it: one operation, by its words and by what the bug says; and when it adds none.
+-- What each edit of an existing bug adds to it: one operation, from its arguments and what the bug says; and when it
+-- adds none.
 use Rattle.std.specs.Prelude.{ℕ, ◌+◌, Bool, true, false, not, List, [], ◌∷◌, filter, Option, Some, None, Result, Ok, Err, if◌then◌else◌}
 use Rattle.gb_text.specs.Rules.{is_message_text, is_title_text}
 use Rattle.gb_text.specs.declared.id.Id.{Id}

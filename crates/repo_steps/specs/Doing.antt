@@ -9,15 +9,33 @@ use Rattle.gb_store.specs.declared.store.Change.{Change}
 use Rattle.object_store.specs.declared.read.TheConstants.{MOST_BYTES}
 use Rattle.object_batch.specs.Batches.{CannotHave, HasLong, MayBePut}
 use Rattle.object_store.specs.Texts.{IsShort}
-use Rattle.repo_state.specs.Sides.{found_by, has_ref}
+use Rattle.repo_state.specs.Finds.{Finder}
+use Rattle.repo_state.specs.Sides.{has_ref}
 use Rattle.repo_state.specs.Users.{BadUser, NoUser, user_at, user_place}
+use Rattle.repo_state.specs.declared.clocks.ClockFile.{ClockFile}
 use Rattle.repo_state.specs.declared.refusal.Refusal.TheVariants as refusal
 use Rattle.repo_state.specs.declared.side.Side.{Side}
 use Rattle.repo_steps.specs.Checks.{Check}
 
--- What a command does: its checks in their order, its writes in their order, and the id that it tells.
+-- a head that a command sets: of which side and id, and the parents of its commit
+pub record HeadSet : Type 0 where
+  pub of : Side
+  pub id : Id
+  pub head : Name
+  pub parents : List Name
+
+-- a clock that is shown to a clock file
+pub record Shown : Type 0 where
+  pub which : ClockFile
+  pub number : ℕ
+
+-- What a command does: its checks in their order; the texts of the objects that it makes, the head that it sets if it sets one,
+-- and the clocks that it shows; its writes in their order, which are of these and perhaps of the user; and the id that it tells.
 pub record Doing : Type 1 where
   pub checks : List Check
+  pub objects : List (List ℕ)
+  pub sets : Option HeadSet
+  pub shows : List Shown
   pub writes : List Change
   pub told : Option Id
 
@@ -53,12 +71,9 @@ fresh folder files of id = record {
 abbrev pub names : List ℕ → List (List ℕ) → History → Check
 names folder texts old = record { Fails = λ r. (name : Name) × CannotHave folder texts old name × (r ≡ refusal.NameTaken name); Passes = MayBePut folder texts old }
 
--- the word finds an entity
-abbrev pub found : List ℕ → Files → Side → List ℕ → Check
-found folder files of word = record {
-  Fails = λ r. (found_by files folder of word ≡ None) × (r ≡ refusal.NotFound);
-  Passes = (id : Id) × (found_by files folder of word ≡ Some id);
-}
+-- a word finds this
+abbrev pub found : {T : Type 0} → Finder T → T → Check
+found finder value = record { Fails = finder.Fails; Passes = finder.Found value }
 
 -- ---- what is made
 

@@ -2,7 +2,6 @@
 use Rattle.std.specs.Prelude.{ℕ, List, Option, None, Result}
 use Rattle.gb_text.specs.declared.id.Id.{Id}
 use Rattle.gb_store.specs.Files.{History}
-use Rattle.bug_ops.specs.declared.op.BugOp.{BugOp}
 use Rattle.repo_state.specs.declared.env.Env.{Env}
 use Rattle.repo_state.specs.declared.refusal.Refusal.{Refusal}
 use Rattle.repo_state.specs.declared.refusal.Stop.{Stop}
@@ -14,6 +13,7 @@ use Rattle.repo_steps.specs.declared.edit.BugEdit.{BugEdit}
 use Rattle.repo_steps.specs.declared.edit.Edit.{Edit}
 use Rattle.repo_steps.specs.declared.edit.Edit.TheVariants as edit
 use Rattle.repo_steps.specs.Doing.{Doing}
+use Rattle.repo_steps.specs.Picked.{Picked}
 use Rattle.repo_steps.specs.PeopleDoings.{bad_person, edited_user, new_user, set_user}
 
 -- the place, counted from 1, of the first word of a command that breaks its rule
@@ -24,31 +24,30 @@ bad_word_of (edit.UserSet word) = None
 bad_word_of (edit.New title message) = bad_bug title message
 bad_word_of (edit.OfBug bug e) = bad_edit e
 
--- What a command does after these writes. The operation is the one that an edit adds to a bug that stands, which its checks
--- tell from all others; no other command asks for it.
-abbrev pub doing_of : Env → Edit → BugOp → History → Doing
-doing_of env (edit.UserNew name email) op old = new_user env name email old
-doing_of env (edit.UserEdit name email) op old = edited_user env name email old
-doing_of env (edit.UserSet word) op old = set_user env word old
-doing_of env (edit.New title message) op old = new_bug env title message old
-doing_of env (edit.OfBug bug e) op old = longer_bug env e bug op old
+-- What a command does after these writes, where it picks this.
+abbrev pub doing_of : Env → Edit → Picked → History → Doing
+doing_of env (edit.UserNew name email) picked old = new_user env name email old
+doing_of env (edit.UserEdit name email) picked old = edited_user env name email old
+doing_of env (edit.UserSet word) picked old = set_user env word picked.person old
+doing_of env (edit.New title message) picked old = new_bug env title message old
+doing_of env (edit.OfBug word e) picked old = longer_bug env e word picked.bug picked.op old
 
 -- nothing keeps a command from being done
 abbrev pub MayStep : Env → Edit → History → Type 0
-MayStep env command old = (op : BugOp) × AllPass (doing_of env command op old).checks
+MayStep env command old = (picked : Picked) × AllPass (doing_of env command picked old).checks
 
 -- a command is refused by the first of its checks that fails
 abbrev pub Refused : Env → Edit → History → Refusal → Type 0
-Refused env command old r = (op : BugOp) × FirstFails (doing_of env command op old).checks r
+Refused env command old r = (picked : Picked) × FirstFails (doing_of env command picked old).checks r
 
 -- a command was done, and told this id
 abbrev pub Done : Env → Edit → History → History → Id → Type 0
-Done env command old new id = (op : BugOp) × IsDone (doing_of env command op old) old new id
+Done env command old new id = (picked : Picked) × IsDone (doing_of env command picked old) old new id
 
 -- the answer to a command, with what was written
 abbrev pub EditAnswers : Env → Edit → History → History → Result Id Stop → Type 0
-EditAnswers env command old new result = (op : BugOp) × DoingAnswers (doing_of env command op old) old new result
+EditAnswers env command old new result = (picked : Picked) × DoingAnswers (doing_of env command picked old) old new result
 
 -- the answer to an edit of a bug that stands, with what was written
 abbrev pub BugEditAnswers : Env → BugEdit → List ℕ → History → History → Result Id Stop → Type 0
-BugEditAnswers env e word old new result = (op : BugOp) × DoingAnswers (longer_bug env e word op old) old new result
+BugEditAnswers env e word old new result = EditAnswers env (edit.OfBug word e) old new result

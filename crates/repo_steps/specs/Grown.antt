@@ -1,4 +1,4 @@
--- What a bug says, by the entity that is read anew from the files, once a command has written to it.
+-- What a bug says when its entity is read back from the files after a command has written to it.
 use Rattle.std.specs.Prelude.{◌≡◌, ◌++◌, ℕ, List, [], ◌∷◌}
 use Rattle.gb_text.specs.declared.id.Id.{Id}
 use Rattle.gb_store.specs.Files.{Files}

@@ -6,10 +6,11 @@ pub mod Doing
 pub mod Doings
 pub mod Effects
 pub mod Grown
-pub mod Kept
-pub mod Kinds
 pub mod NewOps
+pub mod Own
 pub mod PeopleDoings
+pub mod Picked
 pub mod Ranks
 pub mod Steps
 pub mod WordRules
+pub mod Writes

@@ -1,4 +1,5 @@
--- What each command on people does: when it is refused, what it writes, and the id that it tells.
+-- What each command on people does: when it is refused, what it writes, and the id that it
+-- returns.
 use Rattle.std.specs.Prelude.{◌≡◌, ◌<◌, ◌⊎◌, ◌+◌, ℕ, List, [], ◌∷◌, ◌++◌, length, Option, Some, None, if◌then◌else◌}
 use Rattle.std.specs.Option.{option_map}
 use Rattle.gb_text.specs.Folder.{joined}
@@ -17,14 +18,15 @@ use Rattle.identity.specs.Persons.{IdentityFaultHolds, IsChain}
 use Rattle.identity.specs.Version.{MayBeWritten, version_text_of}
 use Rattle.identity.specs.declared.fault.IdentityFault.{IdentityFault}
 use Rattle.identity.specs.declared.making.Made.{Made}
-use Rattle.repo_state.specs.Sides.{found_by, head_at, ref_place}
+use Rattle.repo_state.specs.Finds.{person_finder}
+use Rattle.repo_state.specs.Sides.{head_at, ref_place}
 use Rattle.repo_state.specs.Users.{UserFound, BadUser, NoUser, User, user_at, user_entry, user_write}
 use Rattle.repo_state.specs.declared.env.Env.{Env}
 use Rattle.repo_state.specs.declared.refusal.Refusal.TheVariants as refusal
 use Rattle.repo_state.specs.declared.side.HeadEntry.{HeadEntry}
 use Rattle.repo_state.specs.declared.side.Side.TheVariants as side
 use Rattle.repo_steps.specs.Checks.{Check}
-use Rattle.repo_steps.specs.Doing.{Doing, words, user_file, some_user, sizes, fresh, names, found, nonce_from}
+use Rattle.repo_steps.specs.Doing.{Doing, HeadSet, words, user_file, some_user, sizes, fresh, names, found, nonce_from}
 
 -- ---- checks
 
@@ -97,10 +99,17 @@ first_user_write folder NoUser id = user_write folder id ∷ []
 first_user_write folder (User other) id = []
 first_user_write folder BadUser id = []
 
--- the write of the user, if there is one
-abbrev pub set_writes : List ℕ → Option Id → List Change
-set_writes folder None = []
-set_writes folder (Some id) = user_write folder id ∷ []
+-- ---- heads
+
+-- the first version of a new person, which has no parent
+abbrev pub person_set : Env → List ℕ → List ℕ → HeadSet
+person_set env name email =
+    record { of = side.Identities; id = (new_made env name email None).id; head = (new_made env name email None).head; parents = [] }
+
+-- the next version of the user, over the present head
+abbrev pub version_set : Env → List ℕ → List ℕ → HeadEntry → HeadSet
+version_set env name email user =
+    record { of = side.Identities; id = user.id; head = (new_made env name email (Some user.name)).head; parents = user.name ∷ [] }
 
 -- ---- the commands
 
@@ -113,6 +122,9 @@ new_user env name email old = record {
       sizes (new_objects env name email None) ∷
       fresh env.folder (files_of old) side.Identities (new_made env name email None).id ∷
       names env.folder (new_objects env name email None) old ∷ [];
+  objects = new_objects env name email None;
+  sets = Some (person_set env name email);
+  shows = [];
   writes =
       version_writes env name email (new_made env name email None).id None (files_of old)
       ++ first_user_write env.folder (user_at (files_of old) env.folder) (new_made env name email None).id;
@@ -133,16 +145,20 @@ edited_user env name email old =
           user_room env.folder (files_of old) ∷
           sizes (new_objects env name email parent) ∷
           names env.folder (new_objects env name email parent) old ∷ [];
+      objects = new_objects env name email parent;
+      sets = option_map (version_set env name email) user;
+      shows = [];
       writes = user_writes env name email (files_of old) user;
       told = option_map (λ (e : HeadEntry). e.id) user;
     }
 
--- the identity that the word names becomes the user
-abbrev pub set_user : Env → List ℕ → History → Doing
-set_user env word old =
-    let id = found_by (files_of old) env.folder side.Identities word in
-    record {
-      checks = found env.folder (files_of old) side.Identities word ∷ [];
-      writes = set_writes env.folder id;
-      told = id;
-    }
+-- the person that the word finds becomes the user
+abbrev pub set_user : Env → List ℕ → Id → History → Doing
+set_user env word person old = record {
+  checks = found (person_finder (files_of old) env.folder word) person ∷ [];
+  objects = [];
+  sets = None;
+  shows = [];
+  writes = user_write env.folder person ∷ [];
+  told = Some person;
+}

@@ -1,4 +1,4 @@
--- The one order of refusals: which cause is told where several hold.
+-- The one order of refusals: which cause is reported if several hold.
 use Rattle.std.specs.Prelude.{◌⊎◌, ℕ, List, [], ◌∷◌, Option, Some, None}
 use Rattle.repo_state.specs.declared.refusal.Refusal.{Refusal}
 use Rattle.repo_state.specs.declared.refusal.Refusal.TheVariants as refusal

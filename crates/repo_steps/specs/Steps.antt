@@ -1,6 +1,6 @@
--- The step of each command that edits: what it changes of the files, and the id that it tells.
-use Rattle.std.specs.Prelude.{◌≡◌, ℕ, List, [], ◌∷◌, Contains, false, IsTrue, Some, None, Ok}
-use Rattle.gb_text.specs.Digits.{IsName, id_of}
+-- The step of each command that edits: what it changes in the files, and the id that it returns.
+use Rattle.std.specs.Prelude.{◌≡◌, ℕ, List, [], ◌∷◌, Contains, false, Some, None, Ok}
+use Rattle.gb_text.specs.Digits.{IsName}
 use Rattle.gb_text.specs.Folder.{joined}
 use Rattle.gb_text.specs.declared.id.Id.{Id}
 use Rattle.gb_text.specs.declared.id.Name.{Name}
@@ -20,6 +20,7 @@ use Rattle.dag_entity.specs.Extending.{begun, extended}
 use Rattle.dag_entity.specs.declared.entity.Entity.{Entity}
 use Rattle.repo_state.specs.Bugs.{IsBug}
 use Rattle.repo_state.specs.Clocks.{clock_at, clock_place}
+use Rattle.repo_state.specs.Finds.{Finds, One}
 use Rattle.repo_state.specs.Sides.{has_ref, head_at, ref_place}
 use Rattle.repo_state.specs.Users.{UserFound, BadUser, NoUser, User, user_at, user_place, user_write}
 use Rattle.repo_state.specs.declared.clocks.ClockFile.TheVariants as file
@@ -81,10 +82,9 @@ pub record UserEditSteps (env : Env) (name email : List ℕ) (old new : Files) (
   pub only : OnlyChanges env.folder (ref_place side.Identities user.id ∷ []) old new
   pub is_told : told ≡ user.id
 
--- The identity that the word names is the user. Its id is told.
+-- The person whom the word finds is the user. Its id is told.
 pub record UserSetSteps (env : Env) (word : List ℕ) (old new : Files) (told : Id) : Type 0 where
-  pub named : id_of word ≡ Some told
-  pub stands : IsTrue (has_ref old env.folder side.Identities told)
+  pub found : Finds old env.folder side.Identities word (One told)
   pub user : user_at new env.folder ≡ User told
   pub only : new ≡ written old (user_write env.folder told)
 

@@ -1,6 +1,5 @@
-//! Laws of the commands that edit, and of the kinds of write, each the contract of a function that
-//! does nothing.
-ghost use Rattle.std.specs.Prelude.{◌≡◌, ◌≢◌, ◌≤◌, ◌<◌, ◌+◌, length, [], ◌∷◌, ◌++◌, ◌||◌, ◌&&◌, false, true, not, List, ℕ, Some, None, Result, Ok, Err, reverse};
+//! Laws of the commands that edit, each the contract of a function that does nothing.
+ghost use Rattle.std.specs.Prelude.{◌≡◌, ◌≢◌, ◌≤◌, ◌<◌, ◌+◌, length, [], ◌∷◌, ◌++◌, ◌||◌, ◌&&◌, true, not, List, ℕ, Some, None, Result, Ok, Err};
 ghost use Rattle.sha2.specs.Sha256.{sha256};
 ghost use Rattle.std.specs.List.Sorted.{IsStrictlySortedBy};
 ghost use Rattle.std.specs.Option.{option_or};
@@ -18,24 +17,19 @@ ghost use Rattle.repo_steps.specs.BugEdits.{bad_edit, edit_op, named_off, named_
 ghost use Rattle.repo_steps.specs.Effects.{ChangesNothing, KeepsAllElse, no_change};
 ghost use Rattle.repo_steps.specs.declared.edit.BugEdit.{BugEdit as BugEditValue};
 ghost use Rattle.repo_steps.specs.declared.edit.BugEdit.TheVariants as kind;
-ghost use Rattle.gb_text.specs.Digits.{IsId};
 ghost use Rattle.gb_text.specs.Rules.{is_message_text, is_title_text};
 ghost use Rattle.gb_text.specs.declared.decimal.TheConstants.{LIMIT};
-ghost use Rattle.gb_text.specs.Folder.{is_rooted, joined};
-ghost use Rattle.gb_text.specs.Overlap.{Overlap};
 ghost use Rattle.gb_text.specs.declared.id.Id.{Id};
 ghost use Rattle.gb_text.specs.declared.id.Name.{Name};
 ghost use Rattle.gb_store.specs.Files.{Files, History, files_of, written};
-ghost use Rattle.gb_store.specs.Moments.{AllMoments, Wrote};
+ghost use Rattle.gb_store.specs.Moments.{Wrote, WroteBy};
 ghost use Rattle.gb_store.specs.declared.store.Change.{Change};
-ghost use Rattle.object_store.specs.Growth.{OnlyGrew};
 ghost use Rattle.object_store.specs.Held.{objects_in};
-ghost use Rattle.commit_chain.specs.Chain.{Meets};
-ghost use Rattle.commit_walk.specs.Below.{IsBelow};
 ghost use Rattle.ref_store.specs.Refs.{Head};
 ghost use Rattle.repo_state.specs.Clocks.{clock_at, clock_write};
-ghost use Rattle.repo_state.specs.Sides.{found_by, head_at};
-ghost use Rattle.repo_state.specs.Sound.{IsSound, KeepsParts};
+ghost use Rattle.repo_state.specs.Finds.{Finds, Nothing};
+ghost use Rattle.repo_state.specs.Sides.{head_at};
+ghost use Rattle.repo_state.specs.Sound.{IsSound};
 ghost use Rattle.repo_state.specs.Stops.{number_of};
 ghost use Rattle.repo_state.specs.Users.{User, user_at};
 ghost use Rattle.repo_state.specs.declared.clocks.ClockFile.{ClockFile as ClockFileValue};
@@ -53,12 +47,13 @@ ghost use Rattle.repo_steps.specs.Checks.{FirstFails};
 ghost use Rattle.repo_steps.specs.Ranks.{SomeFails, rank_of};
 ghost use Rattle.repo_steps.specs.Doing.{nonce_from};
 ghost use Rattle.repo_steps.specs.Doings.{Done, EditAnswers, MayStep, Refused, bad_word_of, doing_of};
+ghost use Rattle.repo_steps.specs.Writes.{IsWriteOf};
 ghost use Rattle.repo_steps.specs.WordRules.{IsFirstBad, IsOfTheMoment, all_keep, words_keep};
-ghost use Rattle.repo_steps.specs.Kept.{LosesNothing};
-ghost use Rattle.repo_steps.specs.Kinds.{IsPlace, IsWrite, is_dotless};
+ghost use Rattle.repo_writes.specs.Kinds.{IsWrite};
 ghost use Rattle.repo_steps.specs.Steps.{BugBegins, BugGrows, Steps};
 ghost use Rattle.repo_steps.specs.BugDoings.{HasBug, bug_says};
 ghost use Rattle.repo_steps.specs.Grown.{EndsWithTheEdit, begun_says};
+ghost use Rattle.repo_steps.specs.Picked.{Picked};
 ghost use Rattle.repo_steps.specs.NewOps.{MayWriteOp, create_op};
 ghost use Rattle.repo_state.specs.Bugs.{IsBug};
 ghost use Rattle.repo_state.specs.declared.side.HeadEntry.{HeadEntry as HeadEntryValue};
@@ -66,7 +61,7 @@ ghost use Rattle.dag_entity.specs.declared.entity.Entity.{Entity as EntityValue}
 ghost use Rattle.repo_steps.specs.declared.edit.Edit.{Edit as EditValue};
 ghost use Rattle.repo_steps.specs.declared.edit.Edit.TheVariants.{New, OfBug, UserSet};
 
-/// Whatever a command answers, each of its writes is of a kind at its moment.
+/// Whatever a command answers, each of its writes is of one of the five kinds when it is made.
 pub fn edits_write_by_kinds()
     ensures { (env : EnvValue) (command : EditValue) (old new : History)
         (result : Result Id StopValue)
@@ -74,17 +69,25 @@ pub fn edits_write_by_kinds()
         → Wrote (IsWrite env.folder) old new }
 {}
 
-/// A command that was done has made its step, and told its id.
+/// Whatever a command answers, each of its writes is the next of those that it computes from the files
+/// at entry, where every check of it passes, and is of a kind at its moment. So a call puts no object,
+/// sets no head and raises no clock but its own, in its own order.
+pub fn edits_write_their_own()
+    ensures { (env : EnvValue) (command : EditValue) (old new : History)
+        (result : Result Id StopValue)
+        → EditAnswers env command old new result
+        → WroteBy (IsWriteOf env command) old new }
+{}
+
+/// A done command has made its step and returned the step's id.
 pub fn done_edits_make_their_step()
     ensures { (env : EnvValue) (command : EditValue) (old new : History) (id : Id)
         → Done env command old new id
         → Steps env command (files_of old) (files_of new) id }
 {}
 
-/// After an edit of it a bug says what the words of the edit say, by all of its operations and the one
-/// that the edit adds, wherever that then stands: the bug has the title, or the status; each label
-/// that was on or was named is on, or each that was on and was not named; the message is its last
-/// comment; or under each key stands what stood there, and under one with nothing what the edit sets.
+/// With the operation that an edit adds, a bug has the title, status, labels, comment or metadata that
+/// the edit's arguments ask for.
 pub fn edits_say_what_they_change()
     ensures title { (env : EnvValue) (ops : List OpValue) (op : OpValue) → IsBugList ops
         → (place : PlaceValue) (title : List ℕ)
@@ -121,8 +124,7 @@ pub fn edits_say_what_they_change()
         (first_value (record { key = key; value = value } ∷ []) other) }
 {}
 
-/// What an edit does not speak of stays as it was: after a title the bug has the labels, the comments
-/// and all else that it had, and so with each edit. Only who acted, and the clock and the time of the
+/// What an edit does not mention stays as it was. Only who acted, and the clock and the time of the
 /// last operation, follow every edit.
 pub fn edits_keep_all_else()
     ensures { (env : EnvValue) (ops : List OpValue) (op : OpValue) → IsBugList ops
@@ -131,9 +133,9 @@ pub fn edits_keep_all_else()
         (snapshot_of (ops ++ bug_kind.placed place op ∷ [])) }
 {}
 
-/// Behind those who acted before stands the author of the edit, if not among them; the clock of the last
-/// operation is that of its place, and the time that of the command. Who comments stands so behind those
-/// who took part, and a comment more is counted.
+/// After an edit its author is last among those who acted, unless already listed, and the last clock and
+/// time are the edit's. Who comments stands so behind those who took part, and a comment more is
+/// counted.
 pub fn edits_tell_who_acted_and_when()
     ensures acted { (env : EnvValue) (ops : List OpValue) (op : OpValue) → IsBugList ops
         → (place : PlaceValue) (edit : BugEditValue) → edit_op env edit (snapshot_of ops) ≡ Ok op
@@ -150,8 +152,8 @@ pub fn edits_tell_who_acted_and_when()
         × (new.comments ≡ one_more old.comments) }
 {}
 
-/// By what a bug says its edit is refused exactly where it would change nothing: the bug has the
-/// status, each label to put on is on, or no label to take off is.
+/// An edit of labels or status is refused for what the bug says exactly when it would change
+/// nothing.
 pub fn edits_that_change_nothing_are_refused()
     ensures refused { (env : EnvValue) (edit : BugEditValue) (bug : SnapshotValue)
         → ChangesNothing edit bug → edit_op env edit bug ≡ Err (no_change edit) }
@@ -160,8 +162,7 @@ pub fn edits_that_change_nothing_are_refused()
         → ChangesNothing edit bug × (refusal ≡ no_change edit) }
 {}
 
-/// Labels that are put on ascend in byte order, each once, however they were named; and those that are
-/// taken off where those of the bug do.
+/// Added labels ascend in byte order, each once, and removed labels do if those of the bug do.
 pub fn changed_labels_ascend()
     ensures put_on { (on named : List (List ℕ))
         → IsStrictlySortedBy by_bytes (named_off on named) }
@@ -169,8 +170,7 @@ pub fn changed_labels_ascend()
         → IsStrictlySortedBy by_bytes (named_on on named) }
 {}
 
-/// The operation of an edit of labels has those that change by it, and no other: to put on, each that is
-/// named and off, and none to take off; or to take off, each that is named and on, and none to put on.
+/// An edit of labels writes exactly the labels that it changes.
 pub fn labels_that_change_are_written()
     ensures adds { (env : EnvValue) (labels : List (List ℕ)) (bug : SnapshotValue) (op : OpValue)
         → edit_op env (kind.AddLabels labels) bug ≡ Ok op
@@ -184,9 +184,8 @@ pub fn labels_that_change_are_written()
         → is_among (named_on on named) label ≡ (is_among named label && is_among on label) }
 {}
 
-/// What is told of words that break a rule is the place of the first of them, counted from 1 over all
-/// words of the command, and the command is refused with it; and none is told where each keeps its rule.
-/// A comment, what begins a bug, and a value under a key may be any message, of several lines too.
+/// A command is refused with the place of the first argument that breaks its rule, counted from 1. A
+/// comment, what begins a bug, and a value under a key may be any message, of several lines too.
 pub fn first_bad_words_are_told()
     ensures first { (command : EditValue) (place : ℕ) → bad_word_of command ≡ Some place
         → IsFirstBad (words_keep command) place }
@@ -201,9 +200,9 @@ pub fn first_bad_words_are_told()
         × (bad_word_of (OfBug word (kind.Metadata title message)) ≡ None) }
 {}
 
-/// The operation of an edit is of the moment, by the seed, and has neither metadata of its own nor
-/// files, and so is the one that begins a bug. A title's names the title that the bug had. Unlike seeds
-/// give unlike nonces, but for two texts with one SHA-256.
+/// An operation that a command makes has the command's time and seed, and neither metadata of its own
+/// nor files. A title's names the title that the bug had. Unlike seeds give unlike nonces, but for two
+/// texts with one SHA-256.
 pub fn operations_are_made_anew()
     ensures added { (env : EnvValue) (edit : BugEditValue) (bug : SnapshotValue) (op : OpValue)
         → edit_op env edit bug ≡ Ok op → IsOfTheMoment env op }
@@ -217,23 +216,22 @@ pub fn operations_are_made_anew()
         × (sha256 text ≡ sha256 second) }
 {}
 
-/// A command whose word finds no bug, or no person, is refused for that: an edit of a bug once its
-/// words keep their rules, the moment is one that may be written, and there is a user.
+/// A command whose argument finds no bug, or no person, is refused for that, after the checks that
+/// come first.
 pub fn words_that_find_nothing_are_refused()
     ensures bugs { (env : EnvValue) (edit : BugEditValue) (word : List ℕ) (old : History) (user : Id)
         → bad_edit edit ≡ None → env.now ≤ LIMIT
         → user_at (files_of old) env.folder ≡ User user
-        → found_by (files_of old) env.folder side.Bugs word ≡ None
+        → Finds (files_of old) env.folder side.Bugs word Nothing
         → Refused env (OfBug word edit) old refusal.NotFound }
     ensures persons { (env : EnvValue) (word : List ℕ) (old : History)
-        → found_by (files_of old) env.folder side.Identities word ≡ None
+        → Finds (files_of old) env.folder side.Identities word Nothing
         → Refused env (UserSet word) old refusal.NotFound }
 {}
 
-/// An edit is refused for a full clock only where the edit clock of the bug's head is the last that is
-/// written, and for too many commits only where the bug has the most that are read. Where its words keep
-/// their rules, there is a user and it adds an operation, it is refused so wherever one or the other is
-/// so, for the clock where both are.
+/// An edit is refused for a full clock only if the head has the last edit clock, and for too many
+/// commits only if the bug has the most. Where its words keep their rules, there is a user and it adds
+/// an operation, it is refused so wherever one or the other is so, for the clock where both are.
 pub fn full_bugs_are_refused()
     ensures clock_only { (env : EnvValue) (edit : BugEditValue) (word : List ℕ) (old : History)
         (name : Name) → Refused env (OfBug word edit) old (refusal.ClockFull name)
@@ -259,23 +257,22 @@ pub fn full_bugs_are_refused()
         → Refused env (OfBug word edit) old (refusal.TooLarge (MOST_COMMITS + 1)) }
 {}
 
-/// The last writes of `new` are the clock of creations and then that of edits, each one further, where
-/// neither is at its cap.
+/// The last writes of `new` are the create clock and then the edit clock, each one higher, if neither
+/// is at its cap.
 pub fn create_clocks_are_written_first()
-    ensures { (env : EnvValue) (title message : List ℕ) (op : OpValue) (old : History) (user : Id)
+    ensures { (env : EnvValue) (title message : List ℕ) (picked : Picked) (old : History) (user : Id)
         → user_at (files_of old) env.folder ≡ User user
         → clock_at (files_of old) env.folder file.BugsCreate < CAP
         → clock_at (files_of old) env.folder file.BugsEdit < CAP
         → let create = clock_at (files_of old) env.folder file.BugsCreate in
         let edit = clock_at (files_of old) env.folder file.BugsEdit in
-        (before : List Change) × ((doing_of env (New title message) op old).writes
+        (before : List Change) × ((doing_of env (New title message) picked old).writes
         ≡ before ++ clock_write env.folder file.BugsCreate (create + 1)
         ∷ clock_write env.folder file.BugsEdit (edit + 1) ∷ []) }
 {}
 
-/// Read anew from the files after the step of an edit, the bug that its word finds says what it said
-/// before with the edit's operation behind all others. A new bug says its title, its message and who
-/// made it when, and nothing else.
+/// Read back after an edit, the bug says what it said before with the edit's operation after all
+/// others. A new bug says its title, its message and who made it when, and nothing else.
 pub fn written_bugs_are_read_so()
     ensures grown { (env : EnvValue) (edit : BugEditValue) (word : List ℕ) (old new : Files)
         (told : Id) (step : BugGrows env edit word old new told)
@@ -288,68 +285,8 @@ pub fn written_bugs_are_read_so()
         → bug_says entity ≡ begun_says env old title message step.user told }
 {}
 
-/// What is written by kinds keeps each part of a folder sound at each moment, wherever it stops. So it
-/// keeps a sound folder sound.
-pub fn writes_keep_folders_sound()
-    ensures parts { (folder : List ℕ) (old new : History) → Wrote (IsWrite folder) old new
-        → KeepsParts folder old new }
-    ensures whole { (folder : List ℕ) (old new : History) → KeepsParts folder old new
-        → IsSound folder (files_of old) → AllMoments (IsSound folder) old new }
-{}
-
-/// A write loses nothing: objects are only added, below the head of an identity or of a bug stands
-/// what stood there before it, and no clock falls.
-pub fn writes_lose_nothing()
-    ensures objects { (folder : List ℕ) (files : Files) (change : Change)
-        → IsWrite folder files change
-        → OnlyGrew (objects_in files folder) (objects_in (written files change) folder) }
-    ensures heads { (folder : List ℕ) (files : Files) (change : Change)
-        → IsWrite folder files change
-        → (id : Id) → IsId id → (head : Name) → head_at files folder side.Identities id ≡ Head head
-        → (later : Name) × (head_at (written files change) folder side.Identities id ≡ Head later)
-        × Meets (objects_in (written files change) folder) later head }
-    ensures bugs { (folder : List ℕ) (files : Files) (change : Change)
-        → IsWrite folder files change
-        → (id : Id) → IsId id → (head : Name) → head_at files folder side.Bugs id ≡ Head head
-        → (later : Name) × (head_at (written files change) folder side.Bugs id ≡ Head later)
-        × IsBelow (objects_in (written files change) folder) (later ∷ []) head }
-    ensures clocks { (folder : List ℕ) (files : Files) (change : Change)
-        → IsWrite folder files change
-        → (which : ClockFileValue)
-        → clock_at files folder which ≤ clock_at (written files change) folder which }
-{}
-
-/// What is written by kinds loses nothing of its folder, wherever it stops; and calls that lose
-/// nothing, one after the other, lose nothing.
-pub fn calls_lose_nothing()
-    ensures one { (folder : List ℕ) (old new : History) → Wrote (IsWrite folder) old new
-        → AllMoments (LosesNothing folder (files_of old)) old new }
-    ensures then { (folder : List ℕ) (old mid new : Files) → LosesNothing folder old mid
-        → LosesNothing folder mid new → LosesNothing folder old new }
-{}
-
-/// What is written in a folder keeps each part of every folder that does not overlap it, and loses
-/// nothing of that.
-pub fn folders_apart_stay_sound()
-    ensures parts { (folder other : List ℕ) (old new : History) → (Overlap folder other → ⊥)
-        → Wrote (IsWrite other) old new → KeepsParts folder old new }
-    ensures kept { (folder other : List ℕ) (old new : History) → (Overlap folder other → ⊥)
-        → Wrote (IsWrite other) old new
-        → AllMoments (LosesNothing folder (files_of old)) old new }
-{}
-
-/// A write is of an object, a ref, the user or a clock below its folder. No such place begins with a
-/// slash or holds a dot, so none leaves the folder by a part `..`.
-pub fn writes_stay_below_their_folder()
-    ensures below { (folder : List ℕ) (files : Files) (change : Change)
-        → IsWrite folder files change
-        → (place : List ℕ) × IsPlace place × (change.path ≡ joined folder place) }
-    ensures plain { (place : List ℕ) → IsPlace place → is_rooted place ≡ false }
-    ensures dotless { (place : List ℕ) → IsPlace place → is_dotless place ≡ true }
-{}
-
-/// A command that nothing keeps from being done has no refusal, and one that is refused has one number
-/// of refusal. So a refusal comes exactly where its reason holds and no earlier one does.
+/// A command that may be done has no refusal, and a refused command has one number of refusal. So a
+/// refusal comes exactly where its reason holds and no earlier one does.
 pub fn refusals_are_determined()
     ensures done { (env : EnvValue) (command : EditValue) (old : History) (refusal : RefusalValue)
         → MayStep env command old → Refused env command old refusal → ⊥ }
@@ -359,14 +296,13 @@ pub fn refusals_are_determined()
         → number_of first ≡ number_of second }
 {}
 
-/// Of the causes that hold, one that comes first in the order of refusals is told: words, the user,
-/// what a word finds, what would not change, clocks, sizes, what stands already, names of objects.
-/// Damage is told where a file is read, and has no place in it.
+/// Of the causes that hold, one that comes first in the order of refusals is reported. Damage is
+/// told where a file is read, and has no place in it.
 pub fn refusals_are_told_in_order()
-    ensures { (env : EnvValue) (command : EditValue) (op : OpValue) (old : History)
+    ensures { (env : EnvValue) (command : EditValue) (picked : Picked) (old : History)
         (told other : RefusalValue) (first later : ℕ)
-        → FirstFails (doing_of env command op old).checks told
-        → SomeFails (doing_of env command op old).checks other
+        → FirstFails (doing_of env command picked old).checks told
+        → SomeFails (doing_of env command picked old).checks other
         → rank_of told ≡ Some first → rank_of other ≡ Some later → first ≤ later }
 {}
 
@@ -377,8 +313,8 @@ pub fn sound_folders_are_not_damaged()
         → IsSound env.folder (files_of old) → Refused env command old (refusal.Damaged path) → ⊥ }
 {}
 
-/// From the same files, every step of a command tells the same id, and after it each head and each
-/// clock reads the same and the user is the same.
+/// From the same files, every step of a command returns the same id and leaves the same heads, user
+/// and clocks.
 pub fn steps_are_determined()
     ensures told { (env : EnvValue) (command : EditValue) (old one two : Files) (first second : Id)
         → Steps env command old one first → Steps env command old two second → first ≡ second }

@@ -15,6 +15,7 @@ use Rattle.repo_state.proofs.BugLemmas.{bug_no_fault, bug_not_damaged, one_bug, 
 use Rattle.render.specs.Log.{log_text_of}
 use Rattle.repo_view.specs.Log.{IsLog, LogAnswers}
 use Rattle.repo_state.specs.Sound.{IsSound}
+use Rattle.repo_state.proofs.FoundLemmas.{finds_not_both}
 use Rattle.repo_state.proofs.UndamagedLemmas.{no_bad_found}
 
 -- a word has one log
@@ -38,7 +39,7 @@ log_not_damaged files folder word path sound (id, found, at, wrong) = no_bad_fou
 
 -- nor is it refused
 pub no_refusal : (files : Files) (folder word text : List ℕ) (refused : Refusal) → LogAnswers files folder word (Ok text) → LogAnswers files folder word (Err (stop.Refused refused)) → ⊥
-no_refusal files folder word text refusal.NotFound log h = let none : Some (log.0).id ≡ None = sym log.1.found ∙ h in cc (none)
+no_refusal files folder word text refusal.NotFound log h = finds_not_both (log.0).id log.1.found h
 no_refusal files folder word text (refusal.Damaged path) log h = bug_not_damaged files folder word log.0 log.2.entity h.0 log.1 log.2.is h.1 h.3
 no_refusal files folder word text refusal.NoUser log h = absurd h
 no_refusal files folder word text (refusal.BadText place) log h = absurd h

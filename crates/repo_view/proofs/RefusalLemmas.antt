@@ -1,14 +1,15 @@
 -- From the same files and words a command that reads is refused in one way.
 use Rattle.std.proofs.Common.{◌≡◌, ◌⊎◌, ℕ, inl, inr, List, Some, None, Err, refl, sym, ◌∙◌, ap, subst}
-use Rattle.std.proofs.lemmas.Option.{same_Some}
 use Rattle.gb_text.specs.Folder.{joined}
 use Rattle.gb_text.specs.declared.id.Id.{Id}
 use Rattle.gb_store.specs.Files.{Files}
-use Rattle.repo_state.specs.Sides.{found_by, ref_place}
+use Rattle.repo_state.specs.Finds.{Finds, Nothing}
+use Rattle.repo_state.specs.Sides.{ref_place}
 use Rattle.repo_state.specs.declared.refusal.Refusal.{Refusal}
 use Rattle.repo_state.specs.declared.refusal.Refusal.TheVariants as refusal
 use Rattle.repo_state.specs.declared.refusal.Stop.TheVariants as stop
 use Rattle.repo_state.specs.declared.side.Side.TheVariants as side
+use Rattle.repo_state.proofs.FoundLemmas.{finds_not_both, finds_the_same}
 use Rattle.repo_view.specs.Log.{LogAnswers}
 use Rattle.repo_view.specs.Shown.{ShowAnswers, UsersAnswers}
 use Rattle.repo_view.proofs.PeopleLemmas.{no_bad_among, one_bad_person}
@@ -28,7 +29,7 @@ one_missed IsTold FindsNone same apart one two (inr (path, is, told)) (inr (othe
 
 module _ (files : Files) (folder word : List ℕ) where
   abbrev FindsNone : Type 0
-  FindsNone = found_by files folder side.Bugs word ≡ None
+  FindsNone = Finds files folder side.Bugs word Nothing
 
   -- ---- `log`
 
@@ -42,10 +43,10 @@ module _ (files : Files) (folder word : List ℕ) where
 
   one_log_path : (one two : List ℕ) → LogTold one → LogTold two → one ≡ two
   one_log_path one two (id, found, at, wrong) (other, also, there, damaged) =
-      at ∙ ap (λ (bug : Id). joined folder (ref_place side.Bugs bug)) (same_Some id other (sym found ∙ also)) ∙ sym there
+      at ∙ ap (λ (bug : Id). joined folder (ref_place side.Bugs bug)) (finds_the_same id other found also) ∙ sym there
 
   log_apart : (path : List ℕ) → FindsNone → LogTold path → ⊥
-  log_apart path none told = let both : Some told.0 ≡ None = sym told.1 ∙ none in cc (both)
+  log_apart path none told = finds_not_both told.0 told.1 none
 
   pub one_log_refusal : (one two : Refusal) → LogAnswers files folder word (Err (stop.Refused one)) → LogAnswers files folder word (Err (stop.Refused two)) → one ≡ two
   one_log_refusal one two first second = one_missed LogTold FindsNone one_log_path log_apart one two (log_missed one first) (log_missed two second)
@@ -66,8 +67,8 @@ module _ (files : Files) (folder word : List ℕ) where
   one_show_path one two (inr first) (inr second) = one_bad_person files folder one two first.4 second.4
 
   show_apart : (path : List ℕ) → FindsNone → ShowTold path → ⊥
-  show_apart path none (inl told) = let both : Some told.0 ≡ None = sym told.1 ∙ none in cc (both)
-  show_apart path none (inr told) = let both : Some (told.0).id ≡ None = sym told.1.found ∙ none in cc (both)
+  show_apart path none (inl told) = finds_not_both told.0 told.1 none
+  show_apart path none (inr told) = finds_not_both (told.0).id told.1.found none
 
   pub one_show_refusal : (one two : Refusal) → ShowAnswers files folder word (Err (stop.Refused one)) → ShowAnswers files folder word (Err (stop.Refused two)) → one ≡ two
   one_show_refusal one two first second = one_missed ShowTold FindsNone one_show_path show_apart one two (show_missed one first) (show_missed two second)

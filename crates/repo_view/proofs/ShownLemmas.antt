@@ -24,7 +24,8 @@ use Rattle.render.specs.Show.{comment_lines, person_line, person_lines, show_tex
 use Rattle.render.specs.Users.{users_text_of}
 use Rattle.repo_state.specs.Answers.{HasBadPerson, IsBadPerson}
 use Rattle.repo_state.specs.Bugs.{AreLocal, FindsBug, IsDamagedBug}
-use Rattle.repo_state.specs.Sides.{found_by, ref_place}
+use Rattle.repo_state.specs.Finds.{Finds, One}
+use Rattle.repo_state.specs.Sides.{ref_place}
 use Rattle.repo_state.specs.Sound.{IsSound, IsSoundIdentity}
 use Rattle.repo_state.specs.Sound as parts
 use Rattle.repo_state.specs.declared.refusal.Refusal.{Refusal}
@@ -33,6 +34,7 @@ use Rattle.repo_state.specs.declared.refusal.Stop.TheVariants as stop
 use Rattle.repo_state.specs.declared.side.HeadEntry.{HeadEntry}
 use Rattle.repo_state.specs.declared.side.Side.TheVariants as side
 use Rattle.repo_state.proofs.BugLemmas.{bug_no_fault, bug_not_damaged, one_bug}
+use Rattle.repo_state.proofs.FoundLemmas.{finds_not_both, finds_the_same}
 use Rattle.repo_state.proofs.UndamagedLemmas.{no_bad_found}
 use Rattle.repo_view.specs.Shown.{AgreeOnAuthors, HaveSameCommits, IsShown, ShowAnswers, UsersAnswers}
 use Rattle.repo_view.proofs.PeopleLemmas.{no_bad_among, one_bad_person, one_people, one_user, user_not_bad}
@@ -145,7 +147,7 @@ shown_no_fault files folder word text bug authors fault shown finds locals holds
 
 -- a bug that is shown is not refused
 pub show_not_refused : (files : Files) (folder word text : List ℕ) (refused : Refusal) → ShowAnswers files folder word (Ok text) → ShowAnswers files folder word (Err (stop.Refused refused)) → ⊥
-show_not_refused files folder word text refusal.NotFound shown h = let none : Some (shown.0).id ≡ None = sym shown.1.found ∙ h in cc (none)
+show_not_refused files folder word text refusal.NotFound shown h = finds_not_both (shown.0).id shown.1.found h
 show_not_refused files folder word text (refusal.Damaged path) shown (inl h) = bug_not_damaged files folder word shown.0 shown.2.entity h.0 shown.1 shown.2.is_bug h.1 h.3
 show_not_refused files folder word text (refusal.Damaged path) shown (inr (bug, finds, entity, is, bad)) = no_bad_among files folder path shown.2.people shown.2.are_people bad
 show_not_refused files folder word text refusal.NoUser shown h = absurd h
@@ -224,10 +226,10 @@ users_not_damaged files folder path sound (inr (people, are, bad)) = sound parts
 -- ---- what is told first
 
 -- a bug with which something is wrong is told, and no person
-pub bug_told_first : (files : Files) (folder word path : List ℕ) (id : Id) → found_by files folder side.Bugs word ≡ Some id → IsDamagedBug files folder id
+pub bug_told_first : (files : Files) (folder word path : List ℕ) (id : Id) → Finds files folder side.Bugs word (One id) → IsDamagedBug files folder id
     → ShowAnswers files folder word (Err (stop.Refused (refusal.Damaged path))) → path ≡ joined folder (ref_place side.Bugs id)
 bug_told_first files folder word path id found wrong (inl (other, has, at, damaged)) =
-    at ∙ ap (λ (bug : Id). joined folder (ref_place side.Bugs bug)) (same_Some other id (sym has ∙ found))
+    at ∙ ap (λ (bug : Id). joined folder (ref_place side.Bugs bug)) (finds_the_same other id has found)
 bug_told_first files folder word path id found wrong (inr (bug, finds, entity, is, person)) = absurd (bug_not_damaged files folder word bug entity id finds is found wrong)
 
 -- where a person is damaged, one is told, and no user file

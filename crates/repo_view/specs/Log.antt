@@ -7,7 +7,8 @@ use Rattle.bug_ops.specs.declared.op.BugOp.{BugOp}
 use Rattle.dag_entity.specs.declared.entity.Entity.{Entity}
 use Rattle.render.specs.Log.{log_text_of}
 use Rattle.repo_state.specs.Bugs.{BugRefused, FindsBug, IsBug, IsDamagedBug, ReadsBelow}
-use Rattle.repo_state.specs.Sides.{found_by, ref_place}
+use Rattle.repo_state.specs.Finds.{Finds, Nothing, One}
+use Rattle.repo_state.specs.Sides.{ref_place}
 use Rattle.repo_state.specs.declared.refusal.Refusal.TheVariants as refusal
 use Rattle.repo_state.specs.declared.refusal.Stop.{Stop}
 use Rattle.repo_state.specs.declared.refusal.Stop.TheVariants as stop
@@ -25,9 +26,9 @@ abbrev pub LogAnswers : Files → List ℕ → List ℕ → Result (List ℕ) St
 LogAnswers files folder word (Ok text) = (bug : HeadEntry) × FindsBug files folder word bug × IsLog files folder bug text
 LogAnswers files folder word (Err stop.Memory) = ⊤
 LogAnswers files folder word (Err stop.Disk) = ⊤
-LogAnswers files folder word (Err (stop.Refused refusal.NotFound)) = found_by files folder side.Bugs word ≡ None
+LogAnswers files folder word (Err (stop.Refused refusal.NotFound)) = Finds files folder side.Bugs word Nothing
 LogAnswers files folder word (Err (stop.Refused (refusal.Damaged path))) =
-    (id : Id) × (found_by files folder side.Bugs word ≡ Some id) × (path ≡ joined folder (ref_place side.Bugs id)) × IsDamagedBug files folder id
+    (id : Id) × Finds files folder side.Bugs word (One id) × (path ≡ joined folder (ref_place side.Bugs id)) × IsDamagedBug files folder id
 LogAnswers files folder word (Err (stop.Refused _)) = ⊥
 
 -- ---- the answers to parts

@@ -18,7 +18,8 @@ use Rattle.render.specs.Users.{users_text_of}
 use Rattle.repo_state.specs.Answers.{HasBadPerson, IsBadUser, IsUser, ReadsPeople}
 use Rattle.repo_state.specs.Bugs.{FindsBug, IsBug, IsDamagedBug, ReadsBelow}
 use Rattle.repo_state.specs.People.{ArePeople}
-use Rattle.repo_state.specs.Sides.{found_by, ref_place}
+use Rattle.repo_state.specs.Finds.{Finds, Nothing, One}
+use Rattle.repo_state.specs.Sides.{ref_place}
 use Rattle.repo_state.specs.declared.refusal.Refusal.TheVariants as refusal
 use Rattle.repo_state.specs.declared.refusal.Stop.{Stop}
 use Rattle.repo_state.specs.declared.refusal.Stop.TheVariants as stop
@@ -56,9 +57,9 @@ abbrev pub ShowAnswers : Files → List ℕ → List ℕ → Result (List ℕ) S
 ShowAnswers files folder word (Ok text) = (bug : HeadEntry) × FindsBug files folder word bug × IsShown files folder bug text
 ShowAnswers files folder word (Err stop.Memory) = ⊤
 ShowAnswers files folder word (Err stop.Disk) = ⊤
-ShowAnswers files folder word (Err (stop.Refused refusal.NotFound)) = found_by files folder side.Bugs word ≡ None
+ShowAnswers files folder word (Err (stop.Refused refusal.NotFound)) = Finds files folder side.Bugs word Nothing
 ShowAnswers files folder word (Err (stop.Refused (refusal.Damaged path))) =
-    ((id : Id) × (found_by files folder side.Bugs word ≡ Some id) × (path ≡ joined folder (ref_place side.Bugs id)) × IsDamagedBug files folder id)
+    ((id : Id) × Finds files folder side.Bugs word (One id) × (path ≡ joined folder (ref_place side.Bugs id)) × IsDamagedBug files folder id)
     ⊎ ((bug : HeadEntry) × FindsBug files folder word bug × (entity : Entity BugOp) × IsBug files folder bug entity × HasBadPerson files folder path)
 ShowAnswers files folder word (Err (stop.Refused _)) = ⊥
 

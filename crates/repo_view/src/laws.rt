@@ -20,7 +20,8 @@ ghost use Rattle.object_store.specs.Held.{objects_in};
 ghost use Rattle.repo_state.specs.Answers.{HasBadPerson, IsUser};
 ghost use Rattle.repo_state.specs.Bugs.{AreLocal, FindsBug, IsBug, IsDamagedBug};
 ghost use Rattle.repo_state.specs.People.{ArePeople};
-ghost use Rattle.repo_state.specs.Sides.{found_by, ref_place};
+ghost use Rattle.repo_state.specs.Finds.{Finds, One};
+ghost use Rattle.repo_state.specs.Sides.{ref_place};
 ghost use Rattle.repo_state.specs.Sound.{IsSound};
 ghost use Rattle.repo_state.specs.declared.refusal.Refusal.{Refusal};
 ghost use Rattle.repo_state.specs.declared.refusal.Refusal.TheVariants as refusal;
@@ -30,9 +31,8 @@ ghost use Rattle.repo_state.specs.declared.side.Side.TheVariants as side;
 ghost use Rattle.repo_view.specs.Log.{LogAnswers};
 ghost use Rattle.repo_view.specs.Shown.{AgreeOnAuthors, HaveSameCommits, ShowAnswers, UsersAnswers};
 
-/// Where `log` may answer a text, nothing is wrong with the entity of the bug that the word finds, at
-/// its head and with the local identities as authors; and no refusal has a cause. So `log` answers a
-/// refusal exactly where its cause holds.
+/// If `log` may print a text, nothing is wrong with the bug's entity, and no refusal has a cause. So
+/// `log` answers a refusal exactly where its cause holds.
 pub fn a_log_has_no_fault()
     ensures fault { (files : Files) (folder word text : List ℕ) (bug : HeadEntry)
         (authors : List Id) (fault : EntityFault) → LogAnswers files folder word (Ok text)
@@ -44,7 +44,7 @@ pub fn a_log_has_no_fault()
         → LogAnswers files folder word (Err (stop.Refused refusal)) → ⊥ }
 {}
 
-/// `log` may answer one text at most, and one refusal, for the same files, folder and word.
+/// For the same files and arguments `log` has at most one text and one refusal.
 pub fn logs_are_determined()
     ensures told { (files : Files) (folder word one two : List ℕ)
         → LogAnswers files folder word (Ok one) → LogAnswers files folder word (Ok two)
@@ -60,9 +60,8 @@ pub fn sound_folders_have_logs()
         → LogAnswers files folder word (Err (stop.Refused (refusal.Damaged path))) → ⊥ }
 {}
 
-/// Where `show` may answer a text, nothing is wrong with the entity of the bug that the word finds, at
-/// its head and with the local identities as authors; and no refusal has a cause. So `show` answers a
-/// refusal exactly where its cause holds.
+/// If `show` may print a text, nothing is wrong with the bug's entity, and no refusal has a cause. So
+/// `show` answers a refusal exactly where its cause holds.
 pub fn a_shown_bug_has_no_fault()
     ensures fault { (files : Files) (folder word text : List ℕ) (bug : HeadEntry)
         (authors : List Id) (fault : EntityFault) → ShowAnswers files folder word (Ok text)
@@ -74,18 +73,17 @@ pub fn a_shown_bug_has_no_fault()
         → ShowAnswers files folder word (Err (stop.Refused refusal)) → ⊥ }
 {}
 
-/// Where `users` may answer a text, no refusal has a cause.
+/// If `users` may print a text, no refusal has a cause.
 pub fn shown_people_are_not_damaged()
     ensures { (files : Files) (folder text : List ℕ) (refusal : Refusal)
         → UsersAnswers files folder (Ok text)
         → UsersAnswers files folder (Err (stop.Refused refusal)) → ⊥ }
 {}
 
-/// What comes first is told first: where something is wrong with the bug, no person is told as damaged;
-/// and where a person is damaged, the user file is not.
+/// A damaged bug is reported before any damaged person, and a damaged person before the user file.
 pub fn the_first_damage_is_told()
     ensures show { (files : Files) (folder word path : List ℕ) (id : Id)
-        → found_by files folder side.Bugs word ≡ Some id → IsDamagedBug files folder id
+        → Finds files folder side.Bugs word (One id) → IsDamagedBug files folder id
         → ShowAnswers files folder word (Err (stop.Refused (refusal.Damaged path)))
         → path ≡ joined folder (ref_place side.Bugs id) }
     ensures users { (files : Files) (folder path other : List ℕ) → HasBadPerson files folder other
@@ -93,8 +91,8 @@ pub fn the_first_damage_is_told()
         → HasBadPerson files folder path }
 {}
 
-/// `show` may answer one text at most, and one refusal, for the same files, folder and word, and
-/// `users` one of each for the same files and folder. So of several damaged identities one is told.
+/// For the same files and arguments `show` and `users` have at most one text and one refusal each.
+/// So of several damaged identities one is told.
 pub fn shown_texts_are_determined()
     ensures show { (files : Files) (folder word one two : List ℕ)
         → ShowAnswers files folder word (Ok one) → ShowAnswers files folder word (Ok two)
@@ -109,9 +107,9 @@ pub fn shown_texts_are_determined()
         → UsersAnswers files folder (Err (stop.Refused two)) → one ≡ two }
 {}
 
-/// Bugs with the same operation commits are shown as the same text, in whatever folders they stand,
-/// where the people of both have the same names for the authors of the operations. The edges between
-/// the commits, commits without operations and all else in the folders have no part in it.
+/// Bugs with the same operation commits are shown as the same text, if both folders have the same
+/// names for their authors. The edges between the commits, commits without operations and all else
+/// in the folders have no part in it.
 pub fn same_commits_are_shown_the_same()
     ensures { (files others : Files) (folder place word words one two : List ℕ)
         (bug top : HeadEntry) → FindsBug files folder word bug → FindsBug others place words top
@@ -129,10 +127,11 @@ pub fn sound_folders_are_shown()
         → UsersAnswers files folder (Err (stop.Refused (refusal.Damaged path))) → ⊥ }
 {}
 
-/// What stands in the texts, in order. A log has a line for each commit of the entity of the bug that
-/// the word finds, in the order of its packs: the edit clock, a space, the name. A bug is shown by the
-/// list of its operations, with the names of the people of the folder. People have a line each, in the
-/// order of ids: the id, the name and the email with TABs between, and a star for the user.
+/// The texts of `log`, `show` and `users`, line by line. A log has a line for each commit of the
+/// entity of the bug that the word finds, in the order of its packs: the edit clock, a space, the
+/// name. A bug is shown by the list of its operations, with the names of the people of the folder.
+/// People have a line each, in the order of ids: the id, the name and the email with TABs between, and
+/// a star for the user.
 pub fn texts_tell_what_stands_there()
     ensures log { (files : Files) (folder word text : List ℕ)
         → LogAnswers files folder word (Ok text) → (bug : HeadEntry)

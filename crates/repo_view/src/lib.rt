@@ -1,4 +1,4 @@
-//! What is shown of a folder: a bug, its log, and the people.
+//! The commands that read a folder: a bug, its log, and the people.
 #![tactic(auto)]
 
 mod bug_log;

@@ -1,6 +1,6 @@
 use Rattle.std.proofs.Common.{◌≡◌, rules, ℕ, List, Option, Some, None, IsOk, map, string_bytes, refl, sym, subst}
 use Rattle.gb_store.specs.Files.{files_of}
-use Rattle.gb_store.proofs.MomentLemmas.{Wrote-none}
+use Rattle.gb_store.proofs.MomentLemmas.{WroteBy-none}
 use Rattle.bug_run.specs.Printed.{Printed}
 use Rattle.bug_run.specs.Reads.{ReadsAsked}
 use Rattle.bug_run.specs.Refusals.{usage_text}
@@ -36,7 +36,7 @@ returns-in-Ok-Some-clause-wrote g c = record {
 
 pub returns-in-Ok-Some-clause-sound : goal.returns-in-Ok-Some-clause-sound
 returns-in-Ok-Some-clause-sound g c = λ tells.
-    run_stays_sound (request_of (map string_bytes c.args.words.now)) (g.S.Store.history c.args.disk.now) (g.S.Store.history c.perform-outcome.new.disk)
+    run_stays_sound (call_of g.S.Store.tells g.K.Sink.tells g.K.Sink.takes_memory (map string_bytes c.args.words.now) c.args.now c.args.seed) (g.S.Store.history c.args.disk.now) (g.S.Store.history c.perform-outcome.new.disk)
     ((returns-in-Ok-Some-clause-wrote g c).wrote tells)
 
 pub returns-in-Ok-Some-clause-reads : goal.returns-in-Ok-Some-clause-reads
@@ -66,5 +66,5 @@ returns-in-Err-clause-answers g c =
 pub returns-in-Err-clause-sound : goal.returns-in-Err-clause-sound
 returns-in-Err-clause-sound g c = λ tells.
     let old = g.S.Store.history c.args.disk.now in
-    let asked = request_of (map string_bytes c.args.words.now) in
-    run_stays_sound asked old old (Wrote-none (RunWrites asked) old old refl)
+    let call = (call_of g.S.Store.tells g.K.Sink.tells g.K.Sink.takes_memory (map string_bytes c.args.words.now) c.args.now c.args.seed) in
+    run_stays_sound call old old (WroteBy-none (RunWrites call) old old refl)

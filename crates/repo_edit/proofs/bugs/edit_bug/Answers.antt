@@ -3,9 +3,9 @@ use Rattle.gb_text.specs.declared.id.Id.{Id}
 use Rattle.gb_store.specs.Files.{files_of}
 use Rattle.repo_state.specs.declared.refusal.Stop.{Stop}
 use Rattle.repo_steps.specs.BugDoings.{longer_bug}
-use Rattle.repo_steps.specs.BugEdits.{noop_op}
 use Rattle.repo_steps.specs.Doings.{BugEditAnswers}
 use Rattle.repo_edit.specs.Reads.{ReadsEdit}
+use Rattle.repo_steps.proofs.PickLemmas.{no_pick}
 use Rattle.repo_edit.proofs.PlanLemmas.{carried, not_planned}
 use Rattle.repo_edit.proofs.bugs.edit_bug.Goals as goal
 
@@ -19,14 +19,14 @@ returns-in_err-plan-clause-answers g c = λ tells.
     let answer : Result Id Stop = Err c.in_err-plan.field-0.0 in
     let is : c.from_residual.result ≡ answer = search rules in
     subst (BugEditAnswers env edit c.args.bug.now old new) (sym is)
-    (planned.0, not_planned (longer_bug env edit c.args.bug.now planned.0 old) old new c.in_err-plan.field-0.0 (c.plan_edit.ensures.unwritten tells) planned.1)
+    (planned.0, not_planned (longer_bug env edit c.args.bug.now (planned.0).bug (planned.0).op old) old new c.in_err-plan.field-0.0 (c.plan_edit.ensures.unwritten tells) planned.1)
 
 pub returns-clause-answers : goal.returns-clause-answers
 returns-clause-answers g c = λ tells.
     let old = g.S.Store.history c.args.disk.now in
     let planned = c.in_ok-plan.ensures.answers tells in (
       planned.0,
-      carried (longer_bug c.args.env.now c.args.edit.now c.args.bug.now planned.0 old) c.in_ok-plan.plan old (g.S.Store.history c.plan_edit.new.disk) (g.S.Store.history c.carry_out.new.disk)
+      carried (longer_bug c.args.env.now c.args.edit.now c.args.bug.now (planned.0).bug (planned.0).op old) c.in_ok-plan.plan old (g.S.Store.history c.plan_edit.new.disk) (g.S.Store.history c.carry_out.new.disk)
           c.carry_out.result (c.plan_edit.ensures.unwritten tells) planned.1 (c.carry_out.ensures.answers tells),
     )
 
@@ -36,4 +36,4 @@ returns-clause-reads g c = λ tells.
     (sym c.carry_out.ensures.reads) (c.plan_edit.ensures.reads tells)
 
 pub returns-in-Some-clause-answers : goal.returns-in-Some-clause-answers
-returns-in-Some-clause-answers g c = λ tells. (noop_op c.args.env.now, (inl (c.in-Some.place, sym c.bad_edit.ensures ∙ c.in-Some.is, refl), refl))
+returns-in-Some-clause-answers g c = λ tells. (no_pick c.args.env.now, (inl (c.in-Some.place, sym c.bad_edit.ensures ∙ c.in-Some.is, refl), refl))

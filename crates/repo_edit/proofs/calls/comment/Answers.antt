@@ -3,14 +3,14 @@ use Rattle.gb_text.specs.Rules.{is_message_text}
 use Rattle.gb_text.specs.declared.id.Id.{Id}
 use Rattle.repo_state.specs.declared.refusal.Stop.{Stop}
 use Rattle.repo_state.specs.declared.refusal.Stop.TheVariants as stop
-use Rattle.repo_steps.specs.BugEdits.{noop_op}
+use Rattle.repo_steps.proofs.PickLemmas.{no_pick}
 use Rattle.repo_steps.specs.Doings.{BugEditAnswers}
 use Rattle.repo_steps.specs.declared.edit.BugEdit.TheVariants as kind
 use Rattle.repo_edit.proofs.CallLemmas.{breaks}
 use Rattle.repo_edit.proofs.calls.comment.Goals as goal
 
 pub returns-then-not-is_message-clause-answers : goal.returns-then-not-is_message-clause-answers
-returns-then-not-is_message-clause-answers g c = λ tells. (noop_op c.args.env.now, (inl (2, breaks (is_message_text c.args.message.now) None 2 (sym c.is_message.ensures ∙ c.if-not-is_message.true), refl), refl))
+returns-then-not-is_message-clause-answers g c = λ tells. (no_pick c.args.env.now, (inl (2, breaks (is_message_text c.args.message.now) None 2 (sym c.is_message.ensures ∙ c.if-not-is_message.true), refl), refl))
 
 pub returns-in_err-from_str-clause-answers : goal.returns-in_err-from_str-clause-answers
 returns-in_err-from_str-clause-answers g c = λ tells.
@@ -18,7 +18,7 @@ returns-in_err-from_str-clause-answers g c = λ tells.
     let old = g.S.Store.history c.args.disk.now in
     let answer : Result Id Stop = Err stop.Memory in
     let is : c.from_residual.result ≡ answer = search rules in
-    subst (BugEditAnswers env (kind.Comment c.args.message.now) c.args.bug.now old old) (sym is) (noop_op env, inl refl)
+    subst (BugEditAnswers env (kind.Comment c.args.message.now) c.args.bug.now old old) (sym is) (no_pick env, inl refl)
 
 pub returns-clause-answers : goal.returns-clause-answers
 returns-clause-answers g c = λ tells.

@@ -2,13 +2,13 @@ use Rattle.std.proofs.Common.{◌≡◌, ◌∙◌, ℕ, List, Result, Err, inl,
 use Rattle.gb_text.specs.declared.id.Id.{Id}
 use Rattle.repo_state.specs.declared.refusal.Stop.{Stop}
 use Rattle.repo_state.specs.declared.refusal.Stop.TheVariants as stop
-use Rattle.repo_steps.specs.BugEdits.{noop_op}
+use Rattle.repo_steps.proofs.PickLemmas.{no_pick}
 use Rattle.repo_steps.specs.Doings.{BugEditAnswers}
 use Rattle.repo_steps.specs.declared.edit.BugEdit.TheVariants as kind
 use Rattle.repo_edit.proofs.calls.label_add.Goals as goal
 
 pub returns-in-Some-clause-answers : goal.returns-in-Some-clause-answers
-returns-in-Some-clause-answers g c = λ tells. (noop_op c.args.env.now, (inl (c.in-Some.place, sym c.first_no_title.ensures ∙ c.in-Some.is, refl), refl))
+returns-in-Some-clause-answers g c = λ tells. (no_pick c.args.env.now, (inl (c.in-Some.place, sym c.first_no_title.ensures ∙ c.in-Some.is, refl), refl))
 
 pub returns-in_err-copies-clause-answers : goal.returns-in_err-copies-clause-answers
 returns-in_err-copies-clause-answers g c = λ tells.
@@ -16,7 +16,7 @@ returns-in_err-copies-clause-answers g c = λ tells.
     let old = g.S.Store.history c.args.disk.now in
     let answer : Result Id Stop = Err stop.Memory in
     let is : c.from_residual.result ≡ answer = search rules in
-    subst (BugEditAnswers env (kind.AddLabels c.args.labels.now) c.args.bug.now old old) (sym is) (noop_op env, inl refl)
+    subst (BugEditAnswers env (kind.AddLabels c.args.labels.now) c.args.bug.now old old) (sym is) (no_pick env, inl refl)
 
 pub returns-clause-answers : goal.returns-clause-answers
 returns-clause-answers g c = λ tells.

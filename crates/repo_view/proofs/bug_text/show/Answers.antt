@@ -19,10 +19,9 @@ returns-in_err-people-clause-answers g c = λ tells.
     let folder = c.args.folder.now in
     let bug = c.in_ok-bug.bug in
     let entity = c.in_ok-entity.entity in
-    let found = c.in_ok-bug.ensures.answers tells in
     let first = c.in_ok-bug.ensures.unwritten tells in
     let same = c.in_ok-entity.ensures.unwritten tells ∙ first in
-    let finds : FindsBug (files_of old) folder c.args.word.now bug = record { found = found.0; head = found.1 } in
+    let finds : FindsBug (files_of old) folder c.args.word.now bug = c.in_ok-bug.ensures.answers tells in
     let is_bug : IsBug (files_of old) folder bug entity = subst (λ (h : History). IsBug (files_of h) folder bug entity) first (c.in_ok-entity.ensures.answers tells) in
     let answer : Result (List ℕ) Stop = Err c.in_err-people.field-0.0 in
     let is : c.from_residual-in_err-people.result ≡ answer = search rules in
@@ -36,10 +35,9 @@ returns-in_err-text_of-clause-reads g c = λ tells.
     let old = g.S.Store.history c.args.disk.now in
     let folder = c.args.folder.now in
     let bug = c.in_ok-bug.bug in
-    let found = c.in_ok-bug.ensures.answers tells in
     let first = c.in_ok-bug.ensures.unwritten tells in
     let second = c.in_ok-entity.ensures.unwritten tells ∙ first in
-    let finds : FindsBug (files_of old) folder c.args.word.now bug = record { found = found.0; head = found.1 } in
+    let finds : FindsBug (files_of old) folder c.args.word.now bug = c.in_ok-bug.ensures.answers tells in
     let below : ReadsBelow (files_of old) folder bug (g.S.Store.object_reads c.find_head.new.disk) (g.S.Store.object_reads c.bug_at.new.disk) =
     subst (λ (h : History). ReadsBelow (files_of h) folder bug (g.S.Store.object_reads c.find_head.new.disk) (g.S.Store.object_reads c.bug_at.new.disk)) first (c.in_ok-entity.ensures.reads tells) in
     let from_start : ReadsBelow (files_of old) folder bug (g.S.Store.object_reads c.args.disk.now) (g.S.Store.object_reads c.bug_at.new.disk) =
@@ -53,10 +51,9 @@ returns-clause-reads g c = λ tells.
     let old = g.S.Store.history c.args.disk.now in
     let folder = c.args.folder.now in
     let bug = c.in_ok-bug.bug in
-    let found = c.in_ok-bug.ensures.answers tells in
     let first = c.in_ok-bug.ensures.unwritten tells in
     let second = c.in_ok-entity.ensures.unwritten tells ∙ first in
-    let finds : FindsBug (files_of old) folder c.args.word.now bug = record { found = found.0; head = found.1 } in
+    let finds : FindsBug (files_of old) folder c.args.word.now bug = c.in_ok-bug.ensures.answers tells in
     let below : ReadsBelow (files_of old) folder bug (g.S.Store.object_reads c.find_head.new.disk) (g.S.Store.object_reads c.bug_at.new.disk) =
     subst (λ (h : History). ReadsBelow (files_of h) folder bug (g.S.Store.object_reads c.find_head.new.disk) (g.S.Store.object_reads c.bug_at.new.disk)) first (c.in_ok-entity.ensures.reads tells) in
     let from_start : ReadsBelow (files_of old) folder bug (g.S.Store.object_reads c.args.disk.now) (g.S.Store.object_reads c.bug_at.new.disk) =
@@ -71,10 +68,9 @@ returns-clause-answers g c = λ tells.
     let folder = c.args.folder.now in
     let bug = c.in_ok-bug.bug in
     let entity = c.in_ok-entity.entity in
-    let found = c.in_ok-bug.ensures.answers tells in
     let first = c.in_ok-bug.ensures.unwritten tells in
     let second = c.in_ok-entity.ensures.unwritten tells ∙ first in
-    let finds : FindsBug (files_of old) folder c.args.word.now bug = record { found = found.0; head = found.1 } in
+    let finds : FindsBug (files_of old) folder c.args.word.now bug = c.in_ok-bug.ensures.answers tells in
     let is : IsBug (files_of old) folder bug entity = subst (λ (h : History). IsBug (files_of h) folder bug entity) first (c.in_ok-entity.ensures.answers tells) in
     let people : ArePeople (files_of (g.S.Store.history c.bug_at.new.disk)) folder c.as_slice.result.now = search rules in
     let told : IsBugList (ops_in bug_kind entity.packs) → c.in_ok-text_of.field-0 ≡ show_text_of (snapshot_of (ops_in bug_kind entity.packs)) c.as_slice.result.now = c.in_ok-text_of.ensures in

@@ -1,0 +1,80 @@
+-- At each moment of a command a ref has the head that it had at entry, or the one that the command sets.
+use Rattle.std.proofs.Common.{◌≡◌, ◌⊎◌, inl, inr, List, ◌∷◌, ◌++◌, Contains, reverse, Result, refl, sym, ◌∙◌, ap, subst}
+use Rattle.std.proofs.lemmas.List.Elements.{Contains-append_right}
+use Rattle.gb_text.specs.Digits.{IsId}
+use Rattle.gb_text.specs.declared.id.Id.{Id}
+use Rattle.gb_text.specs.declared.id.Name.{Name}
+use Rattle.gb_store.specs.Files.{Files, History, files_of, written}
+use Rattle.gb_store.specs.Moments.{AllMoments}
+use Rattle.gb_store.specs.declared.store.Change.{Change}
+use Rattle.gb_store.proofs.MomentLemmas.{AllMoments-from_WroteBy}
+use Rattle.object_batch.proofs.ClashLemmas.{Contains-first}
+use Rattle.ref_store.specs.Refs.{Head}
+use Rattle.ref_store.specs.Setting.{ref_write}
+use Rattle.repo_state.specs.Sides.{head_at, ref_place}
+use Rattle.repo_state.specs.declared.env.Env.{Env}
+use Rattle.repo_state.specs.declared.refusal.Stop.{Stop}
+use Rattle.repo_state.specs.declared.side.Side.{Side}
+use Rattle.repo_state.specs.declared.side.Side.TheVariants as side
+use Rattle.repo_writes.specs.Kinds.{IsBugHeadWrite, IsIdentityHeadWrite}
+use Rattle.repo_writes.proofs.SoundLemmas.{bug-after, identity-after}
+use Rattle.repo_steps.specs.Doings.{EditAnswers}
+use Rattle.repo_steps.specs.Writes.{IsNext, IsOldOrSet, IsWriteOf, SetsHead}
+use Rattle.repo_steps.specs.declared.edit.Edit.{Edit}
+use Rattle.repo_steps.proofs.WriteOfLemmas.{answers_wrote_of}
+
+-- the next of some writes is one of them
+pub next_in : (writes earlier : List Change) (change : Change) → IsNext writes earlier change → Contains writes change
+next_in writes earlier change next =
+    subst (λ (ws : List Change). Contains ws change) (sym next.are) (Contains-append_right (reverse earlier) (change ∷ next.later) change (Contains-first change next.later))
+
+module _ (env : Env) (command : Edit) (entry : History) (of : Side) (id : Id) where
+  -- a write of the command that sets a ref sets it to a head of its own
+  sets : (earlier : List Change) (change : Change) (head : Name) → IsWriteOf env command entry earlier change → change ≡ ref_write env.folder (ref_place of id) head
+      → SetsHead env command entry of id head
+  sets earlier change head write is = record {
+    picked = write.picked;
+    may = write.may;
+    sets = subst (Contains _) is (next_in _ earlier change write.next);
+  }
+
+  -- a head that stays is old or set as before
+  stays : (files : Files) (change : Change) → IsOldOrSet env command entry of id files
+      → head_at (written files change) env.folder of id ≡ head_at files env.folder of id → IsOldOrSet env command entry of id (written files change)
+  stays files change (inl old) same = inl (same ∙ old)
+  stays files change (inr (head, is, now)) same = inr (head, is, same ∙ now)
+
+module _ (env : Env) (command : Edit) (old new : History) (result : Result Id Stop) (answers : EditAnswers env command old new result) (id : Id) (is : IsId id) where
+  pub identity_old_or_set : AllMoments (IsOldOrSet env command old side.Identities id) old new
+  identity_old_or_set = AllMoments-from_WroteBy (IsWriteOf env command) (IsOldOrSet env command old side.Identities id) old new keeps (inl refl) (answers_wrote_of env command old new result answers)
+    where
+      keeps : (earlier : List Change) (change : Change) → IsOldOrSet env command old side.Identities id (files_of (earlier ++ old)) → IsWriteOf env command old earlier change
+          → IsOldOrSet env command old side.Identities id (written (files_of (earlier ++ old)) change)
+      keeps earlier change good write = each (identity-after env.folder (files_of (earlier ++ old)) change id is write.kind)
+        where
+          each : (head_at (written (files_of (earlier ++ old)) change) env.folder side.Identities id ≡ head_at (files_of (earlier ++ old)) env.folder side.Identities id)
+              ⊎ ((w : IsIdentityHeadWrite env.folder (files_of (earlier ++ old)) change) × (w.id ≡ id) × (head_at (written (files_of (earlier ++ old)) change) env.folder side.Identities id ≡ Head w.head))
+              → IsOldOrSet env command old side.Identities id (written (files_of (earlier ++ old)) change)
+          each (inl same) = stays env command old side.Identities id (files_of (earlier ++ old)) change good same
+          each (inr (w, same, now)) = inr (
+            w.head,
+            sets env command old side.Identities id earlier change w.head write (w.write ∙ ap (λ (i : Id). ref_write env.folder (ref_place side.Identities i) w.head) same),
+            now,
+          )
+
+  pub bug_old_or_set : AllMoments (IsOldOrSet env command old side.Bugs id) old new
+  bug_old_or_set = AllMoments-from_WroteBy (IsWriteOf env command) (IsOldOrSet env command old side.Bugs id) old new keeps (inl refl) (answers_wrote_of env command old new result answers)
+    where
+      keeps : (earlier : List Change) (change : Change) → IsOldOrSet env command old side.Bugs id (files_of (earlier ++ old)) → IsWriteOf env command old earlier change
+          → IsOldOrSet env command old side.Bugs id (written (files_of (earlier ++ old)) change)
+      keeps earlier change good write = each (bug-after env.folder (files_of (earlier ++ old)) change id is write.kind)
+        where
+          each : (head_at (written (files_of (earlier ++ old)) change) env.folder side.Bugs id ≡ head_at (files_of (earlier ++ old)) env.folder side.Bugs id)
+              ⊎ ((w : IsBugHeadWrite env.folder (files_of (earlier ++ old)) change) × (w.id ≡ id) × (head_at (written (files_of (earlier ++ old)) change) env.folder side.Bugs id ≡ Head w.head))
+              → IsOldOrSet env command old side.Bugs id (written (files_of (earlier ++ old)) change)
+          each (inl same) = stays env command old side.Bugs id (files_of (earlier ++ old)) change good same
+          each (inr (w, same, now)) = inr (
+            w.head,
+            sets env command old side.Bugs id earlier change w.head write (w.write ∙ ap (λ (i : Id). ref_write env.folder (ref_place side.Bugs i) w.head) same),
+            now,
+          )

@@ -1,0 +1,137 @@
+//! Laws of what each refusal says, and of the heads that a command sets, each the contract of a
+//! function that does nothing.
+ghost use Rattle.std.specs.Prelude.{◌≡◌, ◌≤◌, ◌+◌, List, ℕ, length, None, Ok, All, IsTrue, Contains, Result};
+ghost use Rattle.gb_text.specs.Digits.{IsId};
+ghost use Rattle.gb_text.specs.declared.id.Id.{Id};
+ghost use Rattle.gb_text.specs.declared.id.Name.{Name};
+ghost use Rattle.gb_store.specs.Files.{History, files_of};
+ghost use Rattle.gb_store.specs.declared.store.Change.{Change as ChangeValue};
+ghost use Rattle.gb_store.specs.Moments.{AllMoments};
+ghost use Rattle.object_batch.specs.Batches.{CannotHave, HasLong};
+ghost use Rattle.gb_text.specs.declared.decimal.TheConstants.{LIMIT};
+ghost use Rattle.commit_walk.specs.declared.below.TheConstants.{MOST_COMMITS};
+ghost use Rattle.object_store.specs.Texts.{IsShort};
+ghost use Rattle.object_store.specs.declared.read.TheConstants.{MOST_BYTES};
+ghost use Rattle.bug_ops.specs.Kind.{bug_kind};
+ghost use Rattle.bug_ops.specs.declared.op.BugOp.{BugOp as OpValue};
+ghost use Rattle.dag_entity.specs.Entities.{ops_in};
+ghost use Rattle.repo_state.specs.Sides.{has_ref};
+ghost use Rattle.repo_state.specs.Users.{BadUser, NoUser, User, user_at};
+ghost use Rattle.repo_state.specs.declared.env.Env.{Env as EnvValue};
+ghost use Rattle.repo_state.specs.declared.refusal.Refusal.TheVariants as refusal;
+ghost use Rattle.repo_state.specs.declared.refusal.Stop.{Stop as StopValue};
+ghost use Rattle.repo_state.specs.declared.side.Side.TheVariants as side;
+ghost use Rattle.repo_steps.specs.BugDoings.{HasBug, bad_bug, bug_says, longer_bug, new_bug, op_ids};
+ghost use Rattle.repo_steps.specs.BugEdits.{bad_edit, edit_op};
+ghost use Rattle.repo_steps.specs.Checks.{FirstFails};
+ghost use Rattle.repo_steps.specs.Doings.{EditAnswers, Refused, doing_of};
+ghost use Rattle.repo_steps.specs.NewOps.{MayWriteOp, create_op, op_id};
+ghost use Rattle.repo_steps.specs.Picked.{Picked};
+ghost use Rattle.repo_steps.specs.PeopleDoings.{MayWrite, bad_person, new_made, new_user};
+ghost use Rattle.repo_steps.specs.Own.{IsOwn};
+ghost use Rattle.repo_steps.specs.Writes.{IsOldOrSet, IsWriteOf};
+ghost use Rattle.repo_steps.specs.declared.edit.BugEdit.{BugEdit as BugEditValue};
+ghost use Rattle.repo_steps.specs.declared.edit.Edit.{Edit as EditValue};
+ghost use Rattle.repo_steps.specs.declared.edit.Edit.TheVariants.{New, OfBug, UserEdit, UserNew};
+
+/// What is so where a command is refused. `no user`: no user file exists. `entity exists`: a ref of the
+/// id that the new person or bug has exists. `repeated operation`: an operation of the bug has the id
+/// that is reported. `name taken`: an object that the command makes cannot have that name. `too large`
+/// by bytes: an object that the command makes is too long.
+pub fn refusals_have_their_causes()
+    ensures no_user { (env : EnvValue) (command : EditValue) (old : History)
+        → Refused env command old refusal.NoUser
+        → user_at (files_of old) env.folder ≡ NoUser }
+    ensures person { (env : EnvValue) (old : History) (name email : List ℕ) (id : Id)
+        → Refused env (UserNew name email) old (refusal.EntityExists id)
+        → (id ≡ (new_made env name email None).id)
+        × IsTrue (has_ref (files_of old) env.folder side.Identities id) }
+    ensures bug { (env : EnvValue) (old : History) (title message : List ℕ) (id : Id)
+        → Refused env (New title message) old (refusal.EntityExists id)
+        → (id ≡ op_id (create_op env title message))
+        × IsTrue (has_ref (files_of old) env.folder side.Bugs id) }
+    ensures operation { (env : EnvValue) (old : History) (edit : BugEditValue) (word : List ℕ)
+        (id : Id) → Refused env (OfBug word edit) old (refusal.RepeatedOperation id)
+        → (bug : HasBug env.folder (files_of old) word)
+        × Contains (op_ids (ops_in bug_kind bug.entity.packs)) id }
+    ensures name { (env : EnvValue) (command : EditValue) (picked : Picked) (old : History)
+        (name : Name)
+        → FirstFails (doing_of env command picked old).checks (refusal.NameTaken name)
+        → CannotHave env.folder (doing_of env command picked old).objects old name }
+    ensures size { (env : EnvValue) (command : EditValue) (picked : Picked) (old : History)
+        → FirstFails (doing_of env command picked old).checks
+        (refusal.TooLarge (MOST_BYTES + 1))
+        → HasLong (doing_of env command picked old).objects }
+{}
+
+/// The other way: a command is refused for a cause wherever all checks before it pass. Without a user no
+/// version is added, no bug begins and no bug gets an edit. A new person or a new bug is refused where
+/// one of its objects is too large, or else a ref of its id exists. An edit of a bug that has room is
+/// refused where one of its objects is too large, or else the bug has the operation, or else a name of an
+/// object is taken.
+pub fn causes_refuse()
+    ensures user_for_a_version { (env : EnvValue) (old : History) (name email : List ℕ)
+        → bad_person name email ≡ None → MayWrite env name email
+        → user_at (files_of old) env.folder ≡ NoUser
+        → Refused env (UserEdit name email) old refusal.NoUser }
+    ensures user_for_a_bug { (env : EnvValue) (old : History) (title message : List ℕ)
+        → bad_bug title message ≡ None → MayWriteOp (create_op env title message)
+        → user_at (files_of old) env.folder ≡ NoUser
+        → Refused env (New title message) old refusal.NoUser }
+    ensures user_for_an_edit { (env : EnvValue) (old : History) (edit : BugEditValue)
+        (word : List ℕ) → bad_edit edit ≡ None → env.now ≤ LIMIT
+        → user_at (files_of old) env.folder ≡ NoUser
+        → Refused env (OfBug word edit) old refusal.NoUser }
+    ensures person { (env : EnvValue) (old : History) (name email : List ℕ)
+        → bad_person name email ≡ None → MayWrite env name email
+        → (user_at (files_of old) env.folder ≡ BadUser → ⊥)
+        → let objects = (new_user env name email old).objects in
+        let id = (new_made env name email None).id in
+        (HasLong objects
+        → Refused env (UserNew name email) old (refusal.TooLarge (MOST_BYTES + 1)))
+        × (All IsShort objects → IsTrue (has_ref (files_of old) env.folder side.Identities id)
+        → Refused env (UserNew name email) old (refusal.EntityExists id)) }
+    ensures bug { (env : EnvValue) (old : History) (title message : List ℕ) (user : Id)
+        → bad_bug title message ≡ None → MayWriteOp (create_op env title message)
+        → user_at (files_of old) env.folder ≡ User user
+        → let objects = (new_bug env title message old).objects in
+        let id = op_id (create_op env title message) in
+        (HasLong objects → Refused env (New title message) old (refusal.TooLarge (MOST_BYTES + 1)))
+        × (All IsShort objects → IsTrue (has_ref (files_of old) env.folder side.Bugs id)
+        → Refused env (New title message) old (refusal.EntityExists id)) }
+    ensures edit { (env : EnvValue) (old : History) (edit : BugEditValue) (word : List ℕ)
+        (user : Id) → bad_edit edit ≡ None → env.now ≤ LIMIT
+        → user_at (files_of old) env.folder ≡ User user
+        → (bug : HasBug env.folder (files_of old) word) (op : OpValue)
+        → edit_op env edit (bug_says bug.entity) ≡ Ok op → MayWriteOp op
+        → (bug.entity.edit ≡ LIMIT → ⊥) → (MOST_COMMITS ≤ length bug.entity.packs → ⊥)
+        → let objects = (longer_bug env edit word bug.bug op old).objects in
+        let has = Contains (op_ids (ops_in bug_kind bug.entity.packs)) (op_id op) in
+        (HasLong objects
+        → Refused env (OfBug word edit) old (refusal.TooLarge (MOST_BYTES + 1)))
+        × (All IsShort objects → has
+        → Refused env (OfBug word edit) old (refusal.RepeatedOperation (op_id op)))
+        × (All IsShort objects → (has → ⊥) → (name : Name)
+        → CannotHave env.folder objects old name
+        → Refused env (OfBug word edit) old (refusal.NameTaken name)) }
+{}
+
+/// At each moment of a command the ref of each identity, and of each bug, has the head that it had when
+/// the command began, or one that the command sets.
+pub fn heads_are_old_or_set()
+    ensures identities { (env : EnvValue) (command : EditValue) (old new : History)
+        (result : Result Id StopValue) → EditAnswers env command old new result
+        → (id : Id) → IsId id → AllMoments (IsOldOrSet env command old side.Identities id) old new }
+    ensures bugs { (env : EnvValue) (command : EditValue) (old new : History)
+        (result : Result Id StopValue) → EditAnswers env command old new result
+        → (id : Id) → IsId id → AllMoments (IsOldOrSet env command old side.Bugs id) old new }
+{}
+
+/// What the writes of a command are: an object whose text it makes; the head that it sets, which is a
+/// first version, a root, or a commit whose one parent is the present head; a clock that has seen the
+/// one that the pack of its commit has; or the user whose id it reports.
+pub fn writes_are_what_their_command_makes()
+    ensures { (env : EnvValue) (command : EditValue) (entry : History) (earlier : List ChangeValue)
+        (change : ChangeValue) (write : IsWriteOf env command entry earlier change)
+        → IsOwn env (doing_of env command write.picked entry) entry change }
+{}

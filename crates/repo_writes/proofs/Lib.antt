@@ -1,0 +1,6 @@
+pub mod KeptLemmas
+pub mod LossLemmas
+pub mod PartLemmas
+pub mod PlaceLemmas
+pub mod SoundBugLemmas
+pub mod SoundLemmas
