@@ -1,4 +1,4 @@
-//! The program: what the words of the command line ask is done over real folders and standard output.
+//! The program: what the command line asks, done over real folders and standard output.
 #![tactic(auto)]
 
 use gitbug_edge::{exit_code, run_words};

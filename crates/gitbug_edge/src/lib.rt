@@ -1,11 +1,14 @@
-//! The program at its edge: real folders, standard output, the clock, random bytes and the words of the command line, given
-//! to the one call that does all.
+//! The edge of the program: it gives real folders, standard output, the clock, random bytes and the arguments to `run`.
 #![tactic(auto)]
 
 mod exit;
+mod guard;
+mod note;
 mod start;
+mod usage;
 mod words;
 mod writer;
 
-pub use exit::exit_code;
+pub use exit::{exit_code, numbers_are_fixed};
 pub use start::{run_over_folders, run_words};
+pub use usage::{COMMANDS, VERSION};

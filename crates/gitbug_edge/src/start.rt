@@ -1,17 +1,24 @@
 //! What `main` does.
+ghost use Rattle.std.specs.Prelude.{◌≡◌, ◌/◌};
+ghost use Rattle.std.specs.Duration.{as_nanos};
+
+use crate::guard::look_at;
+use crate::note::noted;
+use crate::usage::{explain_usage, give_command};
 use crate::words::claims_of;
 use crate::writer::SteadyWriter;
 use bug_run::{Status, run};
-use folder_store::{FolderStore, Locking, again};
+use folder_store::{Claim, FolderStore, Locking, again};
 use gb_store::{Sink, WriteSink};
 use std::rt::{Clock, Env, Runtime};
-use std::time::{SystemTime, UNIX_EPOCH};
+use std::time::Duration;
 use std::{env, io};
 
 /// Does what the words of the command line ask, over real folders and standard output. An error says that it was not begun.
+/// Standard error says, for people, why a run was not begun, and why it ended with another status than done or refused.
 pub fn run_words<R: Runtime + AllocGlobal + Locking>(rt: &R) -> io::Result<Status> {
-    let words = words(rt)?;
-    let mut out = WriteSink::new(SteadyWriter::new(io::writer(rt)));
+    let words = noted(rt, "the arguments cannot be read", words(rt))?;
+    let mut out = WriteSink::new(SteadyWriter::new(rt, io::writer(rt)));
     run_over_folders(rt, &words, &mut out)
 }
 
@@ -21,14 +28,45 @@ pub fn run_over_folders<R: Runtime + AllocGlobal + Locking, K: Sink>(
     words: &[String],
     out: &mut K,
 ) -> io::Result<Status> {
-    let alloc = rt.alloc();
-    let now = seconds(rt)?;
-    let mut seed = [0u8; 32];
-    again(|| rt.fill_bytes(&mut seed))?;
-    let mut disk = FolderStore::new(rt.clone()?, claims_of(alloc, words)?);
-    let status = run(alloc, words, &mut disk, out, now, seed);
+    let now = noted(rt, "the clock cannot be read", seconds(rt))?;
+    let seed = noted(rt, "random bytes cannot be had", random_bytes(rt))?;
+    let mut disk = FolderStore::new(rt.clone()?, claims_looked_at(rt, words)?);
+    let status = run(rt.alloc(), words, &mut disk, out, now, seed);
+    explain(rt, words, &status, &disk);
     disk.leave();
     Ok(status)
+}
+
+// The folders that the words name, if the run may work in them.
+fn claims_looked_at<R: Runtime + AllocGlobal>(rt: &R, words: &[String]) -> io::Result<Vec<Claim>> {
+    let alloc = rt.alloc();
+    let claims = noted(
+        rt,
+        "the folder cannot be read",
+        claims_of(alloc, words).map_err(io::Error::from),
+    )?;
+    if give_command(words) {
+        look_at(rt, alloc, &claims)?;
+    }
+    Ok(claims)
+}
+
+// Says why a run ended so, where neither its text nor the line of a refusal does.
+fn explain<R: Runtime + AllocGlobal + Locking>(
+    rt: &R,
+    words: &[String],
+    status: &Status,
+    disk: &FolderStore<R>,
+) {
+    let _ = match status {
+        Status::Usage => explain_usage(rt, words),
+        Status::Memory => eprintln!(rt; "gitbug: out of memory"),
+        Status::DiskFault => match disk.failure() {
+            Some(failure) => eprintln!(rt; "gitbug: {failure}"),
+            None => Ok(()),
+        },
+        Status::Done | Status::Refused(_) | Status::OutFault => Ok(()),
+    };
 }
 
 // The words after the program's name.
@@ -38,11 +76,22 @@ fn words<R: Env + AllocGlobal>(rt: &R) -> io::Result<Vec<String>> {
     Ok(words.collect(rt.alloc())?)
 }
 
-// The seconds since 1970, negative before.
+// 32 random bytes.
+fn random_bytes<R: Locking>(rt: &R) -> io::Result<[u8; 32]> {
+    let mut bytes = [0u8; 32];
+    again(|| rt.fill_bytes(&mut bytes))?;
+    Ok(bytes)
+}
+
+// The whole seconds since 1970. A clock that is set before 1970 gives an error.
 fn seconds(rt: &impl Clock) -> io::Result<i64> {
-    let now = SystemTime::now(rt)?;
-    Ok(match now.duration_since(UNIX_EPOCH) {
-        Ok(since) => i64::try_from(since.as_secs()).unwrap_or(i64::MAX),
-        Err(before) => i64::try_from(before.duration().as_secs()).map_or(i64::MIN, |s| -s),
-    })
+    let since = rt.since_1970()?;
+    Ok(i64::try_from(whole_seconds(&since)).unwrap_or(i64::MAX))
+}
+
+// The seconds of a time, without their parts.
+fn whole_seconds(time: &Duration) -> u64
+    ensures { result ≡ as_nanos time.now / 1_000_000_000 }
+{
+    time.as_secs()
 }

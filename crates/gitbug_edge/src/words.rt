@@ -1,10 +1,15 @@
 //! The folders that the words of a run name.
+ghost use Rattle.std.specs.Prelude.{◌≡◌, IfOk, map, string_bytes};
+ghost use Rattle.gitbug_edge.specs.Claims.{AreClaimsOf, purpose_of};
+
 use folder_store::{Claim, Purpose};
 use gb_text::{Folder, FolderFault};
 use std::alloc::{AllocError, Global};
 
 /// The folders that the words name; none where they name no good one, since nothing is done then.
-pub fn claims_of(alloc: Global, words: &[String]) -> Result<Vec<Claim>, AllocError> {
+pub fn claims_of(alloc: Global, words: &[String]) -> Result<Vec<Claim>, AllocError>
+    ensures { IfOk result (λ claims. AreClaimsOf (map string_bytes words.now) claims.items) }
+{
     let mut claims = Vec::new(alloc);
     let [folder, command, ..] = words else {
         return Ok(claims);
@@ -19,7 +24,9 @@ pub fn claims_of(alloc: Global, words: &[String]) -> Result<Vec<Claim>, AllocErr
 }
 
 // What a command does in its folder. One that is not known to read writes.
-fn purpose_of(command: &str) -> Purpose {
+fn purpose_of(command: &str) -> Purpose
+    ensures { result ≡ purpose_of command.now }
+{
     match command {
         "log" | "show" | "users" => Purpose::Read,
         _ => Purpose::Write,

@@ -1,9 +1,9 @@
 //! What a real disk holds, what is planted in it, and the number that a run ends with.
-use crate::planted;
 use crate::system::{
     Testing, count, holds, is_absent, is_free, is_long, link, lists, make_dir, put, put_fails,
     remove, store_over, write,
 };
+use crate::{explained, planted};
 use bug_run::Status;
 use folder_store::FolderStore;
 use gb_store::MemSink;
@@ -13,7 +13,7 @@ use repo_state::Refusal;
 use std::process::ExitCode;
 use std::test::Fail;
 use std::time::{SystemTime, UNIX_EPOCH};
-use std::{env, fs, process};
+use std::{env, fs, io, process};
 
 #[test]
 fn each_status_has_its_number(rt: HostRuntime) {
@@ -28,6 +28,8 @@ fn each_status_has_its_number(rt: HostRuntime) {
     for (number, status) in (0u8..6).zip(statuses) {
         assert!(rt; exit_code(&Ok(status)) == ExitCode::from(number));
     }
+    let not_begun = Err(io::Error::from(io::ErrorKind::PermissionDenied));
+    assert!(rt; exit_code(&not_begun) == ExitCode::from(6));
 }
 
 // A test of real folders: all of them run in one process, whose folder they share, so they are one test.
@@ -44,6 +46,7 @@ fn files_are_kept_in_real_folders(rt: HostRuntime) -> Result<(), Fail> {
     removed_files(&rt, &mut store)?;
     planted::try_all(&rt, &mut store)?;
     persons_are_made(&rt)?;
+    explained::try_all(&rt)?;
     fs::remove_dir_all(&rt, root.as_str())?;
     Ok(())
 }

@@ -2,6 +2,10 @@
 #![tactic(auto)]
 
 #[cfg(test)]
+mod explained;
+#[cfg(test)]
+mod fake;
+#[cfg(test)]
 mod folders;
 #[cfg(test)]
 mod planted;
