@@ -6,4 +6,6 @@ mod chains;
 #[cfg(test)]
 mod graphs;
 #[cfg(test)]
+mod searches;
+#[cfg(test)]
 mod walks;

@@ -152,6 +152,38 @@ fn a_blob_where_a_tree_or_a_commit_is_named_is_of_the_wrong_kind(
 }
 
 #[test]
+fn a_name_is_read_once_in_the_source(rt: HostRuntime) -> Result<(), Fail> {
+    for kind in [Kind::Blob, Kind::Tree] {
+        let mut sides = Sides::new(rt.alloc())?;
+        let name = put_object(&mut sides.disk, kind, b"")?;
+        let modes = match kind {
+            Kind::Blob => ["100644", "40000"],
+            _ => ["40000", "100644"],
+        };
+        let both = sides.tree(&[(modes[0], "a", name), (modes[1], "b", name)])?;
+        let head = put_commit(&mut sides.disk, &both, &[])?;
+        sides.answers(&head, false, Err(CopyFault::WrongKind(name)))?;
+        sides.has_read(6)?;
+    }
+    Ok(())
+}
+
+#[test]
+fn a_commit_that_was_left_is_read_where_it_is_named_as_a_tree(rt: HostRuntime) -> Result<(), Fail> {
+    let mut sides = Sides::new(rt.alloc())?;
+    let (low, _) = put_two(&mut sides)?;
+    sides.answers(&low, true, Ok(3))?;
+    sides.has_read(6)?;
+    let tree = sides.tree(&[("40000", "a", low)])?;
+    let other = put_commit(&mut sides.disk, &tree, &[])?;
+    let empty = sides.tree(&[])?;
+    let head = put_commit(&mut sides.disk, &empty, &[low, other])?;
+    sides.answers(&head, true, Err(CopyFault::WrongKind(low)))?;
+    sides.has_read(17)?;
+    Ok(())
+}
+
+#[test]
 fn a_store_that_fails_is_told_and_the_copy_goes_on_later(rt: HostRuntime) -> Result<(), Fail> {
     for call in 6..24 {
         for after in [true, false] {

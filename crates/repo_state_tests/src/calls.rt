@@ -4,7 +4,7 @@ ghost use Rattle.repo_state.specs.Sound.{IsNamedSide};
 use fixtures::{Disk, id, name};
 use gb_text::{Id, List, Name};
 use identity::Person;
-use repo_state::{ClockFile, HeadEntry, Refusal, Side, Stop};
+use repo_state::{ClockFile, EntityRef, HeadEntry, Refusal, Side, Stop};
 use std::test::Fail;
 
 /// The digits of an id and of a head.
@@ -47,6 +47,10 @@ pub fn head(disk: &mut Disk, side: &Side, id: &Id) -> Result<Option<Name>, Stop>
 
 pub fn heads(disk: &mut Disk, side: &Side) -> Result<List<HeadEntry>, Stop> {
     repo_state::heads(disk.alloc, &mut disk.store, &disk.folder, side)
+}
+
+pub fn all_refs(disk: &mut Disk, side: &Side) -> Result<List<EntityRef>, Stop> {
+    repo_state::all_refs(disk.alloc, &mut disk.store, &disk.folder, side)
 }
 
 pub fn ids(disk: &mut Disk, side: &Side) -> Result<List<Id>, Stop> {

@@ -2,12 +2,12 @@
 ghost use Rattle.repo_state.specs.Sound.{IsNamedSide};
 
 use crate::calls::{
-    BUG_PATH, head, heads, ids, is_damaged, is_disk, set_head, stands, the_id, the_name,
+    BUG_PATH, all_refs, head, heads, ids, is_damaged, is_disk, set_head, stands, the_id, the_name,
 };
-use fixtures::Disk;
+use fixtures::{Disk, id};
 use gb_store::Store;
 use gb_text::Text;
-use repo_state::{HeadEntry, Side};
+use repo_state::{EntityRef, HeadEntry, Side};
 use std::test::Fail;
 
 #[test]
@@ -102,5 +102,26 @@ fn reads_of_refs_that_fail_are_told(rt: HostRuntime) -> Result<(), Fail> {
     assert!(rt; is_disk(stands(&mut disk, &Side::Bugs, &id)));
     assert!(rt; is_disk(head(&mut disk, &Side::Bugs, &id)));
     assert!(rt; is_disk(heads(&mut disk, &Side::Bugs)));
+    Ok(())
+}
+
+#[test]
+fn bad_refs_are_listed_without_a_head(rt: HostRuntime) -> Result<(), Fail> {
+    let mut disk = Disk::new(rt.alloc())?;
+    let before = id("0000000000000000000000000000000000000000000000000000000000000009")?;
+    assert_eq!(rt; all_refs(&mut disk, &Side::Bugs)?.as_slice(), &[][..]);
+    disk.put(BUG_PATH, b"x")?;
+    set_head(&mut disk, &Side::Bugs, &before, &the_name()?)?;
+    let good = EntityRef {
+        id: before,
+        head: Some(the_name()?),
+    };
+    let bad = EntityRef {
+        id: the_id()?,
+        head: None,
+    };
+    let refs = all_refs(&mut disk, &Side::Bugs)?;
+    assert_eq!(rt; refs.as_slice(), &[good, bad][..]);
+    assert_eq!(rt; disk.store.reads(), 0);
     Ok(())
 }

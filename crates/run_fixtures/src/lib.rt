@@ -1,5 +1,5 @@
-//! What tests of `run` stand on: runs by words, and rows of runs, of which the first that is wrong is
-//! told with its words and both texts.
+//! What tests of `run` use: runs by arguments, and rows of runs, of which the first wrong one is
+//! reported with both texts.
 #![tactic(auto)]
 
 mod rows;
