@@ -1,4 +1,4 @@
-//! What tests of `run` use: runs by arguments, and rows of runs, of which the first wrong one is
+//! What tests of `run` use: runs by arguments, and rows of runs. The first row that fails is
 //! reported with both texts.
 #![tactic(auto)]
 
