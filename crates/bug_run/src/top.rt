@@ -17,7 +17,7 @@ use crate::status::Status;
 use crate::told::{Answer, Told, id_line};
 use crate::words::{Command, Request, read_words};
 use gb_store::{Sink, Store};
-use gb_text::{Folder, FolderFault, LIMIT};
+use gb_text::{Folder, FolderFault, GREATEST_TIME};
 use repo_edit::run_edit;
 use repo_state::{Env, Refusal, Stop};
 use repo_view::{log, show, users};
@@ -68,7 +68,7 @@ pub const USAGE: &str = "usage: gitbug FOLDER COMMAND ARGUMENTS\n";
 // A moment, where a negative one counts as 0.
 fn moment_of(now: i64) -> u64
     ensures value { result ≡ moment now }
-    ensures within { result ≤ LIMIT }
+    ensures within { result ≤ GREATEST_TIME }
 {
     u64::try_from(now).unwrap_or(0)
 }
@@ -81,7 +81,7 @@ fn perform<S: Store>(
     now: u64,
     seed: [u8; 32],
 ) -> Result<Answer, Stop>
-    requires moment { now ≤ LIMIT }
+    requires moment { now ≤ GREATEST_TIME }
     ensures answers { RequestAnswers S.tells request.now now seed
         (S.history disk.old) (S.history disk.new) (as_said result) }
     ensures reads { IsTrue S.tells → ReadsAsked (Some request.now)
@@ -106,7 +106,7 @@ fn carry_out<S: Store>(
     env: &Env,
     command: &Command,
 ) -> Result<Answer, Stop>
-    requires moment { env.now.now ≤ LIMIT }
+    requires moment { env.now.now ≤ GREATEST_TIME }
     ensures answers { IsTrue S.tells → CommandAnswers env.entry.now command.now
         (S.history disk.old) (S.history disk.new) (as_said result) }
     ensures words { KeepsToWords (bad_word_in command.now) (as_said result) }

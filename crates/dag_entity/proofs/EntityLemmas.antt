@@ -4,7 +4,7 @@ use Rattle.std.specs.List.{slice_get, AllByRecursion}
 use Rattle.std.proofs.lemmas.Bool.{cases_order}
 use Rattle.std.proofs.lemmas.List.{get_or-map, length-map}
 use Rattle.std.proofs.lemmas.Option.{get_or_from_slice_get, same_Some, slice_get-map, slice_get_within}
-use Rattle.gb_text.specs.declared.decimal.TheConstants.{LIMIT}
+use Rattle.gb_text.specs.declared.decimal.TheConstants.{GREATEST_TIME}
 use Rattle.gb_text.specs.declared.id.Id.{Id}
 use Rattle.gb_text.specs.declared.id.Name.{Name}
 use Rattle.git_object.specs.declared.commit.Commit.{Commit}
@@ -251,7 +251,7 @@ module _ {Op State Row : Type 0} (k : Meaning Op State Row) (objects : Objects) 
         inl (h.0, inr need)
     heads_refused (fault.ClockFull name) h =
         let apart = h.2 in
-        let it : IsFullHead objects heads name = record { one = apart.0; two = apart.1; apart = apart_up apart.0 apart.1 apart.2; head = h.0; full = has_edit name LIMIT h.1 } in it
+        let it : IsFullHead objects heads name = record { one = apart.0; two = apart.1; apart = apart_up apart.0 apart.1 apart.2; head = h.0; full = has_edit name GREATEST_TIME h.1 } in it
     heads_refused _ h = absurd h
 
     -- ---- where nothing is wrong
@@ -420,4 +420,4 @@ module _ {Op State Row : Type 0} (k : Meaning Op State Row) (objects : Objects) 
         valid (fault.TooLarge count) h = too_large count h
         valid (fault.ClockFull name) h =
             let room = good.room.1 h.one h.two (apart_down h.one h.two h.apart) in
-            room.free name h.head (edit_held name LIMIT (heads_below name h.head) h.full)
+            room.free name h.head (edit_held name GREATEST_TIME (heads_below name h.head) h.full)

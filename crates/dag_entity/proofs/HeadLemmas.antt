@@ -1,6 +1,6 @@
 -- The nodes of heads, and their edit clocks.
 use Rattle.std.proofs.Common.{◌≡◌, ◌≢◌, ◌⊎◌, inl, inr, ◌<◌, ◌≤◌, ℕ, List, [], ◌∷◌, length, get_or, Contains, Ok, Err, refl, sym, ◌∙◌, ap, subst, arith}
-use Rattle.gb_text.specs.declared.decimal.TheConstants.{LIMIT}
+use Rattle.gb_text.specs.declared.decimal.TheConstants.{GREATEST_TIME}
 use Rattle.gb_text.specs.declared.id.Name.{Name}
 use Rattle.commit_walk.proofs.DistinctLemmas.{Contains-first, Contains-later, Contains-cons, Contains-one}
 use Rattle.dag_graph.specs.Below.{IsAncestor}
@@ -86,7 +86,7 @@ module _ (nodes : List Node) (are : AreNodes nodes) where
     pub room_is : {u : Unit} → RoomAnswers nodes i j (Ok u) → HaveRoom nodes heads
     room_is room = record {
       few = room.0;
-      free = λ name c has. elim (clock_is name LIMIT c has) [ inl s ↦ room.1 (sym s) | inr s ↦ room.2 (sym s) ];
+      free = λ name c has. elim (clock_is name GREATEST_TIME c has) [ inl s ↦ room.1 (sym s) | inr s ↦ room.2 (sym s) ];
     }
 
     -- heads that were found not to be apart need none
@@ -115,8 +115,8 @@ module _ (nodes : List Node) (are : AreNodes nodes) where
     )
 
     full_is : (name : Name) → LieApart nodes (node_at nodes i).name (node_at nodes j).name
-        → (((node_at nodes i).edit ≡ LIMIT) × (name ≡ (node_at nodes i).name))
-        ⊎ (((node_at nodes i).edit ≢ LIMIT) × ((node_at nodes j).edit ≡ LIMIT) × (name ≡ (node_at nodes j).name))
+        → (((node_at nodes i).edit ≡ GREATEST_TIME) × (name ≡ (node_at nodes i).name))
+        ⊎ (((node_at nodes i).edit ≢ GREATEST_TIME) × ((node_at nodes j).edit ≡ GREATEST_TIME) × (name ≡ (node_at nodes j).name))
         → HeadsAnswers nodes heads (Err (fault.ClockFull name))
     full_is name apart (inl full) = (
       subst (Contains heads) (sym (full.1 ∙ named_i)) has_one,

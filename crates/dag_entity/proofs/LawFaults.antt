@@ -1,6 +1,6 @@
 -- What the faults of an entity tell: which names, in which order, and which numbers.
 use Rattle.std.proofs.Common.{◌≡◌, ◌≢◌, ◌↔◌, ◌⊎◌, inl, inr, ◌<◌, ◌≤◌, ◌+◌, ℕ, List, [], ◌∷◌, length, Contains, Option, Some, None, refl, arith}
-use Rattle.gb_text.specs.declared.decimal.TheConstants.{LIMIT}
+use Rattle.gb_text.specs.declared.decimal.TheConstants.{GREATEST_TIME}
 use Rattle.gb_text.specs.declared.id.Id.{Id}
 use Rattle.gb_text.specs.declared.id.Name.{Name}
 use Rattle.git_object.specs.declared.commit.Commit.{Commit}
@@ -65,7 +65,7 @@ module _ {Op State Row : Type 0} (k : Meaning Op State Row) (objects : Objects) 
 
   -- one of two heads that are apart, with the greatest clock
   pub full : (head : Name) → EntityFaultHolds k objects id heads authors (fault.ClockFull head)
-      ↔ ((one : Name) × (two : Name) × (heads ≡ one ∷ two ∷ []) × (IsBelow objects (two ∷ []) one → ⊥) × (IsBelow objects (one ∷ []) two → ⊥) × Contains heads head × (edit_at objects head ≡ Some LIMIT))
+      ↔ ((one : Name) × (two : Name) × (heads ≡ one ∷ two ∷ []) × (IsBelow objects (two ∷ []) one → ⊥) × (IsBelow objects (one ∷ []) two → ⊥) × Contains heads head × (edit_at objects head ≡ Some GREATEST_TIME))
   unfolding EntityFaultHolds
   full head = (
     λ h. (h.one, h.two, h.apart.are, h.apart.one_apart, h.apart.two_apart, h.head, h.full),

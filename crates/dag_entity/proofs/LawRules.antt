@@ -6,7 +6,7 @@ use Rattle.std.proofs.lemmas.Bool.{cases_Bool, cases_lt}
 use Rattle.std.proofs.lemmas.List.{length-map}
 use Rattle.std.proofs.lemmas.Option.{get_or_from_slice_get, slice_get-get_or, slice_get-map}
 use Rattle.std.proofs.lemmas.Slice.Eq.{bytes_eq-Decides}
-use Rattle.gb_text.specs.declared.decimal.TheConstants.{LIMIT}
+use Rattle.gb_text.specs.declared.decimal.TheConstants.{GREATEST_TIME}
 use Rattle.gb_text.specs.declared.id.Id.{Id}
 use Rattle.gb_text.specs.declared.id.Name.{Name}
 use Rattle.git_object.specs.declared.commit.Commit.{Commit}
@@ -96,7 +96,7 @@ module _ {Op State Row : Type 0} (k : Meaning Op State Row) (objects : Objects) 
 
   module _ (authors : List Id) (one two : Name) where
     pub clock : (head : Name) → IsValid k objects id (one ∷ two ∷ []) authors → (IsBelow objects (two ∷ []) one → ⊥) → (IsBelow objects (one ∷ []) two → ⊥)
-        → Contains (one ∷ two ∷ []) head → edit_at objects head ≢ Some LIMIT
+        → Contains (one ∷ two ∷ []) head → edit_at objects head ≢ Some GREATEST_TIME
     unfolding EntityFaultHolds
     clock head valid one_apart two_apart among full =
         valid (fault.ClockFull head) (record { one = one; two = two; apart = record { are = refl; one_apart = one_apart; two_apart = two_apart }; head = among; full = full })

@@ -1,6 +1,6 @@
 -- Two heads that are valid alone are so together, where nothing is wrong that takes both.
 use Rattle.std.proofs.Common.{◌≡◌, ◌≢◌, ◌⊎◌, inl, inr, ◌<◌, ℕ, List, [], ◌∷◌, length, Contains, Some, subst, ap, ◌∙◌, arith}
-use Rattle.gb_text.specs.declared.decimal.TheConstants.{LIMIT}
+use Rattle.gb_text.specs.declared.decimal.TheConstants.{GREATEST_TIME}
 use Rattle.gb_text.specs.declared.id.Id.{Id}
 use Rattle.gb_text.specs.declared.id.Name.{Name}
 use Rattle.object_store.specs.Held.{Objects}
@@ -46,7 +46,7 @@ module _ {Op State Row : Type 0} (k : Meaning Op State Row) (objects : Objects) 
     root_below node n never = node_below node n.is (λ heads v is. never heads v (record { is = is; root = n.root }))
 
     pub valid_together : (names : List Name) → ((a b : Name) → IsRootCommit objects both a → IsRootCommit objects both b → a ≡ b) → ((found : Id) → RepeatsAcross k objects both found → ⊥)
-        → ((name : Name) → HasCommit objects both name → Contains names name) → length names < 65536 → edit_at objects one ≢ Some LIMIT → edit_at objects two ≢ Some LIMIT → IsValid k objects id both authors
+        → ((name : Name) → HasCommit objects both name → Contains names name) → length names < 65536 → edit_at objects one ≢ Some GREATEST_TIME → edit_at objects two ≢ Some GREATEST_TIME → IsValid k objects id both authors
     unfolding EntityFaultHolds
     valid_together names one_root once are few one_free two_free = valid
       where
@@ -56,7 +56,7 @@ module _ {Op State Row : Type 0} (k : Meaning Op State Row) (objects : Objects) 
         too_large count (inr (inl ops)) = pack_fault ops.0 (pack.TooLarge count) ops.1 (λ heads v h. v (fault.TooLarge count) (inr (inl (ops.0, h))))
         too_large count (inr (inr (is, (name, need, large)))) = needed name need (λ heads v n. v (fault.TooLarge count) (inr (inr (is, (name, n, large)))))
 
-        full : (name : Name) → Contains both name → edit_at objects name ≡ Some LIMIT → ⊥
+        full : (name : Name) → Contains both name → edit_at objects name ≡ Some GREATEST_TIME → ⊥
         full name c says = elim (Contains-cons one (two ∷ []) name c) [
           | inl e ↦ one_free (ap (edit_at objects) e ∙ says)
           | inr h ↦ two_free (ap (edit_at objects) (Contains-one two name h) ∙ says)

@@ -1,7 +1,7 @@
 -- What lies below two heads, and how their clocks lie.
 use Rattle.std.proofs.Common.{◌≡◌, inl, inr, ◌≤◌, max, ℕ, List, [], ◌∷◌, Contains, Some, sym, ◌∙◌, ap, subst, arith}
 use Rattle.std.proofs.lemmas.Option.{same_Some}
-use Rattle.gb_text.specs.declared.decimal.TheConstants.{LIMIT}
+use Rattle.gb_text.specs.declared.decimal.TheConstants.{GREATEST_TIME}
 use Rattle.gb_text.specs.declared.id.Id.{Id}
 use Rattle.gb_text.specs.declared.id.Name.{Name}
 use Rattle.git_object.specs.declared.commit.Commit.{Commit}
@@ -52,7 +52,7 @@ module _ {Op State Row : Type 0} (k : Meaning Op State Row) (objects : Objects) 
       omega (arith, less, same, rise.rises)
 
   -- no clock is above the limit
-  pub within_limit : (name : Name) (edit : ℕ) → IsBelow objects heads name → edit_at objects name ≡ Some edit → edit ≤ LIMIT
+  pub within_limit : (name : Name) (edit : ℕ) → IsBelow objects heads name → edit_at objects name ≡ Some edit → edit ≤ GREATEST_TIME
   within_limit name edit b says =
       let at = Contains-from_map (λ (p : Placed Op). p.commit) entity.packs name (was.packs.all name b) in
       let has = was.packs.each at.0 at.1 in

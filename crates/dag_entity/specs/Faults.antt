@@ -1,6 +1,6 @@
 -- What may be wrong with an entity: one case a fault, over what lies below its heads, and no order among them.
 use Rattle.std.specs.Prelude.{◌≡◌, ◌≢◌, ◌≤◌, ◌<◌, ◌+◌, ◌⊎◌, ⊤, ℕ, false, List, [], ◌∷◌, length, slice_get, Contains, Some, None}
-use Rattle.gb_text.specs.declared.decimal.TheConstants.{LIMIT}
+use Rattle.gb_text.specs.declared.decimal.TheConstants.{GREATEST_TIME}
 use Rattle.gb_text.specs.declared.id.Id.{Id}
 use Rattle.gb_text.specs.declared.id.Name.{Name}
 use Rattle.git_object.specs.declared.commit.Commit.{Commit}
@@ -78,7 +78,7 @@ pub record IsFullHead (objects : Objects) (heads : List Name) (name : Name) : Ty
   pub two : Name
   pub apart : AreApart objects heads one two
   pub head : Contains heads name
-  pub full : edit_at objects name ≡ Some LIMIT
+  pub full : edit_at objects name ≡ Some GREATEST_TIME
 
 module _ {Op State Row : Type 0} (k : Meaning Op State Row) where
   -- ---- faults of packs, said of commits that have one

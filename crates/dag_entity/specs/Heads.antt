@@ -1,6 +1,6 @@
 -- What is asked of the heads of a graph.
 use Rattle.std.specs.Prelude.{◌≡◌, ◌≢◌, ◌≤◌, ◌<◌, ◌+◌, ◌⊎◌, ℕ, List, [], ◌∷◌, length, Contains, Result, Ok, Err}
-use Rattle.gb_text.specs.declared.decimal.TheConstants.{LIMIT}
+use Rattle.gb_text.specs.declared.decimal.TheConstants.{GREATEST_TIME}
 use Rattle.gb_text.specs.declared.id.Name.{Name}
 use Rattle.commit_walk.specs.declared.below.TheConstants.{MOST_COMMITS}
 use Rattle.dag_graph.specs.Below.{IsAncestor}
@@ -40,20 +40,20 @@ pub record AreApartIn (nodes : List Node) (heads : List Name) (one two : Name) :
 -- there is room for the merge commit that two heads need
 pub record HaveRoom (nodes : List Node) (heads : List Name) : Type 0 where
   pub few : length nodes < MOST_COMMITS
-  pub free : (name : Name) → Contains heads name → HasEdit nodes name LIMIT → ⊥
+  pub free : (name : Name) → Contains heads name → HasEdit nodes name GREATEST_TIME → ⊥
 
 -- The answer to the greatest edit clock of the heads, if there is room for the merge commit that they may need.
 abbrev pub HeadsAnswers : List Node → List Name → Result ℕ EntityFault → Type 0
 HeadsAnswers nodes heads (Ok edit) = IsGreatestIn nodes heads edit × ((one two : Name) → AreApartIn nodes heads one two → HaveRoom nodes heads)
 HeadsAnswers nodes heads (Err (fault.TooLarge count)) = (count ≡ MOST_COMMITS + 1) × (MOST_COMMITS ≤ length nodes) × ((one : Name) × (two : Name) × AreApartIn nodes heads one two)
-HeadsAnswers nodes heads (Err (fault.ClockFull name)) = Contains heads name × HasEdit nodes name LIMIT × ((one : Name) × (two : Name) × AreApartIn nodes heads one two)
+HeadsAnswers nodes heads (Err (fault.ClockFull name)) = Contains heads name × HasEdit nodes name GREATEST_TIME × ((one : Name) × (two : Name) × AreApartIn nodes heads one two)
 HeadsAnswers nodes heads (Err _) = ⊥
 
 -- The answer to whether a merge commit can follow the nodes at two positions.
 abbrev pub RoomAnswers : List Node → ℕ → ℕ → Result Unit EntityFault → Type 0
-RoomAnswers nodes one two (Ok _) = (length nodes < MOST_COMMITS) × ((node_at nodes one).edit ≢ LIMIT) × ((node_at nodes two).edit ≢ LIMIT)
+RoomAnswers nodes one two (Ok _) = (length nodes < MOST_COMMITS) × ((node_at nodes one).edit ≢ GREATEST_TIME) × ((node_at nodes two).edit ≢ GREATEST_TIME)
 RoomAnswers nodes one two (Err (fault.TooLarge count)) = (count ≡ MOST_COMMITS + 1) × (MOST_COMMITS ≤ length nodes)
 RoomAnswers nodes one two (Err (fault.ClockFull name)) = (length nodes < MOST_COMMITS)
-    × ((((node_at nodes one).edit ≡ LIMIT) × (name ≡ (node_at nodes one).name))
-    ⊎ (((node_at nodes one).edit ≢ LIMIT) × ((node_at nodes two).edit ≡ LIMIT) × (name ≡ (node_at nodes two).name)))
+    × ((((node_at nodes one).edit ≡ GREATEST_TIME) × (name ≡ (node_at nodes one).name))
+    ⊎ (((node_at nodes one).edit ≢ GREATEST_TIME) × ((node_at nodes two).edit ≡ GREATEST_TIME) × (name ≡ (node_at nodes two).name)))
 RoomAnswers nodes one two (Err _) = ⊥

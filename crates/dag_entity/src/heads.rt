@@ -7,7 +7,7 @@ ghost use Rattle.dag_entity.specs.Heads.{HaveHeads, HeadsAnswers, LieApart, Room
 use crate::fault::EntityFault;
 use commit_walk::MOST_COMMITS;
 use dag_graph::{Graph, Node};
-use gb_text::{LIMIT, Name};
+use gb_text::{GREATEST_TIME, Name};
 
 /// The greatest edit clock of the heads, if there is room for the merge commit that they may need.
 pub(crate) fn greatest_edit(graph: &mut Graph, heads: &[Name]) -> Result<u64, EntityFault>
@@ -63,10 +63,10 @@ fn check_room(nodes: &[Node], one: usize, two: usize) -> Result<(), EntityFault>
     if nodes.len() >= MOST_COMMITS {
         return Err(EntityFault::TooLarge(MOST_COMMITS as u64 + 1));
     }
-    if nodes[one].edit == LIMIT {
+    if nodes[one].edit == GREATEST_TIME {
         return Err(EntityFault::ClockFull(nodes[one].name));
     }
-    if nodes[two].edit == LIMIT {
+    if nodes[two].edit == GREATEST_TIME {
         return Err(EntityFault::ClockFull(nodes[two].name));
     }
     Ok(())

@@ -1,6 +1,6 @@
 //! Laws of entities, each the contract of a function that does nothing.
 ghost use Rattle.std.specs.Prelude.{◌≡◌, ◌≢◌, ◌≤◌, ◌<◌, ◌+◌, ◌-◌, ◌^◌, ◌↔◌, ◌⊎◌, ℕ, true, List, [], ◌∷◌, ◌++◌, map, length, slice_get, Contains, Some};
-ghost use Rattle.gb_text.specs.declared.decimal.TheConstants.{LIMIT};
+ghost use Rattle.gb_text.specs.declared.decimal.TheConstants.{GREATEST_TIME};
 ghost use Rattle.gb_text.specs.declared.id.Id.{Id as IdValue};
 ghost use Rattle.gb_text.specs.declared.id.Name.{Name as NameValue};
 ghost use Rattle.git_object.specs.declared.commit.Commit.{Commit as CommitValue};
@@ -114,7 +114,7 @@ pub fn valid_entities_keep_the_rules<K: OpKind>()
     ensures clock { (objects : Objects) (id : IdValue) (authors : List IdValue)
         (one two head : NameValue) → IsValid K.meaning objects id (one ∷ two ∷ []) authors
         → (IsBelow objects (two ∷ []) one → ⊥) → (IsBelow objects (one ∷ []) two → ⊥)
-        → Contains (one ∷ two ∷ []) head → edit_at objects head ≢ Some LIMIT }
+        → Contains (one ∷ two ∷ []) head → edit_at objects head ≢ Some GREATEST_TIME }
 {}
 
 /// A fault of roots, clock order or clock jump names its commits in order, exactly when they have

@@ -1,7 +1,7 @@
 -- The operations that commands make keep the rules of bugs' operations.
 use Rattle.std.proofs.Common.{◌≡◌, ◌≤◌, ◌<◌, ◌^◌, ℕ, true, IsUtf8, List, [], ◌∷◌, None, refl, arith}
 use Rattle.gb_text.specs.Rules.{is_message_text, is_title_text}
-use Rattle.gb_text.specs.declared.decimal.TheConstants.{LIMIT}
+use Rattle.gb_text.specs.declared.decimal.TheConstants.{GREATEST_TIME}
 use Rattle.gb_text.specs.Digits.{IsId}
 use Rattle.gb_text.specs.declared.id.Id.{Id}
 use Rattle.bug_ops.specs.BugForms.{AreLabels}
@@ -22,7 +22,7 @@ one_in_order : (pair : Pair) → AreInKeyOrder (pair ∷ [])
 unfolding IsStrictlySortedBy
 one_in_order pair = (tt, tt)
 
-module _ (env : Env) (moment : env.now ≤ LIMIT) where
+module _ (env : Env) (moment : env.now ≤ GREATEST_TIME) where
   -- what they have in common is within its bounds
   within : (kind : ℕ) → kind < 2 ^ 64 → IsWithinBounds (new_common env kind)
   within kind small = record { kind = small; time = moment; nonce = is_nonce env.seed; order = none_in_order; texts = tt }

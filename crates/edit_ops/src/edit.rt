@@ -12,7 +12,7 @@ ghost use Rattle.edit_ops.specs.Answers.{OpAnswers};
 use crate::labels::{first_no_title, named_off, named_on};
 use crate::operation::{comment_op, labels_op, metadata_op, noop_op, status_op, title_op};
 use bug_ops::{BugOp, BugStatus};
-use gb_text::{LIMIT, List, Memory, Text, is_message, is_title};
+use gb_text::{GREATEST_TIME, List, Memory, Text, is_message, is_title};
 use repo_state::{Env, Refusal, Stop};
 use repo_steps::BugEdit;
 use snapshot::compile;
@@ -37,7 +37,7 @@ pub fn bad_edit(edit: &BugEdit) -> Option<u64>
 /// The operation that an edit adds to a bug with these operations, which are those of a bug. `SameStatus` and `NoLabelChange`
 /// exactly where what the bug says would not change by a status or by labels.
 pub fn edit_op(alloc: Global, env: &Env, edit: &BugEdit, ops: &[BugOp]) -> Result<BugOp, Stop>
-    requires moment { env.now.now ≤ LIMIT }
+    requires moment { env.now.now ≤ GREATEST_TIME }
     requires words { bad_edit edit.now ≡ None }
     ensures op { IsBugList ops.now → OpAnswers env.entry.now edit.now (snapshot_of ops.now) result }
     ensures rules { IfOk result (λ op. MayWriteOp op) }
@@ -59,7 +59,7 @@ pub fn edit_op(alloc: Global, env: &Env, edit: &BugEdit, ops: &[BugOp]) -> Resul
 
 // Another title, in place of the one that the bug has.
 fn retitled(alloc: Global, env: &Env, title: &str, ops: &[BugOp]) -> Result<BugOp, Memory>
-    requires moment { env.now.now ≤ LIMIT }
+    requires moment { env.now.now ≤ GREATEST_TIME }
     requires words { is_title_text title.now ≡ true }
     ensures op { IsBugList ops.now → IfOk result (λ op. op
         ≡ title_op env.entry.now title.now (snapshot_of ops.now).row.title) }
@@ -71,7 +71,7 @@ fn retitled(alloc: Global, env: &Env, title: &str, ops: &[BugOp]) -> Result<BugO
 
 // This status, where the bug has another.
 fn with_status(alloc: Global, env: &Env, status: BugStatus, ops: &[BugOp]) -> Result<BugOp, Stop>
-    requires moment { env.now.now ≤ LIMIT }
+    requires moment { env.now.now ≤ GREATEST_TIME }
     ensures op { IsBugList ops.now
         → OpAnswers env.entry.now (kind.Status status) (snapshot_of ops.now) result }
     ensures rules { IfOk result (λ op. MayWriteOp op) }
@@ -98,7 +98,7 @@ fn is_same(one: BugStatus, two: BugStatus) -> bool
 
 // The named labels that are off, which are put on.
 fn with_labels(alloc: Global, env: &Env, labels: &List<Text>, ops: &[BugOp]) -> Result<BugOp, Stop>
-    requires moment { env.now.now ≤ LIMIT }
+    requires moment { env.now.now ≤ GREATEST_TIME }
     requires words { list_all is_title_text labels.now ≡ true }
     ensures op { IsBugList ops.now
         → OpAnswers env.entry.now (kind.AddLabels labels.now) (snapshot_of ops.now) result }
@@ -121,7 +121,7 @@ fn without_labels(
     labels: &List<Text>,
     ops: &[BugOp],
 ) -> Result<BugOp, Stop>
-    requires moment { env.now.now ≤ LIMIT }
+    requires moment { env.now.now ≤ GREATEST_TIME }
     requires words { list_all is_title_text labels.now ≡ true }
     ensures op { IsBugList ops.now
         → OpAnswers env.entry.now (kind.RemoveLabels labels.now) (snapshot_of ops.now) result }
@@ -145,7 +145,7 @@ fn with_metadata(
     value: &str,
     ops: &[BugOp],
 ) -> Result<BugOp, Memory>
-    requires moment { env.now.now ≤ LIMIT }
+    requires moment { env.now.now ≤ GREATEST_TIME }
     ensures op { IsBugList ops.now → IfOk result (λ op. op
         ≡ metadata_op env.entry.now (snapshot_of ops.now).row.id key.now value.now) }
     ensures rules { IfOk result (λ op. MayWriteOp op) }

@@ -10,7 +10,7 @@ ghost use Rattle.repo_steps.specs.NewOps.{MayWriteOp, create_op, new_common, now
 
 use crate::nonce::nonce_from;
 use bug_ops::{BugOp, BugStatus};
-use gb_text::{Id, LIMIT, List, Memory, Text, is_message, is_title};
+use gb_text::{GREATEST_TIME, Id, List, Memory, Text, is_message, is_title};
 use op_kind::{Common, Nonce, OpKind, Pair, Place};
 use repo_state::Env;
 use sha2::{Digest, Sha256};
@@ -28,7 +28,7 @@ pub fn bad_bug(title: &str, message: &str) -> Option<u64>
 
 /// The operation that begins a bug with a title and a message.
 pub fn create_op(alloc: Global, env: &Env, title: &str, message: &str) -> Result<BugOp, Memory>
-    requires moment { env.now.now ≤ LIMIT }
+    requires moment { env.now.now ≤ GREATEST_TIME }
     requires words { bad_bug title.now message.now ≡ None }
     ensures op { IfOk result (λ op. op ≡ create_op env.entry.now title.now message.now) }
     ensures rules { IfOk result (λ op. MayWriteOp op) }
@@ -43,7 +43,7 @@ pub fn create_op(alloc: Global, env: &Env, title: &str, message: &str) -> Result
 
 /// A comment.
 pub fn comment_op(alloc: Global, env: &Env, message: &str) -> Result<BugOp, Memory>
-    requires moment { env.now.now ≤ LIMIT }
+    requires moment { env.now.now ≤ GREATEST_TIME }
     requires words { is_message_text message.now ≡ true }
     ensures op { IfOk result (λ op. op ≡ comment_op env.entry.now message.now) }
     ensures rules { IfOk result (λ op. MayWriteOp op) }
@@ -57,7 +57,7 @@ pub fn comment_op(alloc: Global, env: &Env, message: &str) -> Result<BugOp, Memo
 
 /// An operation that changes nothing.
 pub fn noop_op(alloc: Global, env: &Env) -> Result<BugOp, Memory>
-    requires moment { env.now.now ≤ LIMIT }
+    requires moment { env.now.now ≤ GREATEST_TIME }
     ensures op { IfOk result (λ op. op ≡ noop_op env.entry.now) }
     ensures rules { IfOk result (λ op. MayWriteOp op) }
 {
@@ -68,7 +68,7 @@ pub fn noop_op(alloc: Global, env: &Env) -> Result<BugOp, Memory>
 
 /// Another title, and the one before.
 pub fn title_op(alloc: Global, env: &Env, title: &str, was: &str) -> Result<BugOp, Memory>
-    requires moment { env.now.now ≤ LIMIT }
+    requires moment { env.now.now ≤ GREATEST_TIME }
     requires words { is_title_text title.now ≡ true }
     ensures op { IfOk result (λ op. op ≡ title_op env.entry.now title.now was.now) }
     ensures rules { IfOk result (λ op. MayWriteOp op) }
@@ -82,7 +82,7 @@ pub fn title_op(alloc: Global, env: &Env, title: &str, was: &str) -> Result<BugO
 
 /// Another status.
 pub fn status_op(alloc: Global, env: &Env, status: BugStatus) -> Result<BugOp, Memory>
-    requires moment { env.now.now ≤ LIMIT }
+    requires moment { env.now.now ≤ GREATEST_TIME }
     ensures op { IfOk result (λ op. op ≡ status_op env.entry.now status) }
     ensures rules { IfOk result (λ op. MayWriteOp op) }
 {
@@ -99,7 +99,7 @@ pub fn labels_op(
     added: List<Text>,
     removed: List<Text>,
 ) -> Result<BugOp, Memory>
-    requires moment { env.now.now ≤ LIMIT }
+    requires moment { env.now.now ≤ GREATEST_TIME }
     requires added { AreLabels added }
     requires removed { AreLabels removed }
     ensures op { IfOk result (λ op. op ≡ labels_op env.entry.now added removed) }
@@ -120,7 +120,7 @@ pub fn metadata_op(
     key: &str,
     value: &str,
 ) -> Result<BugOp, Memory>
-    requires moment { env.now.now ≤ LIMIT }
+    requires moment { env.now.now ≤ GREATEST_TIME }
     ensures op { IfOk result (λ op. op ≡ metadata_op env.entry.now target key.now value.now) }
     ensures rules { IfOk result (λ op. MayWriteOp op) }
 {

@@ -9,4 +9,5 @@ pub mod OverlapLemmas
 pub mod PartLemmas
 pub mod PathLemmas
 pub mod ReadBackLemmas
+pub mod RuledLemmas
 pub mod SortedLemmas

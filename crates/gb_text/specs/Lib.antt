@@ -3,4 +3,5 @@ pub mod Digits
 pub mod Folder
 pub mod LineEnd
 pub mod Overlap
+pub mod Ruled
 pub mod Rules

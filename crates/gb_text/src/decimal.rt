@@ -5,11 +5,11 @@ ghost use Rattle.gb_text.specs.Decimal.{IsDecimal, decimal_of};
 use itoa::Buffer;
 
 /// The greatest moment, in seconds since 1970, and the greatest edit or create clock: 2^63 - 1.
-pub const LIMIT: u64 = 9223372036854775807;
+pub const GREATEST_TIME: u64 = 9223372036854775807;
 
 /// The limit has the value that contracts above this crate write.
 pub fn limit_is_known()
-    ensures { LIMIT ≡ 2 ^ 63 - 1 }
+    ensures { GREATEST_TIME ≡ 2 ^ 63 - 1 }
 {}
 
 /// The number of which the text is the plain decimal: one or more digits, no sign, no leading

@@ -1,6 +1,6 @@
 //! Laws of folders, of the order of ids and names, and of ascending lists, each the contract of a
 //! function that does nothing.
-ghost use Rattle.std.specs.Prelude.{◌≡◌, ◌≢◌, ◌↔◌, ℕ, List, [], Some, false, Contains};
+ghost use Rattle.std.specs.Prelude.{◌≡◌, ◌≢◌, ◌↔◌, ℕ, List, [], Some, None, false, Contains};
 ghost use Rattle.std.specs.Cmp.Lexicographic.{slice_cmp};
 ghost use Rattle.std.specs.List.{AllPairs};
 ghost use Rattle.std.specs.List.Sorted.{IsStrictlySortedBy};
@@ -10,8 +10,13 @@ ghost use Rattle.hex.specs.Hex.{encode_lower};
 ghost use Rattle.gb_text.specs.Digits.{IsId, IsName};
 ghost use Rattle.gb_text.specs.Folder.{folder_of, is_rooted, joined};
 ghost use Rattle.gb_text.specs.Overlap.{Overlap};
+ghost use Rattle.gb_text.specs.Ruled.{line_of, message_of, title_of};
+ghost use Rattle.gb_text.specs.Rules.{is_line_text, is_message_text, is_title_text};
 ghost use Rattle.gb_text.specs.declared.id.Id.{Id as IdValue};
 ghost use Rattle.gb_text.specs.declared.id.Name.{Name as NameValue};
+ghost use Rattle.gb_text.specs.declared.ruled.Line.{Line as LineValue};
+ghost use Rattle.gb_text.specs.declared.ruled.Message.{Message as MessageValue};
+ghost use Rattle.gb_text.specs.declared.ruled.Title.{Title as TitleValue};
 
 use crate::{Id, Name};
 
@@ -61,4 +66,15 @@ pub fn ascending_lists_are_their_items<T: Ord>()
     ensures same { (items others : List T) → IsStrictlySortedBy T.cmp items
         → IsStrictlySortedBy T.cmp others
         → ((item : T) → Contains items item ↔ Contains others item) → items ≡ others }
+{}
+
+/// A line, a title or a message is what its text is read as, and a text that breaks the rule is none.
+pub fn ruled_texts_read_back()
+    ensures lines { (line : LineValue) → line_of line.text ≡ Some line }
+    ensures titles { (title : TitleValue) → title_of title.text ≡ Some title }
+    ensures messages { (message : MessageValue) → message_of message.text ≡ Some message }
+    ensures no_line { (text : List ℕ) → is_line_text text ≡ false → line_of text ≡ None }
+    ensures no_title { (text : List ℕ) → is_title_text text ≡ false → title_of text ≡ None }
+    ensures no_message { (text : List ℕ) → is_message_text text ≡ false
+        → message_of text ≡ None }
 {}

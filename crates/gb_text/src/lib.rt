@@ -9,20 +9,22 @@ mod line_end;
 mod list;
 mod memory;
 mod owned;
+mod ruled;
 mod rules;
 mod writer;
 
-pub use decimal::{LIMIT, limit_is_known, read_decimal};
+pub use decimal::{GREATEST_TIME, limit_is_known, read_decimal};
 pub use folder::{Folder, FolderFault};
 pub use id::{Id, Name};
 pub use laws::{
     ascending_lists_are_their_items, folders_apart_share_no_path, folders_overlap_each_other,
     folders_read_again, ids_are_in_order_of_their_texts, names_are_in_order_of_their_texts,
-    paths_keep_their_rest,
+    paths_keep_their_rest, ruled_texts_read_back,
 };
 pub use line_end::without_line_end;
 pub use list::List;
 pub use memory::Memory;
 pub use owned::{Bytes, Text};
+pub use ruled::{Line, Message, Title};
 pub use rules::{is_line, is_message, is_title};
 pub use writer::{push_ascii, push_id, push_line_end, push_name, push_number};

@@ -8,7 +8,7 @@ ghost use Rattle.identity.specs.Making.{MakingAnswers, PlanAnswers, commit_conte
 
 use crate::version::{id_of_version, version_text};
 use gb_store::Store;
-use gb_text::{Bytes, Folder, Id, LIMIT, List, Memory, Name};
+use gb_text::{Bytes, Folder, GREATEST_TIME, Id, List, Memory, Name};
 use git_object::{Entry, Kind, Mode, Tree};
 use object_batch::{check_sizes, commit_for, put_all};
 use object_store::{ObjectText, PutFault};
@@ -47,7 +47,7 @@ pub fn new_version<S: Store>(
 ) -> Result<Made, PutFault>
     requires title { IsTrue (is_title_text name.now) }
     requires line { IsTrue (is_line_text email.now) }
-    requires moment { now ≤ LIMIT }
+    requires moment { now ≤ GREATEST_TIME }
     ensures made { IfOk result (λ made. made
         ≡ made_of (version_text_of name.now email.now nonce.now now) parent now) }
     ensures answers { IsTrue S.tells → MakingAnswers folder.now
@@ -73,7 +73,7 @@ pub fn plan_version(
 ) -> Result<VersionPlan, PutFault>
     requires title { IsTrue (is_title_text name.now) }
     requires line { IsTrue (is_line_text email.now) }
-    requires moment { now ≤ LIMIT }
+    requires moment { now ≤ GREATEST_TIME }
     ensures { PlanAnswers (version_text_of name.now email.now nonce.now now) parent now result }
 {
     let version = version_text(alloc, name, email, nonce, now)?;

@@ -4,7 +4,7 @@ ghost use Rattle.gb_text.specs.Decimal.{decimal_of};
 ghost use Rattle.op_kind.specs.Common.{nonce_in as nonce_at, nonce_of};
 ghost use Rattle.identity.specs.Version.{line_at, keys_at, format_of, line_of, moment_of, keys_of};
 
-use gb_text::{LIMIT, Memory, Text, is_line, read_decimal};
+use gb_text::{GREATEST_TIME, Memory, Text, is_line, read_decimal};
 use json_span::{SpanFault, elements};
 use op_kind::{Field, Nonce, find, read_text};
 use std::alloc::Global;
@@ -24,7 +24,7 @@ pub fn time_in(fields: &[Field]) -> Option<u64>
     ensures { result ≡ moment_of (map (λ f. (f.name, f.value.now)) fields.now) }
 {
     match find(fields, "unix_time") {
-        Some(Some(value)) => read_decimal(value).filter(|time| *time <= LIMIT),
+        Some(Some(value)) => read_decimal(value).filter(|time| *time <= GREATEST_TIME),
         _ => None,
     }
 }

@@ -2,10 +2,10 @@
 ghost use Rattle.std.specs.Prelude.{◌≡◌, ◌↔◌, ◌≤◌, ◌<◌, ◌+◌, max, IfOk, IsErr};
 ghost use Rattle.lamport.specs.Clock.{clock_of, seen_by, root_time_of, edit_time_of, merge_time_of};
 
-use gb_text::{LIMIT, read_decimal, without_line_end};
+use gb_text::{GREATEST_TIME, read_decimal, without_line_end};
 use std::marker::Model;
 
-/// The greatest number that a clock holds: 2^62. It leaves room above, up to [`LIMIT`], for the edits of
+/// The greatest number that a clock holds: 2^62. It leaves room above, up to [`GREATEST_TIME`], for the edits of
 /// 2^62 - 1 further commits, however a hostile clock was set.
 pub const CAP: u64 = 4611686018427387904;
 
@@ -31,7 +31,7 @@ impl Model for Clock {
     ghost inverse = { λ n. record { number = n } };
 }
 
-/// The head's clock is [`LIMIT`], so no clock is left above it.
+/// The head's clock is [`GREATEST_TIME`], so no clock is left above it.
 #[derive(Clone, Copy, Debug, PartialEq, Eq)]
 pub struct ClockFull;
 
@@ -74,14 +74,14 @@ impl Clock {
 
     /// The clock of an edit on a head with this edit clock.
     pub fn edit_time(&self, head: u64) -> Result<u64, ClockFull>
-        requires { head ≤ LIMIT }
+        requires { head ≤ GREATEST_TIME }
         ensures value { IfOk result (λ time. time ≡ edit_time_of self.now head) }
-        ensures full { IsErr result ↔ (head ≡ LIMIT) }
+        ensures full { IsErr result ↔ (head ≡ GREATEST_TIME) }
         ensures above { IfOk result (λ time. head < time) }
         ensures near { IfOk result (λ time. time ≤ head + JUMP) }
-        ensures within { IfOk result (λ time. time ≤ LIMIT) }
+        ensures within { IfOk result (λ time. time ≤ GREATEST_TIME) }
     {
-        if head == LIMIT {
+        if head == GREATEST_TIME {
             return Err(ClockFull);
         }
         let number = self.number;
@@ -90,15 +90,15 @@ impl Clock {
 
     /// The clock of a commit that joins two heads with these edit clocks.
     pub fn merge_time(&self, one: u64, two: u64) -> Result<u64, ClockFull>
-        requires first { one ≤ LIMIT }
-        requires second { two ≤ LIMIT }
+        requires first { one ≤ GREATEST_TIME }
+        requires second { two ≤ GREATEST_TIME }
         ensures value { IfOk result (λ time. time ≡ merge_time_of self.now one two) }
-        ensures full { IsErr result ↔ (max one two ≡ LIMIT) }
+        ensures full { IsErr result ↔ (max one two ≡ GREATEST_TIME) }
         ensures above { IfOk result (λ time. max one two < time) }
-        ensures within { IfOk result (λ time. time ≤ LIMIT) }
+        ensures within { IfOk result (λ time. time ≤ GREATEST_TIME) }
     {
         let head = one.max(two);
-        if head == LIMIT {
+        if head == GREATEST_TIME {
             return Err(ClockFull);
         }
         let number = self.number;

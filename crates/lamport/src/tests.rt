@@ -1,5 +1,5 @@
 use super::*;
-use gb_text::LIMIT;
+use gb_text::GREATEST_TIME;
 
 #[test]
 fn a_clock_file_reads_as_a_number(rt: HostRuntime) {
@@ -25,16 +25,19 @@ fn a_hostile_clock_is_capped(rt: HostRuntime) {
     let mut clock = Clock::read(b"0");
     assert_eq!(rt; clock.root_time(), 1);
     assert_eq!(rt; clock.edit_time(0), Ok(1));
-    clock.see(LIMIT);
+    clock.see(GREATEST_TIME);
     assert_eq!(rt; clock.value(), CAP);
     clock.see(7);
     assert_eq!(rt; clock.value(), CAP);
     assert_eq!(rt; clock.root_time(), CAP);
     assert_eq!(rt; clock.edit_time(5), Ok(1_000_005));
-    assert_eq!(rt; clock.edit_time(LIMIT - 1), Ok(LIMIT));
-    assert_eq!(rt; clock.edit_time(LIMIT), Err(ClockFull));
-    assert_eq!(rt; clock.merge_time(LIMIT - 1, LIMIT - 1), Ok(LIMIT));
-    assert_eq!(rt; clock.merge_time(1, LIMIT), Err(ClockFull));
+    assert_eq!(rt; clock.edit_time(GREATEST_TIME - 1), Ok(GREATEST_TIME));
+    assert_eq!(rt; clock.edit_time(GREATEST_TIME), Err(ClockFull));
+    assert_eq!(rt;
+        clock.merge_time(GREATEST_TIME - 1, GREATEST_TIME - 1),
+        Ok(GREATEST_TIME)
+    );
+    assert_eq!(rt; clock.merge_time(1, GREATEST_TIME), Err(ClockFull));
 }
 
 #[test]

@@ -8,7 +8,7 @@ use Rattle.std.proofs.lemmas.List.Sorted.{All-permutation}
 use Rattle.serde_json.specs.Find.{as_str}
 use Rattle.serde_json.specs.Read.{read}
 use Rattle.gb_text.specs.Decimal.{decimal_of}
-use Rattle.gb_text.specs.declared.decimal.TheConstants.{LIMIT}
+use Rattle.gb_text.specs.declared.decimal.TheConstants.{GREATEST_TIME}
 use Rattle.gb_text.specs.Digits.{IsId, id_of}
 use Rattle.gb_text.specs.declared.id.Id.{Id}
 use Rattle.gb_text.proofs.DecimalLemmas.{decimal_of-is}
@@ -50,12 +50,12 @@ text_is_utf8 json t h = checked_utf8 (is_utf8 json) (option_and_then as_str (rea
 pub decimal_is_below : (json : List ℕ) (n : ℕ) → decimal_of json ≡ Some n → n < 2 ^ 64
 decimal_is_below json n h = let is = decimal_of-is json n h in is.below
 
-limited : (m n : ℕ) (b : Bool) → nat_le m LIMIT ≡ b → (if b then Some m else None) ≡ Some n → n ≤ LIMIT
-limited m n true is h = let e : m ≡ n = cc (h) in subst (λ x. x ≤ LIMIT) e (leb-true m LIMIT is)
+limited : (m n : ℕ) (b : Bool) → nat_le m GREATEST_TIME ≡ b → (if b then Some m else None) ≡ Some n → n ≤ GREATEST_TIME
+limited m n true is h = let e : m ≡ n = cc (h) in subst (λ x. x ≤ GREATEST_TIME) e (leb-true m GREATEST_TIME is)
 limited m n false is h = absurd (cc (h))
 
 -- A time that is read is within the limit.
-pub time_is_low : (json : List ℕ) (n : ℕ) → time_at json ≡ Some n → n ≤ LIMIT
+pub time_is_low : (json : List ℕ) (n : ℕ) → time_at json ≡ Some n → n ≤ GREATEST_TIME
 time_is_low json n h = let s = then_some within_limit (decimal_of json) n h in limited s.0 n _ refl s.2
 
 -- A nonce that is read is one.
@@ -150,7 +150,7 @@ parts_within p fs x h =
     let four = four_are (kind_of fs) (time_of fs) (nonce_of fs) (metadata_of fs) x h in
     record {
       kind = the_value decimal_of (λ n. n < 2 ^ 64) decimal_is_below (values_of (codes "type") fs) x.kind four.kind;
-      time = the_value time_at (λ n. n ≤ LIMIT) time_is_low (values_of (codes "timestamp") fs) x.time four.time;
+      time = the_value time_at (λ n. n ≤ GREATEST_TIME) time_is_low (values_of (codes "timestamp") fs) x.time four.time;
       nonce = the_value nonce_in IsNonce nonce_is_one (values_of (codes "nonce") fs) x.nonce four.nonce;
       order = value_or_absent [] metadata_at AreInKeyOrder none_in_order metadata_ascends (values_of (codes "metadata") fs) x.metadata four.metadata;
       texts = value_or_absent [] metadata_at EachPairUtf8 tt metadata_is_utf8 (values_of (codes "metadata") fs) x.metadata four.metadata;

@@ -3,7 +3,7 @@ use Rattle.std.specs.Prelude.{◌≡◌, ◌≤◌, ◌⊎◌, ℕ, ◌-◌, ◌
 use Rattle.std.specs.Option.{option_map}
 use Rattle.std.specs.Str.{bytes_eq}
 use Rattle.gb_text.specs.Decimal.{decimal_of}
-use Rattle.gb_text.specs.declared.decimal.TheConstants.{LIMIT}
+use Rattle.gb_text.specs.declared.decimal.TheConstants.{GREATEST_TIME}
 use Rattle.op_kind.specs.Members.{Fields, text_at, fields_at, values_of, IsRepeated, Breaks, Lacks, only_value, value_or}
 use Rattle.op_kind.specs.Nonces.{nonce_at}
 use Rattle.op_kind.specs.Metadata.{pairs_at}
@@ -17,7 +17,7 @@ use Rattle.op_kind.specs.declared.fault.OpFault.TheVariants.{Memory, NotObject, 
 
 -- a number within the limit
 abbrev pub within_limit : ℕ → Option ℕ
-within_limit n = if nat_le n LIMIT then Some n else None
+within_limit n = if nat_le n GREATEST_TIME then Some n else None
 
 -- a time: a plain decimal within the limit
 abbrev pub time_at : List ℕ → Option ℕ

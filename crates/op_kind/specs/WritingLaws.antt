@@ -20,7 +20,7 @@ use Rattle.gb_text.proofs.DecimalLemmas.{decimal_of-decimal}
 use Rattle.gb_text.proofs.DigitLemmas.{id_of-encode_lower}
 use Rattle.json.specs.Print.{quoted}
 use Rattle.json.proofs.Printed.Utf8.{IsUtf8-quoted, IsUtf8-are_ascii}
-use Rattle.gb_text.specs.declared.decimal.TheConstants.{LIMIT}
+use Rattle.gb_text.specs.declared.decimal.TheConstants.{GREATEST_TIME}
 use Rattle.json_span.specs.declared.nest.TheConstants.{MOST_BRACKETS}
 use Rattle.json_span.specs.Joined.{behind_commas, joined, member_text, IsMemberOf}
 use Rattle.json_span.proofs.JoinLaws.{members_joined, object_value}
@@ -49,10 +49,10 @@ pub decimal_reads : (n : ℕ) → n < 2 ^ 64 → decimal_of (decimal n) ≡ Some
 decimal_reads n below = decimal_of-decimal (decimal n) n (record { below = below; prints = refl })
 
 -- A decimal within the limit reads as a time.
-pub time_reads : (n : ℕ) → n ≤ LIMIT → time_at (decimal n) ≡ Some n
+pub time_reads : (n : ℕ) → n ≤ GREATEST_TIME → time_at (decimal n) ≡ Some n
 time_reads n low =
     ap (option_and_then within_limit) (decimal_reads n (omega arith))
-    ∙ ap (λ b. if b then Some n else None) (le-leb n LIMIT low)
+    ∙ ap (λ b. if b then Some n else None) (le-leb n GREATEST_TIME low)
 
 encoded_utf8 : (n : List ℕ) → IsUtf8 (encode_of standard n)
 encoded_utf8 n = IsUtf8-from_ascii _ (IsAscii-encode_of standard n)

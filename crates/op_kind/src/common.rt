@@ -6,7 +6,7 @@ ghost use Rattle.op_kind.specs.declared.fault.OpFault.{OpFault as FaultValue};
 ghost use Rattle.op_kind.specs.FieldLists.{fields_in};
 
 use crate::{Common, Field, Nonce, OpFault, Pair, Place, find, read_fields, read_pairs, read_text};
-use gb_text::{LIMIT, List, read_decimal};
+use gb_text::{GREATEST_TIME, List, read_decimal};
 use std::alloc::Global;
 
 #[tactic(auto, unfolding(crate::specs::Common::kind_of))]
@@ -30,7 +30,7 @@ fn time_in(fields: &[Field]) -> Result<u64, OpFault>
         None => Err(OpFault::BadMember(2)),
         Some(None) => Err(OpFault::BadTime),
         Some(Some(value)) => match read_decimal(value) {
-            Some(time) if time <= LIMIT => Ok(time),
+            Some(time) if time <= GREATEST_TIME => Ok(time),
             _ => Err(OpFault::BadTime),
         },
     }

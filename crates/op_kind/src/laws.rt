@@ -30,7 +30,7 @@ ghost use Rattle.op_kind.specs.declared.place.Common.{Common as CommonValue};
 ghost use Rattle.op_kind.specs.declared.place.Pair.{Pair as PairValue};
 
 use crate::OpKind;
-use gb_text::LIMIT;
+use gb_text::GREATEST_TIME;
 
 /// A text has a common part exactly when none of its faults holds; out of memory is not one of
 /// them. The common part has the place that it is read at, and depends on it in nothing else.
@@ -66,7 +66,7 @@ pub fn member_value_or_fault<A>()
 pub fn written_values_read_back()
     ensures texts { (text : List ℕ) → IsUtf8 text → text_at (quoted text) ≡ Some text }
     ensures decimals { (n : ℕ) → n < 2 ^ 64 → decimal_of (decimal n) ≡ Some n }
-    ensures times { (n : ℕ) → n ≤ LIMIT → time_at (decimal n) ≡ Some n }
+    ensures times { (n : ℕ) → n ≤ GREATEST_TIME → time_at (decimal n) ≡ Some n }
     ensures nonces { (n : List ℕ) → IsNonce n → nonce_in (nonce_text n) ≡ Some n }
     ensures ids { (id : IdValue) → IsId id → id_at (quoted (encode_lower id.bytes)) ≡ Some id }
     ensures lists { (texts : List (List ℕ)) → EachUtf8 texts
@@ -132,7 +132,7 @@ pub fn pairs_are_in_key_order()
 pub fn read_values_are_within_bounds()
     ensures texts { (json text : List ℕ) → text_at json ≡ Some text → IsUtf8 text }
     ensures decimals { (json : List ℕ) (n : ℕ) → decimal_of json ≡ Some n → n < 2 ^ 64 }
-    ensures times { (json : List ℕ) (n : ℕ) → time_at json ≡ Some n → n ≤ LIMIT }
+    ensures times { (json : List ℕ) (n : ℕ) → time_at json ≡ Some n → n ≤ GREATEST_TIME }
     ensures nonces { (json n : List ℕ) → nonce_in json ≡ Some n → IsNonce n }
     ensures ids { (json : List ℕ) (id : IdValue) → id_at json ≡ Some id → IsId id }
     ensures lists { (json : List ℕ) (texts : List (List ℕ)) → texts_at json ≡ Some texts

@@ -11,7 +11,7 @@ use Rattle.git_object.specs.declared.tree.Tree.{Tree}
 use Rattle.op_kind.specs.Members.{IsRepeated, Breaks, Lacks, only_value, value_or}
 use Rattle.op_kind.specs.CommonLaws.{only-none, only-repeated, only-lacks, or-none, or-repeated, or-breaks}
 use Rattle.json_span.proofs.BasicLaws.{map_none, map_some, some_is}
-use Rattle.gb_text.specs.declared.decimal.TheConstants.{LIMIT}
+use Rattle.gb_text.specs.declared.decimal.TheConstants.{GREATEST_TIME}
 use Rattle.op_kind.specs.declared.place.TheConstants.{VERSION}
 use Rattle.op_pack.specs.Heads.{known_version, clock_in_range, IsClock, IsHeadInRange, version_at, clock_at, some_clock_at, version_of, edit_clock_of, create_clock_of, is_ops, ops_of, all_four, head_of, versions, edit_clocks, create_clocks, IsTold, HeadFault}
 use Rattle.op_pack.specs.declared.fault.PackFault.{PackFault}
@@ -152,9 +152,9 @@ version_known (Some m) n h = let is = cond_some (m == VERSION) m n h in sym is.1
 clock_ranges : (o : Option ℕ) (n : ℕ) → clock_in_range o ≡ Some n → IsClock n
 clock_ranges None n h = absurd (cc (h))
 clock_ranges (Some m) n h =
-    let is = cond_some (nat_le 1 m && nat_le m LIMIT) m n h in
-    let both = and_parts (nat_le 1 m) (nat_le m LIMIT) is.0 in
-    subst IsClock is.1 (record { low = leb-true 1 m both.0; high = leb-true m LIMIT both.1 })
+    let is = cond_some (nat_le 1 m && nat_le m GREATEST_TIME) m n h in
+    let both = and_parts (nat_le 1 m) (nat_le m GREATEST_TIME) is.0 in
+    subst IsClock is.1 (record { low = leb-true 1 m both.0; high = leb-true m GREATEST_TIME both.1 })
 
 one_of : {A : Type 0} (P : A → Type 0) (read : List ℕ → Option A) → ((text : List ℕ) (a : A) → read text ≡ Some a → P a)
     → (texts : List (List ℕ)) (a : A) → only_value read texts ≡ Some a → P a

@@ -8,7 +8,7 @@ use Rattle.git_object.specs.Grammar.{HasGoodNames, IsEntryName, Lacks}
 use Rattle.git_object.proofs.DistinctLaws.{distinct_are}
 use Rattle.git_object.proofs.CutLaws.{lacks_by_test, lacks_append}
 use Rattle.git_object.proofs.FrameLaws.{decimal_lacks}
-use Rattle.gb_text.specs.declared.decimal.TheConstants.{LIMIT}
+use Rattle.gb_text.specs.declared.decimal.TheConstants.{GREATEST_TIME}
 use Rattle.op_kind.specs.declared.place.TheConstants.{VERSION}
 use Rattle.op_kind.specs.WritingLaws.{decimal_reads}
 use Rattle.op_pack.specs.Heads.{IsClock, tree_with, head_of, all_four, clock_at, clock_in_range}
@@ -17,10 +17,10 @@ use Rattle.op_pack.specs.Heads.{IsClock, tree_with, head_of, all_four, clock_at,
 
 clock_reads : (n : ℕ) → IsClock n → clock_at (decimal n) ≡ Some n
 clock_reads n is =
-    let high : n ≤ LIMIT = is.high in
+    let high : n ≤ GREATEST_TIME = is.high in
     ap clock_in_range (decimal_reads n (omega arith))
-    ∙ ap (λ b. cond (b && nat_le n LIMIT) (Some n) None) (le-leb 1 n is.low)
-    ∙ ap (λ b. cond (true && b) (Some n) None) (le-leb n LIMIT is.high)
+    ∙ ap (λ b. cond (b && nat_le n GREATEST_TIME) (Some n) None) (le-leb 1 n is.low)
+    ∙ ap (λ b. cond (true && b) (Some n) None) (le-leb n GREATEST_TIME is.high)
 
 -- The tree that is made says what it was made of.
 pub tree_head : (edit : ℕ) (create : Option ℕ) (ops : Name) → IsClock edit → ForSome create (λ n. IsClock n)

@@ -4,7 +4,7 @@ use Rattle.std.specs.Option.{ForSome, option_map}
 use Rattle.std.specs.List.{filter_map, find, AllByRecursion}
 use Rattle.std.specs.Str.{bytes_eq}
 use Rattle.gb_text.specs.Decimal.{decimal_of}
-use Rattle.gb_text.specs.declared.decimal.TheConstants.{LIMIT}
+use Rattle.gb_text.specs.declared.decimal.TheConstants.{GREATEST_TIME}
 use Rattle.gb_text.specs.declared.id.Name.{Name}
 use Rattle.git_object.specs.Grammar.{object_name, framed}
 use Rattle.git_object.specs.declared.entry.Entry.{Entry}
@@ -59,7 +59,7 @@ version_at text = known_version (decimal_of text)
 
 -- a number of 1 to the limit
 abbrev pub clock_in_range : Option ℕ → Option ℕ
-clock_in_range (Some n) = if nat_le 1 n && nat_le n LIMIT then Some n else None
+clock_in_range (Some n) = if nat_le 1 n && nat_le n GREATEST_TIME then Some n else None
 clock_in_range None = None
 
 -- the clock of which a text is the decimal, if it is that of one
@@ -136,7 +136,7 @@ HeadFault t (TooLarge n) = ⊥
 -- a number of 1 to the limit
 pub record IsClock (n : ℕ) : Type 0 where
   pub low : 1 ≤ n
-  pub high : n ≤ LIMIT
+  pub high : n ≤ GREATEST_TIME
 
 -- The version is the format's, and each clock is one.
 pub record IsHeadInRange (head : TreeHead) : Type 0 where

@@ -9,7 +9,7 @@ ghost use Rattle.op_pack.specs.Answers.{Answers};
 ghost use Rattle.op_pack.specs.declared.fault.PackFault.{PackFault as FaultValue};
 
 use crate::PackFault;
-use gb_text::{Bytes, LIMIT, List, Memory, Name, read_decimal};
+use gb_text::{Bytes, GREATEST_TIME, List, Memory, Name, read_decimal};
 use git_object::{Entry, EntryView, Kind, Mode, Tree, TreeView, name_of};
 use op_kind::VERSION;
 use std::alloc::Global;
@@ -93,7 +93,7 @@ fn version_in(tree: &TreeView<'_>) -> Result<u64, PackFault>
 fn read_clock(text: &[u8]) -> Option<u64>
     ensures { result ≡ clock_at text.now }
 {
-    read_decimal(text).filter(|clock| 1 <= *clock && *clock <= LIMIT)
+    read_decimal(text).filter(|clock| 1 <= *clock && *clock <= GREATEST_TIME)
 }
 
 fn edit_clock_in(tree: &TreeView<'_>) -> Result<u64, PackFault>

@@ -5,7 +5,7 @@ use Rattle.std.specs.List.{list_any}
 use Rattle.std.specs.Option.{option_map}
 use Rattle.std.specs.declared.alloc.Global.{Global}
 use Rattle.std.proofs.lemmas.List.{append_assoc}
-use Rattle.gb_text.specs.declared.decimal.TheConstants.{LIMIT}
+use Rattle.gb_text.specs.declared.decimal.TheConstants.{GREATEST_TIME}
 use Rattle.gb_text.specs.declared.id.Id.{Id}
 use Rattle.gb_store.specs.Files.{Files, History, files_of}
 use Rattle.gb_store.specs.declared.store.Change.{Change}
@@ -111,7 +111,7 @@ module _ (env : Env) (g : Growing) (edit : ℕ) (op : BugOp) (old : History) whe
 
 -- ---- an edit of a bug that stands
 
-module _ (env : Env) (edit : BugEdit) (word : List ℕ) (old : History) (moment : env.now ≤ LIMIT) (good : bad_edit edit ≡ None) where
+module _ (env : Env) (edit : BugEdit) (word : List ℕ) (old : History) (moment : env.now ≤ GREATEST_TIME) (good : bad_edit edit ≡ None) where
   abbrev files : Files
   files = files_of old
 
@@ -169,7 +169,7 @@ module _ (env : Env) (edit : BugEdit) (word : List ℕ) (old : History) (moment 
       -- no clock is left, or there is no room
       pub edit_full : (s : Stop) → RoomAnswers g.seen g.head.name g.edit g.commits (Err s) → EditPlans env edit word old (Err s)
       edit_full (stop.Refused (refusal.ClockFull name)) (least, named) =
-          let full : grows.bug.entity.edit ≡ LIMIT = omega (arith, least, grows.is_edit, grows.within) in
+          let full : grows.bug.entity.edit ≡ GREATEST_TIME = omega (arith, least, grows.is_edit, grows.within) in
           refused op (refusal.ClockFull name) (inr (adds, inl (grows.bug, full, ap refusal.ClockFull (named ∙ ap (λ (head : HeadEntry). head.name) (sym grows.is_head)))))
       edit_full (stop.Refused (refusal.TooLarge count)) (below, full, counted) =
           let many : MOST_COMMITS ≤ length grows.bug.entity.packs = omega (arith, full, grows.is_count) in
@@ -199,7 +199,7 @@ module _ (env : Env) (edit : BugEdit) (word : List ℕ) (old : History) (moment 
         objects_are : (P : List (List ℕ) → Type 0) → P (grown_objects env g clock op) → P (addition_objects env.now (addition grows.bug.bug op))
         objects_are P = subst (λ (a : Option Addition). P (addition_objects env.now a)) (sym addition_is)
 
-        clock_left : grows.bug.entity.edit ≡ LIMIT → ⊥
+        clock_left : grows.bug.entity.edit ≡ GREATEST_TIME → ⊥
         clock_left full = omega (arith, has_room.0, full, grows.is_edit)
 
         room_left : MOST_COMMITS ≤ length grows.bug.entity.packs → ⊥

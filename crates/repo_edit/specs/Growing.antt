@@ -2,7 +2,7 @@
 use Rattle.std.specs.Prelude.{◌≡◌, ◌≤◌, ◌<◌, ◌+◌, ◌⊎◌, ⊤, ℕ, Bool, List, [], ◌∷◌, ◌++◌, Contains, length, None, Result, Ok, Err}
 use Rattle.std.specs.Str.{bytes_eq}
 use Rattle.gb_text.specs.Folder.{joined}
-use Rattle.gb_text.specs.declared.decimal.TheConstants.{LIMIT}
+use Rattle.gb_text.specs.declared.decimal.TheConstants.{GREATEST_TIME}
 use Rattle.gb_text.specs.declared.id.Id.{Id}
 use Rattle.gb_text.specs.declared.id.Name.{Name}
 use Rattle.gb_store.specs.Files.{Files, History, files_of}
@@ -63,9 +63,9 @@ BeginningAnswers files folder (Err s) = AuthorAnswers files folder (Err s)
 
 -- the edit clock of what is added to a bug whose head has an edit clock and that has so many commits
 abbrev pub RoomAnswers : ℕ → Name → ℕ → ℕ → Result ℕ Stop → Type 0
-RoomAnswers seen name edit commits (Ok later) = (edit < LIMIT) × (commits < MOST_COMMITS) × (later ≡ edit_time_of seen edit)
-RoomAnswers seen name edit commits (Err (stop.Refused (refusal.ClockFull full))) = (LIMIT ≤ edit) × (full ≡ name)
-RoomAnswers seen name edit commits (Err (stop.Refused (refusal.TooLarge count))) = (edit < LIMIT) × (MOST_COMMITS ≤ commits) × (count ≡ MOST_COMMITS + 1)
+RoomAnswers seen name edit commits (Ok later) = (edit < GREATEST_TIME) × (commits < MOST_COMMITS) × (later ≡ edit_time_of seen edit)
+RoomAnswers seen name edit commits (Err (stop.Refused (refusal.ClockFull full))) = (GREATEST_TIME ≤ edit) × (full ≡ name)
+RoomAnswers seen name edit commits (Err (stop.Refused (refusal.TooLarge count))) = (edit < GREATEST_TIME) × (MOST_COMMITS ≤ commits) × (count ≡ MOST_COMMITS + 1)
 RoomAnswers seen name edit commits (Err _) = ⊥
 
 -- what is checked before anything is made
@@ -85,7 +85,7 @@ pub record Grows (files : Files) (folder word : List ℕ) (g : Growing) : Type 0
   pub begins : IsBugList g.ops
   pub is_seen : g.seen ≡ clock_at files folder file.BugsEdit
   pub is_edit : bug.entity.edit ≡ g.edit
-  pub within : bug.entity.edit ≤ LIMIT
+  pub within : bug.entity.edit ≤ GREATEST_TIME
   pub is_count : length bug.entity.packs ≡ g.commits
 
 -- these, or why there is no user or no bug

@@ -14,7 +14,7 @@ use crate::plan_bug::{plan_begun, plan_edit};
 use bug_ops::BugOp;
 use edit_ops::{bad_bug, bad_edit, create_op};
 use gb_store::Store;
-use gb_text::{Id, LIMIT};
+use gb_text::{GREATEST_TIME, Id};
 use repo_state::{Env, Refusal, Stop};
 use repo_steps::BugEdit;
 use std::alloc::Global;
@@ -31,7 +31,7 @@ pub fn new_bug<S: Store>(
     title: &str,
     message: &str,
 ) -> Result<Id, Stop>
-    requires moment { env.now.now ≤ LIMIT }
+    requires moment { env.now.now ≤ GREATEST_TIME }
     ensures answers { IsTrue S.tells
         → DoingAnswers (new_bug env.entry.now title.now message.now (S.history disk.old))
         (S.history disk.old) (S.history disk.new) result }
@@ -62,7 +62,7 @@ pub fn edit_bug<S: Store>(
     bug: &str,
     edit: &BugEdit,
 ) -> Result<Id, Stop>
-    requires moment { env.now.now ≤ LIMIT }
+    requires moment { env.now.now ≤ GREATEST_TIME }
     ensures answers { IsTrue S.tells
         → BugEditAnswers env.entry.now edit.now bug.now (S.history disk.old)
         (S.history disk.new) result }
@@ -82,7 +82,7 @@ pub fn edit_bug<S: Store>(
 
 // Begins a bug with an operation of the user.
 fn begin_bug<S: Store>(alloc: Global, disk: &mut S, env: &Env, op: BugOp) -> Result<Id, Stop>
-    requires moment { env.now.now ≤ LIMIT }
+    requires moment { env.now.now ≤ GREATEST_TIME }
     requires rules { MayWriteOp op }
     ensures answers { IsTrue S.tells
         → DoingAnswers (begun_bug env.entry.now None op (S.history disk.old))

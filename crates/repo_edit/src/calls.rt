@@ -12,7 +12,7 @@ use crate::bugs::edit_bug;
 use bug_ops::BugStatus;
 use edit_ops::first_no_title;
 use gb_store::Store;
-use gb_text::{Id, LIMIT, List, Memory, Text, is_message, is_title};
+use gb_text::{GREATEST_TIME, Id, List, Memory, Text, is_message, is_title};
 use repo_state::{Env, Refusal, Stop};
 use repo_steps::BugEdit;
 use std::alloc::Global;
@@ -26,7 +26,7 @@ pub fn comment<S: Store>(
     bug: &str,
     message: &str,
 ) -> Result<Id, Stop>
-    requires moment { env.now.now ≤ LIMIT }
+    requires moment { env.now.now ≤ GREATEST_TIME }
     ensures answers { IsTrue S.tells
         → BugEditAnswers env.entry.now (kind.Comment message.now) bug.now
         (S.history disk.old) (S.history disk.new) result }
@@ -49,7 +49,7 @@ pub fn comment<S: Store>(
 /// Adds an operation that changes nothing of what it says to the bug that the word finds. Answers
 /// the id of the operation. Refuses and writes as `edit_bug`.
 pub fn noop<S: Store>(alloc: Global, disk: &mut S, env: &Env, bug: &str) -> Result<Id, Stop>
-    requires moment { env.now.now ≤ LIMIT }
+    requires moment { env.now.now ≤ GREATEST_TIME }
     ensures answers { IsTrue S.tells
         → BugEditAnswers env.entry.now kind.Noop bug.now
         (S.history disk.old) (S.history disk.new) result }
@@ -72,7 +72,7 @@ pub fn title<S: Store>(
     bug: &str,
     title: &str,
 ) -> Result<Id, Stop>
-    requires moment { env.now.now ≤ LIMIT }
+    requires moment { env.now.now ≤ GREATEST_TIME }
     ensures answers { IsTrue S.tells
         → BugEditAnswers env.entry.now (kind.Title title.now) bug.now
         (S.history disk.old) (S.history disk.new) result }
@@ -101,7 +101,7 @@ pub fn set_status<S: Store>(
     bug: &str,
     status: BugStatus,
 ) -> Result<Id, Stop>
-    requires moment { env.now.now ≤ LIMIT }
+    requires moment { env.now.now ≤ GREATEST_TIME }
     ensures answers { IsTrue S.tells
         → BugEditAnswers env.entry.now (kind.Status status) bug.now
         (S.history disk.old) (S.history disk.new) result }
@@ -124,7 +124,7 @@ pub fn label_add<S: Store>(
     bug: &str,
     labels: &[Text],
 ) -> Result<Id, Stop>
-    requires moment { env.now.now ≤ LIMIT }
+    requires moment { env.now.now ≤ GREATEST_TIME }
     ensures answers { IsTrue S.tells
         → BugEditAnswers env.entry.now (kind.AddLabels labels.now) bug.now
         (S.history disk.old) (S.history disk.new) result }
@@ -153,7 +153,7 @@ pub fn label_rm<S: Store>(
     bug: &str,
     labels: &[Text],
 ) -> Result<Id, Stop>
-    requires moment { env.now.now ≤ LIMIT }
+    requires moment { env.now.now ≤ GREATEST_TIME }
     ensures answers { IsTrue S.tells
         → BugEditAnswers env.entry.now (kind.RemoveLabels labels.now) bug.now
         (S.history disk.old) (S.history disk.new) result }
@@ -194,7 +194,7 @@ pub fn meta<S: Store>(
     key: &str,
     value: &str,
 ) -> Result<Id, Stop>
-    requires moment { env.now.now ≤ LIMIT }
+    requires moment { env.now.now ≤ GREATEST_TIME }
     ensures answers { IsTrue S.tells
         → BugEditAnswers env.entry.now (kind.Metadata key.now value.now) bug.now
         (S.history disk.old) (S.history disk.new) result }

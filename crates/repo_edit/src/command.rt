@@ -9,7 +9,7 @@ ghost use Rattle.repo_edit.specs.Reads.{ReadsFor};
 use crate::bugs::{edit_bug, new_bug};
 use crate::people::{user_edit, user_new, user_set};
 use gb_store::Store;
-use gb_text::{Id, LIMIT};
+use gb_text::{GREATEST_TIME, Id};
 use repo_state::{Env, Stop};
 use repo_steps::Edit;
 use std::alloc::Global;
@@ -21,7 +21,7 @@ pub fn run_edit<S: Store>(
     env: &Env,
     command: &Edit,
 ) -> Result<Id, Stop>
-    requires moment { env.now.now ≤ LIMIT }
+    requires moment { env.now.now ≤ GREATEST_TIME }
     ensures answers { IsTrue S.tells
         → EditAnswers env.entry.now command.now (S.history disk.old) (S.history disk.new) result }
     ensures words { KeepsToWords (bad_word_of command.now) result }

@@ -11,7 +11,7 @@ ghost use Rattle.repo_edit.specs.Growing.{AuthorAnswers, BeginningAnswers, Growi
 use bug_ops::BugOp;
 use commit_walk::MOST_COMMITS;
 use gb_store::Store;
-use gb_text::{Folder, Id, LIMIT, List};
+use gb_text::{Folder, GREATEST_TIME, Id, List};
 use lamport::Clock;
 use op_kind::OpKind;
 use repo_state::{
@@ -124,9 +124,9 @@ pub fn room(bug: &Growing) -> Result<u64, Stop>
 fn later_clock(clock: Clock, head: u64) -> Option<u64>
     ensures value { IfSome result (λ edit. edit ≡ edit_time_of clock head) }
     ensures is_clock { IfSome result (λ edit. IsClock edit) }
-    ensures full { IsNone result ↔ (LIMIT ≤ head) }
+    ensures full { IsNone result ↔ (GREATEST_TIME ≤ head) }
 {
-    if head < LIMIT {
+    if head < GREATEST_TIME {
         clock.edit_time(head).ok()
     } else {
         None

@@ -14,7 +14,7 @@ use crate::room::check_room;
 use crate::version::{bad_person, version_writes, with_first_user};
 use edit_ops::nonce_from;
 use gb_store::Store;
-use gb_text::{Id, LIMIT, List};
+use gb_text::{GREATEST_TIME, Id, List};
 use identity::plan_version;
 use repo_state::{Env, Refusal, Side, Stop, find, stands, user, user_change, user_head};
 use repo_steps::Plan;
@@ -32,7 +32,7 @@ pub fn user_new<S: Store>(
     name: &str,
     email: &str,
 ) -> Result<Id, Stop>
-    requires moment { env.now.now ≤ LIMIT }
+    requires moment { env.now.now ≤ GREATEST_TIME }
     ensures answers { IsTrue S.tells
         → DoingAnswers (new_user env.entry.now name.now email.now (S.history disk.old))
         (S.history disk.old) (S.history disk.new) result }
@@ -53,7 +53,7 @@ fn plan_new_user<S: Store>(
     name: &str,
     email: &str,
 ) -> Result<Plan, Stop>
-    requires moment { env.now.now ≤ LIMIT }
+    requires moment { env.now.now ≤ GREATEST_TIME }
     ensures answers { IsTrue S.tells
         → Plans (new_user env.entry.now name.now email.now (S.history disk.old)) result }
     ensures words { KeepsToWords (bad_person name.now email.now) result }
@@ -91,7 +91,7 @@ pub fn user_edit<S: Store>(
     name: &str,
     email: &str,
 ) -> Result<Id, Stop>
-    requires moment { env.now.now ≤ LIMIT }
+    requires moment { env.now.now ≤ GREATEST_TIME }
     ensures answers { IsTrue S.tells
         → DoingAnswers (edited_user env.entry.now name.now email.now (S.history disk.old))
         (S.history disk.old) (S.history disk.new) result }
@@ -114,7 +114,7 @@ fn plan_edited_user<S: Store>(
     name: &str,
     email: &str,
 ) -> Result<Plan, Stop>
-    requires moment { env.now.now ≤ LIMIT }
+    requires moment { env.now.now ≤ GREATEST_TIME }
     ensures answers { IsTrue S.tells
         → Plans (edited_user env.entry.now name.now email.now (S.history disk.old)) result }
     ensures words { KeepsToWords (bad_person name.now email.now) result }

@@ -15,14 +15,14 @@ use crate::growing::{Beginning, Growing, growing_bug, has_operation, room, root_
 use bug_ops::BugOp;
 use edit_ops::{edit_op, op_id};
 use gb_store::Store;
-use gb_text::{Id, LIMIT, List};
+use gb_text::{GREATEST_TIME, Id, List};
 use repo_state::{ClockFile, Env, Refusal, Side, Stop, stands};
 use repo_steps::{BugEdit, Plan};
 use std::alloc::Global;
 
 /// What a command writes that begins a bug with an operation.
 pub fn plan_begun<S: Store>(alloc: Global, disk: &mut S, env: &Env, op: BugOp) -> Result<Plan, Stop>
-    requires moment { env.now.now ≤ LIMIT }
+    requires moment { env.now.now ≤ GREATEST_TIME }
     requires rules { MayWriteOp op }
     ensures answers { IsTrue S.tells
         → Plans (begun_bug env.entry.now None op (S.history disk.old)) result }
@@ -44,7 +44,7 @@ fn plan_root<S: Store>(
     root: &Beginning,
     op: BugOp,
 ) -> Result<Plan, Stop>
-    requires moment { env.now.now ≤ LIMIT }
+    requires moment { env.now.now ≤ GREATEST_TIME }
     requires rules { MayWriteOp op }
     ensures answers { IsTrue S.tells
         → Begins (files_of (S.history disk.old)) env.entry.now.folder root.now
@@ -78,7 +78,7 @@ pub fn plan_edit<S: Store>(
     word: &str,
     edit: &BugEdit,
 ) -> Result<Plan, Stop>
-    requires moment { env.now.now ≤ LIMIT }
+    requires moment { env.now.now ≤ GREATEST_TIME }
     requires words { bad_edit edit.now ≡ None }
     ensures answers { IsTrue S.tells
         → EditPlans env.entry.now edit.now word.now (S.history disk.old) result }
@@ -105,7 +105,7 @@ fn plan_grown<S: Store>(
     edit: u64,
     op: BugOp,
 ) -> Result<Plan, Stop>
-    requires moment { env.now.now ≤ LIMIT }
+    requires moment { env.now.now ≤ GREATEST_TIME }
     requires rules { MayWriteOp op }
     requires clock { IsClock edit }
     ensures answers { IsTrue S.tells

@@ -25,7 +25,7 @@ use Rattle.git_object.specs.declared.commit.Commit.{Commit}
 use Rattle.object_store.proofs.GrowthLemmas.{bind-some}
 use Rattle.object_store.specs.Typed.{commit_at, tree_at}
 use Rattle.gb_text.specs.Decimal.{decimal_of}
-use Rattle.gb_text.specs.declared.decimal.TheConstants.{LIMIT}
+use Rattle.gb_text.specs.declared.decimal.TheConstants.{GREATEST_TIME}
 use Rattle.op_kind.specs.Members.{only_value}
 use Rattle.op_pack.specs.Heads.{clock_at as clock_value, clock_in_range, edit_clock_of, edit_clocks}
 use Rattle.op_pack.specs.declared.pack.Pack.{Pack}
@@ -96,18 +96,18 @@ head_edit objects head edit is = elim (Contains-cons_cases head [] is.head is.am
 ]
 
 -- an edit clock is within the limit
-clock_within : (o : Option ℕ) (n : ℕ) → clock_in_range o ≡ Some n → n ≤ LIMIT
+clock_within : (o : Option ℕ) (n : ℕ) → clock_in_range o ≡ Some n → n ≤ GREATEST_TIME
 clock_within None n h = absurd (cc (h))
 clock_within (Some m) n h =
-    let is = cond_some (nat_le 1 m && nat_le m LIMIT) m n h in
-    subst (λ (k : ℕ). k ≤ LIMIT) is.1 (leb-true m LIMIT (and_parts (nat_le 1 m) (nat_le m LIMIT) is.0).1)
+    let is = cond_some (nat_le 1 m && nat_le m GREATEST_TIME) m n h in
+    subst (λ (k : ℕ). k ≤ GREATEST_TIME) is.1 (leb-true m GREATEST_TIME (and_parts (nat_le 1 m) (nat_le m GREATEST_TIME) is.0).1)
 
-only_within : (texts : List (List ℕ)) (n : ℕ) → only_value clock_value texts ≡ Some n → n ≤ LIMIT
+only_within : (texts : List (List ℕ)) (n : ℕ) → only_value clock_value texts ≡ Some n → n ≤ GREATEST_TIME
 only_within [] n h = absurd (cc (h))
 only_within (text ∷ []) n h = clock_within (decimal_of text) n h
 only_within (text ∷ other ∷ texts) n h = absurd (cc (h))
 
-pub edit_within : (objects : Objects) (name : Name) (edit : ℕ) → edit_at objects name ≡ Some edit → edit ≤ LIMIT
+pub edit_within : (objects : Objects) (name : Name) (edit : ℕ) → edit_at objects name ≡ Some edit → edit ≤ GREATEST_TIME
 edit_within objects name edit says =
     let commit = bind-some (λ (c : Commit). option_and_then edit_clock_of (tree_at objects c.tree)) (commit_at objects name) edit says in
     let tree = bind-some edit_clock_of (tree_at objects commit.0.tree) edit commit.2 in

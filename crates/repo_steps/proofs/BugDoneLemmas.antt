@@ -4,7 +4,7 @@ use Rattle.std.proofs.lemmas.List.{map-append}
 use Rattle.std.proofs.lemmas.List.Elements.{Contains-append_left, Contains-append_right, Contains-get_or}
 use Rattle.std.proofs.lemmas.Option.{same_Some}
 use Rattle.gb_text.specs.Digits.{IsId}
-use Rattle.gb_text.specs.declared.decimal.TheConstants.{LIMIT}
+use Rattle.gb_text.specs.declared.decimal.TheConstants.{GREATEST_TIME}
 use Rattle.gb_text.specs.declared.id.Id.{Id}
 use Rattle.gb_text.specs.declared.id.Name.{Name}
 use Rattle.gb_store.specs.Files.{Files, History, files_of}
@@ -89,7 +89,7 @@ module _ (author : Id) (edit : ℕ) (op : BugOp) (rules : MayWriteOp op) where
     stand = ((rules, fits (place_of (appended_head bug_kind (one_op_pack author edit create op)) author (bug_kind.written op)) op), tt);
   }
 
-  pub root_appends : (create : ℕ) → 1 ≤ edit → edit ≤ LIMIT → 1 ≤ create → create ≤ LIMIT → MayBeAppended bug_kind (one_op_pack author edit (Some create) op)
+  pub root_appends : (create : ℕ) → 1 ≤ edit → edit ≤ GREATEST_TIME → 1 ≤ create → create ≤ GREATEST_TIME → MayBeAppended bug_kind (one_op_pack author edit (Some create) op)
   root_appends create some_edit within_edit some_create within_create = record {
     version = refl;
     edit = record { low = some_edit; high = within_edit };
@@ -97,7 +97,7 @@ module _ (author : Id) (edit : ℕ) (op : BugOp) (rules : MayWriteOp op) where
     rules = (rules, tt);
   }
 
-  pub later_appends : 1 ≤ edit → edit ≤ LIMIT → MayBeAppended bug_kind (one_op_pack author edit None op)
+  pub later_appends : 1 ≤ edit → edit ≤ GREATEST_TIME → MayBeAppended bug_kind (one_op_pack author edit None op)
   later_appends some within = record { version = refl; edit = record { low = some; high = within }; create = λ n is. absurd (cc is); rules = (rules, tt) }
 
 -- the id of the operation of a pack that was read again is that of its text
@@ -277,7 +277,7 @@ module _ (env : Env) (old : History) (op : BugOp) (rules : MayWriteOp op) (momen
 
 module _ (env : Env) (old : History) (edit : BugEdit) (word : List ℕ) (op : BugOp) (rules : MayWriteOp op) (moment : env.now < 2 ^ 64) (follows : bug_kind.is_following op ≡ true)
     (user : Id) (is_user : user_at (files_of old) env.folder ≡ User user) (local : IsLocal (files_of old) env.folder user)
-    (found : HasBug env.folder (files_of old) word) (adds : edit_op env edit (bug_says found.entity) ≡ Ok op) (has_clock : found.entity.edit ≡ LIMIT → ⊥) (has_room : MOST_COMMITS ≤ length found.entity.packs → ⊥)
+    (found : HasBug env.folder (files_of old) word) (adds : edit_op env edit (bug_says found.entity) ≡ Ok op) (has_clock : found.entity.edit ≡ GREATEST_TIME → ⊥) (has_room : MOST_COMMITS ≤ length found.entity.packs → ⊥)
     (is_new : Contains (op_ids (ops_in bug_kind found.entity.packs)) (op_id op) → ⊥)
     (free : MayBePut env.folder (addition_objects env.now (Some (later_addition env.folder (files_of old) op user found.bug found.entity.edit))) old) (is_id : IsId found.bug.id) where
   abbrev edit_before : ℕ
@@ -299,7 +299,7 @@ module _ (env : Env) (old : History) (edit : BugEdit) (word : List ℕ) (op : Bu
   says : edit_at held found.bug.name ≡ Some found.entity.edit
   says = head_edit held found.bug.name found.entity.edit found.is.is.edit
 
-  within : found.entity.edit ≤ LIMIT
+  within : found.entity.edit ≤ GREATEST_TIME
   within = edit_within held found.bug.name found.entity.edit says
 
   added_may : MayBeAppended bug_kind added.pack

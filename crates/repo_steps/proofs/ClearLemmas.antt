@@ -2,7 +2,7 @@
 use Rattle.std.proofs.Common.{◌≡◌, ℕ, ◌≤◌, ◌+◌, inl, inr, List, [], ◌∷◌, ◌++◌, length, Contains, Option, None, Result, Ok, Err, refl, sym, ◌∙◌, ap, subst, arith}
 use Rattle.std.specs.Option.{option_map}
 use Rattle.std.specs.Prelude.{option_and_then}
-use Rattle.gb_text.specs.declared.decimal.TheConstants.{LIMIT}
+use Rattle.gb_text.specs.declared.decimal.TheConstants.{GREATEST_TIME}
 use Rattle.gb_text.specs.declared.id.Id.{Id}
 use Rattle.gb_text.specs.declared.id.Name.{Name}
 use Rattle.gb_store.specs.Files.{Files, History, files_of}
@@ -184,7 +184,7 @@ module _ (folder : List ℕ) (files : Files) (word : List ℕ) where
   }
 
   clock_room_clear : IsClear (clock_room folder files word)
-  clock_room_clear = bug_check_clear (λ bug entity. entity.edit ≡ LIMIT) (λ bug. refusal.ClockFull bug.bug.name) 7 (λ bug. refl)
+  clock_room_clear = bug_check_clear (λ bug entity. entity.edit ≡ GREATEST_TIME) (λ bug. refusal.ClockFull bug.bug.name) 7 (λ bug. refl)
 
   commit_room_clear : IsClear (commit_room folder files word)
   commit_room_clear = bug_check_clear (λ bug entity. MOST_COMMITS ≤ length entity.packs) (λ bug. refusal.TooLarge (MOST_COMMITS + 1)) 13 (λ bug. refl)
@@ -251,12 +251,12 @@ module _ (env : Env) (word : List ℕ) (e : BugEdit) (old : History) where
   -- what is checked before the bug is sought
   abbrev first_checks : List Check
   first_checks =
-      words (bad_edit e) (env.now ≤ LIMIT) ∷
+      words (bad_edit e) (env.now ≤ GREATEST_TIME) ∷
       user_file env.folder before ∷
       some_user env.folder before ∷ []
 
   first_clear : AreClear first_checks
-  first_clear = (words_clear (bad_edit e) (env.now ≤ LIMIT), (user_file_clear env.folder before, (some_user_clear env.folder before, tt)))
+  first_clear = (words_clear (bad_edit e) (env.now ≤ GREATEST_TIME), (user_file_clear env.folder before, (some_user_clear env.folder before, tt)))
 
   finds : IsDetermined (bug_finder before env.folder word)
   finds = bug_finds env.folder before word

@@ -15,7 +15,7 @@ use Rattle.object_batch.specs.Batches.{MayBePut}
 use Rattle.object_batch.proofs.ClashLemmas.{Contains-cons_cases}
 use Rattle.ref_store.specs.Refs.{Absent, Head, ref_of}
 use Rattle.identity.specs.Extending.{IsLonger}
-use Rattle.gb_text.specs.declared.decimal.TheConstants.{LIMIT}
+use Rattle.gb_text.specs.declared.decimal.TheConstants.{GREATEST_TIME}
 use Rattle.bug_ops.specs.Kind.{bug_kind}
 use Rattle.bug_ops.specs.declared.op.BugOp.{BugOp}
 use Rattle.bug_ops.specs.declared.snapshot.Snapshot.{Snapshot}
@@ -251,7 +251,7 @@ local_user_is folder files good some =
     (is.0, is.1, IsLocal-user files folder is.0 is.1)
 
 -- a moment within the limit is a number of 64 bits
-before_limit : (env : Env) → env.now ≤ LIMIT → env.now < 2 ^ 64
+before_limit : (env : Env) → env.now ≤ GREATEST_TIME → env.now < 2 ^ 64
 before_limit env within = omega (arith, within)
 
 -- a bug that begins with an operation
@@ -342,7 +342,7 @@ longer_made_so env e word head op old passes = record {
 
     made : MadeBug env old addition (λ (new : Files). BugGrows env e word files new (op_id op))
     made = bug_grown env old e word op passes.1.1.1.1.1.0.2 (before_limit env passes.0.1) (edit_follows env e (bug_says bug.entity) op adds) user.0 user.1 user.2 bug adds
-        (of_this (λ head entity. entity.edit ≡ LIMIT) passes.1.1.1.1.1.1.0.0 passes.1.1.1.1.1.1.0.1)
+        (of_this (λ head entity. entity.edit ≡ GREATEST_TIME) passes.1.1.1.1.1.1.0.0 passes.1.1.1.1.1.1.0.1)
         (of_this (λ head entity. MOST_COMMITS ≤ length entity.packs) passes.1.1.1.1.1.1.1.0.0 passes.1.1.1.1.1.1.1.0.1)
         (of_this (λ head entity. Contains (op_ids (ops_in bug_kind entity.packs)) (op_id op)) passes.1.1.1.1.1.1.1.1.1.0.0 passes.1.1.1.1.1.1.1.1.1.0.1)
         free (finds_an_id bug.bug.id bug.finds.found)

@@ -4,7 +4,7 @@ use Rattle.std.specs.Prelude.{⊤, option_and_then}
 use Rattle.std.specs.Option.{option_map}
 use Rattle.std.proofs.lemmas.Option.{same_Some}
 use Rattle.gb_text.specs.Folder.{joined}
-use Rattle.gb_text.specs.declared.decimal.TheConstants.{LIMIT}
+use Rattle.gb_text.specs.declared.decimal.TheConstants.{GREATEST_TIME}
 use Rattle.gb_text.specs.declared.id.Id.{Id}
 use Rattle.gb_store.specs.Files.{Files, History, files_of}
 use Rattle.object_store.specs.declared.read.TheConstants.{MOST_BYTES}
@@ -204,7 +204,7 @@ checks_ascend env (edit.OfBug word e) picked old =
     let objects = addition_objects env.now (option_and_then (later_by env.folder files picked.bug picked.op) (some_id (user_at files env.folder))) in (
       2,
       omega arith,
-      words_rank (bad_edit e) (env.now ≤ LIMIT),
+      words_rank (bad_edit e) (env.now ≤ GREATEST_TIME),
       (
         2,
         omega arith,

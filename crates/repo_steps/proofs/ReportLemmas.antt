@@ -1,6 +1,6 @@
 -- Where a cause holds and all checks before it pass, a command is refused for it.
 use Rattle.std.proofs.Common.{◌≡◌, ◌≤◌, ◌+◌, ℕ, IsTrue, List, [], ◌∷◌, All, Contains, length, None, Ok, inl, inr, refl, sym, ◌∙◌}
-use Rattle.gb_text.specs.declared.decimal.TheConstants.{LIMIT}
+use Rattle.gb_text.specs.declared.decimal.TheConstants.{GREATEST_TIME}
 use Rattle.gb_text.specs.declared.id.Id.{Id}
 use Rattle.gb_text.specs.declared.id.Name.{Name}
 use Rattle.gb_store.specs.Files.{Files, History, files_of}
@@ -41,7 +41,7 @@ module _ (env : Env) (old : History) where
       → Refused env (edit.New title message) old refusal.NoUser
   no_user_to_begin title message kept may none = (no_pick env, inr ((kept, may), inr ((λ bad. cc (sym none ∙ bad)), inl (none, refl))))
 
-  pub no_user_to_add : (e : BugEdit) (word : List ℕ) → bad_edit e ≡ None → env.now ≤ LIMIT → user_at files env.folder ≡ NoUser → Refused env (edit.OfBug word e) old refusal.NoUser
+  pub no_user_to_add : (e : BugEdit) (word : List ℕ) → bad_edit e ≡ None → env.now ≤ GREATEST_TIME → user_at files env.folder ≡ NoUser → Refused env (edit.OfBug word e) old refusal.NoUser
   no_user_to_add e word kept now none = (no_pick env, inr ((kept, now), inr ((λ bad. cc (sym none ∙ bad)), inl (none, refl))))
 
   -- ---- a new person
@@ -66,8 +66,8 @@ module _ (env : Env) (old : History) where
 
   -- ---- an edit of a bug
 
-  module _ (e : BugEdit) (word : List ℕ) (user : Id) (kept : bad_edit e ≡ None) (now : env.now ≤ LIMIT) (is_user : user_at files env.folder ≡ User user) (bug : HasBug env.folder files word)
-      (op : BugOp) (adds : edit_op env e (bug_says bug.entity) ≡ Ok op) (rules : MayWriteOp op) (clock : bug.entity.edit ≡ LIMIT → ⊥) (room : MOST_COMMITS ≤ length bug.entity.packs → ⊥) where
+  module _ (e : BugEdit) (word : List ℕ) (user : Id) (kept : bad_edit e ≡ None) (now : env.now ≤ GREATEST_TIME) (is_user : user_at files env.folder ≡ User user) (bug : HasBug env.folder files word)
+      (op : BugOp) (adds : edit_op env e (bug_says bug.entity) ≡ Ok op) (rules : MayWriteOp op) (clock : bug.entity.edit ≡ GREATEST_TIME → ⊥) (room : MOST_COMMITS ≤ length bug.entity.packs → ⊥) where
     -- all before the sizes pass
     reached : (r : Refusal) → FirstFails (sizes (longer_bug env e word bug.bug op old).objects ∷ new_operation env.folder files word op ∷ names env.folder (longer_bug env e word bug.bug op old).objects old ∷ []) r
         → Refused env (edit.OfBug word e) old r

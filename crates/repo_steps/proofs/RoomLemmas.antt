@@ -2,7 +2,7 @@
 use Rattle.std.proofs.Common.{◌≡◌, ◌≢◌, ◌≤◌, ◌+◌, ◌++◌, ℕ, List, [], ◌∷◌, length, Some, None, Ok, refl, sym, ◌∙◌, ap, inl, inr, arith}
 use Rattle.std.specs.Prelude.{⊤, option_and_then}
 use Rattle.std.proofs.lemmas.Option.{same_Some}
-use Rattle.gb_text.specs.declared.decimal.TheConstants.{LIMIT}
+use Rattle.gb_text.specs.declared.decimal.TheConstants.{GREATEST_TIME}
 use Rattle.gb_text.specs.declared.id.Id.{Id}
 use Rattle.gb_text.specs.declared.id.Name.{Name}
 use Rattle.gb_store.specs.Files.{Files, History, files_of}
@@ -82,7 +82,7 @@ module _ (env : Env) (e : BugEdit) (word : List ℕ) (old : History) where
   -- what is checked before the room of the bug
   abbrev first_checks : HeadEntry → BugOp → List Check
   first_checks bug op =
-      words (bad_edit e) (env.now ≤ LIMIT) ∷
+      words (bad_edit e) (env.now ≤ GREATEST_TIME) ∷
       user_file env.folder files ∷
       some_user env.folder files ∷
       found (bug_finder files env.folder word) bug ∷
@@ -99,12 +99,12 @@ module _ (env : Env) (e : BugEdit) (word : List ℕ) (old : History) where
   clock_is : (bug : HasBug env.folder files word) → edit_at held bug.bug.name ≡ Some bug.entity.edit
   clock_is bug = head_edit held bug.bug.name bug.entity.edit bug.is.is.edit
 
-  at_limit : (bug : HasBug env.folder files word) → bug.entity.edit ≡ LIMIT → edit_at held bug.bug.name ≡ Some LIMIT
+  at_limit : (bug : HasBug env.folder files word) → bug.entity.edit ≡ GREATEST_TIME → edit_at held bug.bug.name ≡ Some GREATEST_TIME
   at_limit bug full = clock_is bug ∙ ap (λ (n : ℕ). Some n) full
 
   -- a clock is told as full where it is the last that is written
   pub only_full_clocks : (name : Name) → Refused env (edit.OfBug word e) old (refusal.ClockFull name)
-      → (bug : HasBug env.folder files word) × (name ≡ bug.bug.name) × (edit_at held bug.bug.name ≡ Some LIMIT)
+      → (bug : HasBug env.folder files word) × (name ≡ bug.bug.name) × (edit_at held bug.bug.name ≡ Some GREATEST_TIME)
   only_full_clocks name fails =
       let bug = (fails.0).bug in
       let op = (fails.0).op in
@@ -129,7 +129,7 @@ module _ (env : Env) (e : BugEdit) (word : List ℕ) (old : History) where
       (told.0, told.1)
 
   -- where the edit adds an operation, each is told
-  module _ (user : Id) (kept : bad_edit e ≡ None) (now : env.now ≤ LIMIT) (is_user : user_at files env.folder ≡ User user) (bug : HasBug env.folder files word)
+  module _ (user : Id) (kept : bad_edit e ≡ None) (now : env.now ≤ GREATEST_TIME) (is_user : user_at files env.folder ≡ User user) (bug : HasBug env.folder files word)
       (op : BugOp) (adds : edit_op env e (bug_says bug.entity) ≡ Ok op) (rules : MayWriteOp op) where
     -- all before its room passes
     reached : (r : Refusal) → FirstFails (clock_room env.folder files word ∷ commit_room env.folder files word ∷ last_checks bug.bug op) r → Refused env (edit.OfBug word e) old r
@@ -141,9 +141,9 @@ module _ (env : Env) (e : BugEdit) (word : List ℕ) (old : History) where
       ),
     )
 
-    pub full_clocks_told : edit_at held bug.bug.name ≡ Some LIMIT → Refused env (edit.OfBug word e) old (refusal.ClockFull bug.bug.name)
-    full_clocks_told full = reached (refusal.ClockFull bug.bug.name) (inl (bug, same_Some bug.entity.edit LIMIT (sym (clock_is bug) ∙ full), refl))
+    pub full_clocks_told : edit_at held bug.bug.name ≡ Some GREATEST_TIME → Refused env (edit.OfBug word e) old (refusal.ClockFull bug.bug.name)
+    full_clocks_told full = reached (refusal.ClockFull bug.bug.name) (inl (bug, same_Some bug.entity.edit GREATEST_TIME (sym (clock_is bug) ∙ full), refl))
 
-    pub many_commits_told : edit_at held bug.bug.name ≢ Some LIMIT → MOST_COMMITS ≤ length bug.entity.packs
+    pub many_commits_told : edit_at held bug.bug.name ≢ Some GREATEST_TIME → MOST_COMMITS ≤ length bug.entity.packs
         → Refused env (edit.OfBug word e) old (refusal.TooLarge (MOST_COMMITS + 1))
     many_commits_told left many = reached (refusal.TooLarge (MOST_COMMITS + 1)) (inr ((bug, (λ full. left (at_limit bug full))), inl (bug, many, refl)))

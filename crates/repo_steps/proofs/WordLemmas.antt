@@ -4,7 +4,7 @@ use Rattle.std.specs.Prelude.{if◌then◌else◌}
 use Rattle.std.proofs.lemmas.List.{append_cancel_right}
 use Rattle.sha2.specs.Sha256.{sha256}
 use Rattle.gb_text.specs.Rules.{is_message_text, is_title_text}
-use Rattle.gb_text.specs.declared.decimal.TheConstants.{LIMIT}
+use Rattle.gb_text.specs.declared.decimal.TheConstants.{GREATEST_TIME}
 use Rattle.gb_text.specs.declared.id.Id.{Id}
 use Rattle.gb_store.specs.Files.{History, files_of}
 use Rattle.op_kind.specs.declared.place.Common.{Common}
@@ -163,7 +163,7 @@ writes_what_is_taken_off env labels bug op is =
 
 -- ---- a word that finds nothing
 
-pub no_bug_found : (env : Env) (e : BugEdit) (word : List ℕ) (old : History) (user : Id) → bad_edit e ≡ None → env.now ≤ LIMIT
+pub no_bug_found : (env : Env) (e : BugEdit) (word : List ℕ) (old : History) (user : Id) → bad_edit e ≡ None → env.now ≤ GREATEST_TIME
     → user_at (files_of old) env.folder ≡ User user → Finds (files_of old) env.folder side.Bugs word Nothing
     → Refused env (edit.OfBug word e) old refusal.NotFound
 no_bug_found env e word old user kept now is none =

@@ -3,7 +3,7 @@ use Rattle.std.specs.Prelude.{◌≡◌, ◌≤◌, ◌+◌, ℕ, List, [], ◌�
 use Rattle.std.specs.Option.{option_map}
 use Rattle.gb_text.specs.Folder.{joined}
 use Rattle.gb_text.specs.Rules.{is_message_text, is_title_text}
-use Rattle.gb_text.specs.declared.decimal.TheConstants.{LIMIT}
+use Rattle.gb_text.specs.declared.decimal.TheConstants.{GREATEST_TIME}
 use Rattle.gb_text.specs.declared.id.Id.{Id}
 use Rattle.gb_text.specs.declared.id.Name.{Name}
 use Rattle.gb_store.specs.Files.{Files, History, files_of}
@@ -147,7 +147,7 @@ edit_adds env files word edit op = record {
 
 -- an edit clock is left above that of its head
 abbrev pub clock_room : List ℕ → Files → List ℕ → Check
-clock_room folder files word = bug_check folder files word (λ bug. bug.entity.edit ≡ LIMIT) (λ bug. refusal.ClockFull bug.bug.name)
+clock_room folder files word = bug_check folder files word (λ bug. bug.entity.edit ≡ GREATEST_TIME) (λ bug. refusal.ClockFull bug.bug.name)
 
 -- it has room for one commit more
 abbrev pub commit_room : List ℕ → Files → List ℕ → Check
@@ -193,7 +193,7 @@ longer_bug env edit word bug op old =
     let objects = addition_objects env.now addition in
     record {
       checks =
-          words (bad_edit edit) (env.now ≤ LIMIT) ∷
+          words (bad_edit edit) (env.now ≤ GREATEST_TIME) ∷
           user_file env.folder files ∷
           some_user env.folder files ∷
           found (bug_finder files env.folder word) bug ∷

@@ -8,7 +8,7 @@ ghost use Rattle.gb_store.specs.Files.{History, files_of};
 ghost use Rattle.gb_store.specs.declared.store.Change.{Change as ChangeValue};
 ghost use Rattle.gb_store.specs.Moments.{AllMoments};
 ghost use Rattle.object_batch.specs.Batches.{CannotHave, HasLong};
-ghost use Rattle.gb_text.specs.declared.decimal.TheConstants.{LIMIT};
+ghost use Rattle.gb_text.specs.declared.decimal.TheConstants.{GREATEST_TIME};
 ghost use Rattle.commit_walk.specs.declared.below.TheConstants.{MOST_COMMITS};
 ghost use Rattle.object_store.specs.Texts.{IsShort};
 ghost use Rattle.object_store.specs.declared.read.TheConstants.{MOST_BYTES};
@@ -79,7 +79,7 @@ pub fn causes_refuse()
         → user_at (files_of old) env.folder ≡ NoUser
         → Refused env (New title message) old refusal.NoUser }
     ensures user_for_an_edit { (env : EnvValue) (old : History) (edit : BugEditValue)
-        (word : List ℕ) → bad_edit edit ≡ None → env.now ≤ LIMIT
+        (word : List ℕ) → bad_edit edit ≡ None → env.now ≤ GREATEST_TIME
         → user_at (files_of old) env.folder ≡ NoUser
         → Refused env (OfBug word edit) old refusal.NoUser }
     ensures person { (env : EnvValue) (old : History) (name email : List ℕ)
@@ -100,11 +100,11 @@ pub fn causes_refuse()
         × (All IsShort objects → IsTrue (has_ref (files_of old) env.folder side.Bugs id)
         → Refused env (New title message) old (refusal.EntityExists id)) }
     ensures edit { (env : EnvValue) (old : History) (edit : BugEditValue) (word : List ℕ)
-        (user : Id) → bad_edit edit ≡ None → env.now ≤ LIMIT
+        (user : Id) → bad_edit edit ≡ None → env.now ≤ GREATEST_TIME
         → user_at (files_of old) env.folder ≡ User user
         → (bug : HasBug env.folder (files_of old) word) (op : OpValue)
         → edit_op env edit (bug_says bug.entity) ≡ Ok op → MayWriteOp op
-        → (bug.entity.edit ≡ LIMIT → ⊥) → (MOST_COMMITS ≤ length bug.entity.packs → ⊥)
+        → (bug.entity.edit ≡ GREATEST_TIME → ⊥) → (MOST_COMMITS ≤ length bug.entity.packs → ⊥)
         → let objects = (longer_bug env edit word bug.bug op old).objects in
         let has = Contains (op_ids (ops_in bug_kind bug.entity.packs)) (op_id op) in
         (HasLong objects

@@ -18,7 +18,7 @@ ghost use Rattle.repo_steps.specs.Effects.{ChangesNothing, KeepsAllElse, no_chan
 ghost use Rattle.repo_steps.specs.declared.edit.BugEdit.{BugEdit as BugEditValue};
 ghost use Rattle.repo_steps.specs.declared.edit.BugEdit.TheVariants as kind;
 ghost use Rattle.gb_text.specs.Rules.{is_message_text, is_title_text};
-ghost use Rattle.gb_text.specs.declared.decimal.TheConstants.{LIMIT};
+ghost use Rattle.gb_text.specs.declared.decimal.TheConstants.{GREATEST_TIME};
 ghost use Rattle.gb_text.specs.declared.id.Id.{Id};
 ghost use Rattle.gb_text.specs.declared.id.Name.{Name};
 ghost use Rattle.gb_store.specs.Files.{Files, History, files_of, written};
@@ -220,7 +220,7 @@ pub fn operations_are_made_anew()
 /// come first.
 pub fn words_that_find_nothing_are_refused()
     ensures bugs { (env : EnvValue) (edit : BugEditValue) (word : List ℕ) (old : History) (user : Id)
-        → bad_edit edit ≡ None → env.now ≤ LIMIT
+        → bad_edit edit ≡ None → env.now ≤ GREATEST_TIME
         → user_at (files_of old) env.folder ≡ User user
         → Finds (files_of old) env.folder side.Bugs word Nothing
         → Refused env (OfBug word edit) old refusal.NotFound }
@@ -236,23 +236,23 @@ pub fn full_bugs_are_refused()
     ensures clock_only { (env : EnvValue) (edit : BugEditValue) (word : List ℕ) (old : History)
         (name : Name) → Refused env (OfBug word edit) old (refusal.ClockFull name)
         → (bug : HasBug env.folder (files_of old) word) × (name ≡ bug.bug.name)
-        × (edit_at (objects_in (files_of old) env.folder) bug.bug.name ≡ Some LIMIT) }
+        × (edit_at (objects_in (files_of old) env.folder) bug.bug.name ≡ Some GREATEST_TIME) }
     ensures commits_only { (env : EnvValue) (edit : BugEditValue) (word : List ℕ) (old : History)
         → Refused env (OfBug word edit) old (refusal.TooLarge (MOST_COMMITS + 1))
         → (bug : HasBug env.folder (files_of old) word) × (MOST_COMMITS ≤ length bug.entity.packs) }
     ensures clock { (env : EnvValue) (edit : BugEditValue) (word : List ℕ) (old : History)
-        (user : Id) → bad_edit edit ≡ None → env.now ≤ LIMIT
+        (user : Id) → bad_edit edit ≡ None → env.now ≤ GREATEST_TIME
         → user_at (files_of old) env.folder ≡ User user
         → (bug : HasBug env.folder (files_of old) word) (op : OpValue)
         → edit_op env edit (bug_says bug.entity) ≡ Ok op → MayWriteOp op
-        → edit_at (objects_in (files_of old) env.folder) bug.bug.name ≡ Some LIMIT
+        → edit_at (objects_in (files_of old) env.folder) bug.bug.name ≡ Some GREATEST_TIME
         → Refused env (OfBug word edit) old (refusal.ClockFull bug.bug.name) }
     ensures commits { (env : EnvValue) (edit : BugEditValue) (word : List ℕ) (old : History)
-        (user : Id) → bad_edit edit ≡ None → env.now ≤ LIMIT
+        (user : Id) → bad_edit edit ≡ None → env.now ≤ GREATEST_TIME
         → user_at (files_of old) env.folder ≡ User user
         → (bug : HasBug env.folder (files_of old) word) (op : OpValue)
         → edit_op env edit (bug_says bug.entity) ≡ Ok op → MayWriteOp op
-        → edit_at (objects_in (files_of old) env.folder) bug.bug.name ≢ Some LIMIT
+        → edit_at (objects_in (files_of old) env.folder) bug.bug.name ≢ Some GREATEST_TIME
         → MOST_COMMITS ≤ length bug.entity.packs
         → Refused env (OfBug word edit) old (refusal.TooLarge (MOST_COMMITS + 1)) }
 {}
