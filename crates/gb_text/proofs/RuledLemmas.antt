@@ -1,5 +1,5 @@
 -- A text that obeys a rule is read as the one value that has this text; another is read as none.
-use Rattle.std.proofs.Common.{◌≡◌, ◌∙◌, refl, ap, sym, subst, ℕ, Bool, true, false, List, Option, Some, None, IsUtf8, IsSome, absurd, tt}
+use Rattle.std.proofs.Common.{◌≡◌, ◌∙◌, refl, ap, sym, ℕ, Bool, true, false, List, Some, None, IsUtf8, IsSome}
 use Rattle.std.proofs.Math.Bool.{Bool-set}
 use Rattle.std.specs.Str.{is_utf8}
 use Rattle.std.proofs.lemmas.Str.{is_utf8-from_IsUtf8}
@@ -34,7 +34,7 @@ pub is_a_line : (text : List ℕ) → IsUtf8 text → is_line_text text ≡ true
 is_a_line text utf8 good = by (is_utf8 text) (is_line_text text) refl refl (is_utf8-from_IsUtf8 text utf8) good
   where
     by : (utf8 good : Bool) (u : is_utf8 text ≡ utf8) (g : is_line_text text ≡ good) → is_utf8 text ≡ true → is_line_text text ≡ true → IsSome (line_by text utf8 good u g)
-    by true true u g h k = tt
+    by true true u g h k = refl
     by true false u g h k = absurd cc
     by false good u g h k = absurd cc
 
@@ -67,7 +67,7 @@ pub is_a_title : (text : List ℕ) → IsUtf8 text → is_title_text text ≡ tr
 is_a_title text utf8 good = by (is_utf8 text) (is_title_text text) refl refl (is_utf8-from_IsUtf8 text utf8) good
   where
     by : (utf8 good : Bool) (u : is_utf8 text ≡ utf8) (g : is_title_text text ≡ good) → is_utf8 text ≡ true → is_title_text text ≡ true → IsSome (title_by text utf8 good u g)
-    by true true u g h k = tt
+    by true true u g h k = refl
     by true false u g h k = absurd cc
     by false good u g h k = absurd cc
 
@@ -100,7 +100,7 @@ pub is_a_message : (text : List ℕ) → IsUtf8 text → is_message_text text �
 is_a_message text utf8 good = by (is_utf8 text) (is_message_text text) refl refl (is_utf8-from_IsUtf8 text utf8) good
   where
     by : (utf8 good : Bool) (u : is_utf8 text ≡ utf8) (g : is_message_text text ≡ good) → is_utf8 text ≡ true → is_message_text text ≡ true → IsSome (message_by text utf8 good u g)
-    by true true u g h k = tt
+    by true true u g h k = refl
     by true false u g h k = absurd cc
     by false good u g h k = absurd cc
 
