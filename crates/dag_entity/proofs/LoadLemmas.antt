@@ -12,7 +12,7 @@ use Rattle.commit_walk.specs.declared.below.Met.{Met}
 use Rattle.commit_walk.proofs.DistinctLemmas.{Contains-map}
 use Rattle.commit_pack.specs.Packs.{pack_under}
 use Rattle.op_kind.specs.Meaning.{Meaning}
-use Rattle.dag_entity.specs.Loading.{AreAllLoaded, AreLoadedOf, CannotLoad, IsLoadedOf, Link, LoadFails, link_of_loaded, link_of_met, loaded_names}
+use Rattle.dag_entity.specs.Loading.{AreAllLoaded, AreLoadedOf, CannotLoad, IsLoadedOf, Lineage, LoadFails, lineage_of_loaded, lineage_of_met, loaded_names}
 use Rattle.dag_entity.specs.Nodes.{IsNodeBelow}
 use Rattle.dag_entity.specs.Stops.{Refused}
 use Rattle.dag_entity.specs.declared.entity.Loaded.{Loaded}
@@ -32,15 +32,15 @@ refused P fault.Disk h = tt
 refused P f h = h
 
 -- one more was loaded
-pub links_more : {Op : Type 0} (loaded more : List (Loaded Op)) (one : Loaded Op) (met : Met) (left rest walk : List Met)
-    → more ≡ loaded ++ one ∷ [] → left ≡ met ∷ rest → link_of_loaded one ≡ link_of_met met
-    → map link_of_loaded loaded ++ map link_of_met left ≡ map link_of_met walk → map link_of_loaded more ++ map link_of_met rest ≡ map link_of_met walk
-links_more {Op = Op} loaded more one met left rest walk pushed split link before =
-    ap (λ (l : List (Loaded Op)). map link_of_loaded l ++ map link_of_met rest) pushed
-    ∙ ap (λ (l : List Link). l ++ map link_of_met rest) (map-append (link_of_loaded {Op = Op}) loaded (one ∷ []))
-    ∙ append_assoc (map link_of_loaded loaded) (link_of_loaded one ∷ []) (map link_of_met rest)
-    ∙ ap (λ (l : Link). map link_of_loaded loaded ++ l ∷ map link_of_met rest) link
-    ∙ ap (λ (l : List Met). map link_of_loaded loaded ++ map link_of_met l) (sym split)
+pub lineages_more : {Op : Type 0} (loaded more : List (Loaded Op)) (one : Loaded Op) (met : Met) (left rest walk : List Met)
+    → more ≡ loaded ++ one ∷ [] → left ≡ met ∷ rest → lineage_of_loaded one ≡ lineage_of_met met
+    → map lineage_of_loaded loaded ++ map lineage_of_met left ≡ map lineage_of_met walk → map lineage_of_loaded more ++ map lineage_of_met rest ≡ map lineage_of_met walk
+lineages_more {Op = Op} loaded more one met left rest walk pushed split lineage before =
+    ap (λ (l : List (Loaded Op)). map lineage_of_loaded l ++ map lineage_of_met rest) pushed
+    ∙ ap (λ (l : List Lineage). l ++ map lineage_of_met rest) (map-append (lineage_of_loaded {Op = Op}) loaded (one ∷ []))
+    ∙ append_assoc (map lineage_of_loaded loaded) (lineage_of_loaded one ∷ []) (map lineage_of_met rest)
+    ∙ ap (λ (l : Lineage). map lineage_of_loaded loaded ++ l ∷ map lineage_of_met rest) lineage
+    ∙ ap (λ (l : List Met). map lineage_of_loaded loaded ++ map lineage_of_met l) (sym split)
     ∙ before
 
 module _ {Op State Row : Type 0} (k : Meaning Op State Row) (objects : Objects) (walk : List Met) where
@@ -55,15 +55,15 @@ module _ {Op State Row : Type 0} (k : Meaning Op State Row) (objects : Objects) 
       (λ g fails. record { met = met; among = among; stop = fails.0; holds = fails.1; is = fails.2 }) f h
 
   -- the names of what was loaded are those of the walk
-  same_names : (loaded : List (Loaded Op)) → map link_of_loaded loaded ≡ map link_of_met walk → loaded_names loaded ≡ names_of walk
-  same_names loaded links =
-      sym (map-map (λ (l : Link). l.name) (link_of_loaded {Op = Op}) loaded) ∙ ap (map (λ (l : Link). l.name)) links ∙ map-map (λ (l : Link). l.name) link_of_met walk
+  same_names : (loaded : List (Loaded Op)) → map lineage_of_loaded loaded ≡ map lineage_of_met walk → loaded_names loaded ≡ names_of walk
+  same_names loaded lineages =
+      sym (map-map (λ (l : Lineage). l.name) (lineage_of_loaded {Op = Op}) loaded) ∙ ap (map (λ (l : Lineage). l.name)) lineages ∙ map-map (λ (l : Lineage). l.name) lineage_of_met walk
 
   -- the commits of a whole walk were loaded
-  pub all_loaded : (heads : List Name) (loaded : List (Loaded Op)) → AreBelow objects heads walk → map link_of_loaded loaded ≡ map link_of_met walk
+  pub all_loaded : (heads : List Name) (loaded : List (Loaded Op)) → AreBelow objects heads walk → map lineage_of_loaded loaded ≡ map lineage_of_met walk
       → AreLoadedOf k objects walk loaded → AreAllLoaded k objects heads loaded
-  all_loaded heads loaded whole links are =
-      let names : loaded_names loaded ≡ names_of walk = same_names loaded links in
+  all_loaded heads loaded whole lineages are =
+      let names : loaded_names loaded ≡ names_of walk = same_names loaded lineages in
       record {
         all = λ name below. subst (λ (l : List Name). Contains l name) (sym names) (whole.all name below);
         each = λ one c. node_below one (are one c) (subst (λ (l : List Name). Contains l one.placed.commit) names (Contains-map (λ (l : Loaded Op). l.placed.commit) loaded one c));
@@ -73,8 +73,8 @@ module _ {Op State Row : Type 0} (k : Meaning Op State Row) (objects : Objects) 
       node_below : (one : Loaded Op) → IsLoadedOf k objects walk one → Contains (names_of walk) one.placed.commit → IsNodeBelow k objects heads one
       node_below one of c =
           let commit = whole.each of.met of.among in
-          let name : one.placed.commit ≡ of.met.name = ap (λ (l : Link). l.name) of.is.link in
-          let parents : one.parents ≡ of.met.parents = ap (λ (l : Link). l.parents) of.is.link in
+          let name : one.placed.commit ≡ of.met.name = ap (λ (l : Lineage). l.name) of.is.lineage in
+          let parents : one.parents ≡ of.met.parents = ap (λ (l : Lineage). l.parents) of.is.lineage in
           record {
             below = whole.only one.placed.commit c;
             is = record {

@@ -24,7 +24,7 @@ use Rattle.op_kind.specs.Meaning.{Meaning}
 use Rattle.dag_entity.specs.Entities.{AreAllInOrder, AreOneOrTwo, KeepsRules, ReadsEach, Rise, commits_of}
 use Rattle.dag_entity.specs.Faults.{EntityFaultHolds}
 use Rattle.dag_entity.specs.Heads.{HaveHeads}
-use Rattle.dag_entity.specs.Loading.{AreAllLoaded, CannotLoad, Link, link_of_loaded, link_of_met, loaded_names, node_of, placed_of}
+use Rattle.dag_entity.specs.Loading.{AreAllLoaded, CannotLoad, Lineage, lineage_of_loaded, lineage_of_met, loaded_names, node_of, placed_of}
 use Rattle.dag_entity.specs.Nodes.{IsCommitBelow, pack_at}
 use Rattle.dag_entity.specs.Stops.{Refused, pack_stop, walk_stop}
 use Rattle.dag_entity.specs.declared.entity.Loaded.{Loaded}
@@ -42,11 +42,11 @@ node_names_are {Op = Op} loaded = map-map (λ (n : Node). n.name) (node_of {Op =
 pub commit_names_are : {Op : Type 0} (loaded : List (Loaded Op)) → commits_of (map placed_of loaded) ≡ loaded_names loaded
 commit_names_are {Op = Op} loaded = map-map (λ (p : Placed Op). p.commit) (placed_of {Op = Op}) loaded
 
-module _ {Op : Type 0} (heads : List Name) (walk : List Met) (loaded : List (Loaded Op)) (closed : IsClosed heads walk) (links : map link_of_loaded loaded ≡ map link_of_met walk) where
+module _ {Op : Type 0} (heads : List Name) (walk : List Met) (loaded : List (Loaded Op)) (closed : IsClosed heads walk) (lineages : map lineage_of_loaded loaded ≡ map lineage_of_met walk) where
   names_are : node_names (map node_of loaded) ≡ names_of walk
   names_are =
-      node_names_are loaded ∙ sym (map-map (λ (l : Link). l.name) (link_of_loaded {Op = Op}) loaded) ∙ ap (map (λ (l : Link). l.name)) links
-      ∙ map-map (λ (l : Link). l.name) link_of_met walk
+      node_names_are loaded ∙ sym (map-map (λ (l : Lineage). l.name) (lineage_of_loaded {Op = Op}) loaded) ∙ ap (map (λ (l : Lineage). l.name)) lineages
+      ∙ map-map (λ (l : Lineage). l.name) lineage_of_met walk
 
   pub have_heads : HaveHeads (map node_of loaded) heads
   have_heads name c = subst (λ (l : List Name). Contains l name) (sym names_are) (closed.heads_met name c)
@@ -55,9 +55,9 @@ module _ {Op : Type 0} (heads : List Name) (walk : List Met) (loaded : List (Loa
   parents_are_nodes : (node : Node) (name : Name) → Contains (map node_of loaded) node → Contains node.parents name → Contains (node_names (map node_of loaded)) name
   parents_are_nodes node name c p =
       let one = Contains-from_map (node_of {Op = Op}) loaded node c in
-      let link : Contains (map link_of_met walk) (link_of_loaded one.0) = subst (λ (l : List Link). Contains l (link_of_loaded one.0)) links (Contains-map (link_of_loaded {Op = Op}) loaded one.0 one.1) in
-      let met = Contains-from_map link_of_met walk (link_of_loaded one.0) link in
-      let parents : node.parents ≡ met.0.parents = ap (λ (n : Node). n.parents) (sym one.2) ∙ ap (λ (l : Link). l.parents) (sym met.2) in
+      let lineage : Contains (map lineage_of_met walk) (lineage_of_loaded one.0) = subst (λ (l : List Lineage). Contains l (lineage_of_loaded one.0)) lineages (Contains-map (lineage_of_loaded {Op = Op}) loaded one.0 one.1) in
+      let met = Contains-from_map lineage_of_met walk (lineage_of_loaded one.0) lineage in
+      let parents : node.parents ≡ met.0.parents = ap (λ (n : Node). n.parents) (sym one.2) ∙ ap (λ (l : Lineage). l.parents) (sym met.2) in
       subst (λ (l : List Name). Contains l name) (sym names_are) (closed.parents_met met.0 name met.1 (subst (λ (l : List Name). Contains l name) parents p))
 
   pub are_nodes : AreOneOrTwo heads → AreNodes (map node_of loaded)

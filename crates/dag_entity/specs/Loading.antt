@@ -17,15 +17,15 @@ use Rattle.dag_entity.specs.declared.entity.Placed.{Placed}
 use Rattle.dag_entity.specs.declared.fault.EntityFault.{EntityFault}
 
 -- a commit's name and its parents
-pub record Link : Type 0 where
+pub record Lineage : Type 0 where
   pub name : Name
   pub parents : List Name
 
-abbrev pub link_of_met : Met → Link
-link_of_met met = record { name = met.name; parents = met.parents }
+abbrev pub lineage_of_met : Met → Lineage
+lineage_of_met met = record { name = met.name; parents = met.parents }
 
-abbrev pub link_of_loaded : {Op : Type 0} → Loaded Op → Link
-link_of_loaded loaded = record { name = loaded.placed.commit; parents = loaded.parents }
+abbrev pub lineage_of_loaded : {Op : Type 0} → Loaded Op → Lineage
+lineage_of_loaded loaded = record { name = loaded.placed.commit; parents = loaded.parents }
 
 -- the commit with its pack
 abbrev pub placed_of : {Op : Type 0} → Loaded Op → Placed Op
@@ -41,7 +41,7 @@ node_of loaded = record { name = loaded.placed.commit; parents = loaded.parents;
 module _ {Op State Row : Type 0} (k : Meaning Op State Row) where
   -- a commit that was met, with the pack under its tree
   pub record IsLoaded (objects : Objects) (met : Met) (loaded : Loaded Op) : Type 0 where
-    pub link : link_of_loaded loaded ≡ link_of_met met
+    pub lineage : lineage_of_loaded loaded ≡ lineage_of_met met
     pub has : pack_under k objects met.tree ≡ Some loaded.placed.pack
 
   -- one of the commits that were met, with its pack

@@ -3,7 +3,7 @@ ghost use Rattle.std.specs.Prelude.{◌≡◌, ◌≤◌, ◌+◌, ◌*◌, All,
 ghost use Rattle.std.specs.List.{AllByRecursion};
 ghost use Rattle.gb_store.specs.Faults.{KeepsFaults};
 ghost use Rattle.object_store.specs.Held.{objects_after};
-ghost use Rattle.dag_entity.specs.Loading.{AllLoadAnswers, LoadAnswers, link_of_loaded, link_of_met, node_of, placed_of};
+ghost use Rattle.dag_entity.specs.Loading.{AllLoadAnswers, LoadAnswers, lineage_of_loaded, lineage_of_met, node_of, placed_of};
 
 use crate::entity::{Loaded, Placed};
 use crate::fault::EntityFault;
@@ -24,8 +24,8 @@ pub(crate) fn load_all<K: OpKind, S: Store>(
 ) -> Result<Vec<Loaded<K>>, EntityFault>
     ensures answers { IsTrue S.tells → AllLoadAnswers K.meaning
         (objects_after (S.history disk.old) folder.now) walk.items result }
-    ensures links { IfOk result (λ loaded. map link_of_loaded loaded.items
-        ≡ map link_of_met walk.items) }
+    ensures lineages { IfOk result (λ loaded. map lineage_of_loaded loaded.items
+        ≡ map lineage_of_met walk.items) }
     ensures rules { IfOk result (λ loaded. All
         (λ one. AllByRecursion K.meaning.KeepsRules one.placed.pack.ops) loaded.items) }
     ensures unwritten { IsTrue S.tells → S.history disk.new ≡ S.history disk.old }
@@ -50,7 +50,7 @@ fn load<K: OpKind, S: Store>(
 ) -> Result<Loaded<K>, EntityFault>
     ensures answers { IsTrue S.tells → LoadAnswers K.meaning
         (objects_after (S.history disk.old) folder.now) met result }
-    ensures link { IfOk result (λ loaded. link_of_loaded loaded ≡ link_of_met met) }
+    ensures lineage { IfOk result (λ loaded. lineage_of_loaded loaded ≡ lineage_of_met met) }
     ensures rules { IfOk result
         (λ loaded. AllByRecursion K.meaning.KeepsRules loaded.placed.pack.ops) }
     ensures unwritten { IsTrue S.tells → S.history disk.new ≡ S.history disk.old }

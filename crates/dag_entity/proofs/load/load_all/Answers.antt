@@ -8,7 +8,7 @@ use Rattle.object_store.specs.Held.{objects_after}
 use Rattle.commit_walk.specs.declared.below.Met.{Met}
 use Rattle.dag_entity.specs.Loading.{AllLoadAnswers, AreLoadedOf, IsLoaded, IsLoadedOf, LoadFails}
 use Rattle.dag_entity.specs.Stops.{Refused}
-use Rattle.dag_entity.proofs.LoadLemmas.{AreLoadedOf-push, all_refused, links_more}
+use Rattle.dag_entity.proofs.LoadLemmas.{AreLoadedOf-push, all_refused, lineages_more}
 use Rattle.dag_entity.proofs.load.load_all.Goals as goal
 
 pub returns-in_err-load-clause-answers : goal.returns-in_err-load-clause-answers
@@ -41,7 +41,7 @@ loop-met-preserved g c =
     record {
       can_next = tt;
       is_finite = tt;
-      links = links_more c.loop-met.loaded.items c.push.new.self.items one met c.loop-met.met-iterator.rest.items rest c.args.walk.items pushed split c.in_ok-load.ensures.link before.links;
+      lineages = lineages_more c.loop-met.loaded.items c.push.new.self.items one met c.loop-met.met-iterator.rest.items rest c.args.walk.items pushed split c.in_ok-load.ensures.lineage before.lineages;
       left = λ other h. before.left other (subst (λ (l : List Met). Contains l other) (sym split) (Contains-later met rest other h));
       each = λ tells.
           let is : IsLoaded k objects met one = subst (λ (h : History). IsLoaded k (objects_after h c.args.folder.now) met one) (before.unwritten tells) (c.in_ok-load.ensures.answers tells) in

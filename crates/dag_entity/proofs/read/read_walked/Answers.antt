@@ -16,18 +16,18 @@ returns-in_err-loaded-clause-answers g c = λ tells whole.
 
 pub entity_of-requires-clause-nodes : goal.entity_of-requires-clause-nodes
 entity_of-requires-clause-nodes g c =
-    are_nodes c.args.heads.now c.args.walk.items c.in_ok-loaded.loaded.items c.requires.closed c.in_ok-loaded.ensures.links c.requires.count
+    are_nodes c.args.heads.now c.args.walk.items c.in_ok-loaded.loaded.items c.requires.closed c.in_ok-loaded.ensures.lineages c.requires.count
 
 pub entity_of-requires-clause-heads : goal.entity_of-requires-clause-heads
 entity_of-requires-clause-heads g c =
-    have_heads c.args.heads.now c.args.walk.items c.in_ok-loaded.loaded.items c.requires.closed c.in_ok-loaded.ensures.links
+    have_heads c.args.heads.now c.args.walk.items c.in_ok-loaded.loaded.items c.requires.closed c.in_ok-loaded.ensures.lineages
 
 pub returns-clause-answers : goal.returns-clause-answers
 returns-clause-answers g c = λ tells whole.
     let objects = objects_after (g.S.Store.history c.args.disk.now) c.args.folder.now in
     let k = g.K.OpKind.meaning in
     let loaded = c.in_ok-loaded.loaded.items in
-    c.entity_of.ensures.answers objects (all_loaded k objects c.args.walk.items c.args.heads.now loaded whole c.in_ok-loaded.ensures.links (c.in_ok-loaded.ensures.answers tells))
+    c.entity_of.ensures.answers objects (all_loaded k objects c.args.walk.items c.args.heads.now loaded whole c.in_ok-loaded.ensures.lineages (c.in_ok-loaded.ensures.answers tells))
 
 pub returns-clause-rules : goal.returns-clause-rules
 returns-clause-rules g c = c.entity_of.ensures.rules (rules_placed g.K.OpKind.meaning c.in_ok-loaded.loaded.items c.in_ok-loaded.ensures.rules)
