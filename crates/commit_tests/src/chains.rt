@@ -1,5 +1,5 @@
 //! Chains of commits.
-use commit_chain::{ChainFault, ChainStop, walk};
+use commit_walk::{ChainStop, WalkFault, walk_chain};
 use fixtures::{Disk, put_commit};
 use gb_text::Name;
 use std::test::Fail;
@@ -10,9 +10,9 @@ const ABSENT: Name = Name { bytes: [7; 20] };
 
 // The names of the commits from a head, or why there are none.
 fn walked(disk: &mut Disk, head: &Name) -> Result<Vec<Name>, ChainStop> {
-    let met = walk(disk.alloc, &mut disk.store, &disk.folder, head)?;
+    let links = walk_chain(disk.alloc, &mut disk.store, &disk.folder, head)?;
     let mut names = Vec::new(disk.alloc);
-    for one in &met {
+    for one in &links {
         names.push(one.name)?;
     }
     Ok(names)
@@ -49,7 +49,7 @@ fn a_parent_stands_before_its_child(rt: HostRuntime) -> Result<(), Fail> {
 fn a_parent_that_is_missing_is_named(rt: HostRuntime) -> Result<(), Fail> {
     let mut disk = Disk::new(rt.alloc())?;
     let high = put_commit(&mut disk, &TREE, &[ABSENT])?;
-    let fault = ChainFault::Missing(ABSENT);
+    let fault = WalkFault::Missing(ABSENT);
     assert_eq!(rt;
         walked(&mut disk, &high).err(),
         Some(ChainStop::Fault(fault))

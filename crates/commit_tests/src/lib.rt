@@ -1,4 +1,4 @@
-//! Tests of `commit_chain`, `commit_walk` and `dag_graph`. They stand apart, so that the proofs of these are made once.
+//! Tests of `commit_walk` and `dag_graph`. They stand apart, so that the proofs of these are made once.
 #![tactic(auto)]
 
 #[cfg(test)]

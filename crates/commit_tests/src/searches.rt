@@ -1,6 +1,5 @@
 //! Searches for a name below another, along a chain, and below two heads.
-use commit_chain::passes;
-use commit_walk::{Both, WalkFault, WalkStop, lies_below, walk_both};
+use commit_walk::{Both, WalkFault, WalkStop, lies_below, passes, walk_both};
 use fixtures::{Disk, put_commit, put_under};
 use gb_text::Name;
 use std::test::Fail;

@@ -1,5 +1,5 @@
 -- What a whole walk says of the commits below the heads.
-use Rattle.std.proofs.Common.{◌≡◌, ◌≤◌, ◌↔◌, ◌⊎◌, inl, inr, ◌∷◌, [], List, length, Contains, Some, None, refl, sym, ◌∙◌, ap, subst, arith}
+use Rattle.std.proofs.Common.{◌≡◌, ◌≤◌, ◌↔◌, ◌⊎◌, inl, inr, ◌∷◌, [], List, length, Contains, Some, None, sym, ◌∙◌, ap, subst, arith}
 use Rattle.std.proofs.lemmas.List.{length-map}
 use Rattle.std.proofs.lemmas.List.Elements.{Contains-append_left, Contains-append_right}
 use Rattle.std.proofs.lemmas.Option.{same_Some}
@@ -8,14 +8,12 @@ use Rattle.git_object.specs.declared.commit.Commit.{Commit}
 use Rattle.object_store.specs.Growth.{OnlyGrew}
 use Rattle.object_store.specs.Held.{Objects}
 use Rattle.object_store.specs.Typed.{as_commit, commit_at}
-use Rattle.object_store.specs.declared.fault.KindFault.TheVariants as kind
-use Rattle.object_store.proofs.FaultLemmas.{kind_fault-none}
 use Rattle.object_store.proofs.GrowthLemmas.{stays}
-use Rattle.commit_walk.specs.Below.{IsBelow, IsParent, head, parent, IsCommit, names_of, AreBelow, FaultHolds}
+use Rattle.commit_walk.specs.Below.{AreBelow, AreTooMany, FaultHolds, IsBelow, IsCommit, IsParent, head, names_of, parent}
 use Rattle.commit_walk.specs.declared.below.Met.{Met}
 use Rattle.commit_walk.specs.declared.fault.WalkFault.{WalkFault}
-use Rattle.commit_walk.specs.declared.fault.WalkFault.TheVariants as fault
 use Rattle.commit_walk.proofs.DistinctLemmas.{Contains-cons, Contains-first, Contains-map, length-distinct}
+use Rattle.commit_walk.proofs.FaultLemmas.{no_fault_where}
 use Rattle.commit_walk.proofs.FrontierLemmas.{met_of}
 
 module _ (objects : Objects) where
@@ -27,14 +25,13 @@ module _ (objects : Objects) where
         let commit = whole.each found.0 found.1 in
         cc (sym none ∙ ap (commit_at objects) (sym found.2) ∙ commit.held)
 
-    pub no_fault : (f : WalkFault) → length walk ≤ 65536 → FaultHolds objects heads f → ⊥
-    no_fault (fault.Missing name) few h = below_is_held name h.0 (kind_fault-none as_commit objects name (kind.Missing name) (refl, h.1))
-    no_fault (fault.Damaged name) few h = below_is_held name h.0 (kind_fault-none as_commit objects name (kind.Damaged name) (refl, h.1))
-    no_fault (fault.Large name) few h = below_is_held name h.0 (kind_fault-none as_commit objects name (kind.Large name) (refl, h.1))
-    no_fault (fault.NotCommit name) few h = below_is_held name h.0 (kind_fault-none as_commit objects name (kind.OtherKind name) (refl, h.1))
-    no_fault fault.TooMany few h =
+    too_many : length walk ≤ 65536 → AreTooMany objects heads → ⊥
+    too_many few h =
         let fewer : length h.names ≤ length (names_of walk) = length-distinct h.names (names_of walk) h.once (λ name c. whole.all name (h.each name c).below) in
         omega (arith, fewer, few, h.many, length-map walk (λ (m : Met). m.name))
+
+    pub no_fault : (f : WalkFault) → length walk ≤ 65536 → FaultHolds objects heads f → ⊥
+    no_fault f few h = no_fault_where objects (IsBelow objects heads) (AreTooMany objects heads) below_is_held (too_many few) f h
 
   -- a commit that is met in one walk is met in the other
   met_in : (heads others : List Name) (one two : List Met) → AreBelow objects heads one → AreBelow objects others two

@@ -1,7 +1,13 @@
 pub mod BelowLemmas
 pub mod BothLemmas
+pub mod ChainLemmas
+pub mod ChainPassLemmas
+pub mod ChainStayLemmas
+pub mod ChainStepLemmas
 pub mod DistinctLemmas
+pub mod FaultLemmas
 pub mod FrontierLemmas
+pub mod PassingLemmas
 pub mod QueueLemmas
 pub mod ReachLemmas
 pub mod SearchLemmas

@@ -8,11 +8,9 @@ use Rattle.std.proofs.lemmas.Option.{get_or_from_slice_get, slice_get-get_or, sl
 use Rattle.gb_text.specs.declared.id.Name.{Name}
 use Rattle.git_object.specs.declared.commit.Commit.{Commit}
 use Rattle.object_store.specs.Held.{Objects}
-use Rattle.object_store.specs.Typed.{as_commit, commit_at}
-use Rattle.object_store.specs.declared.fault.KindFault.TheVariants as kind
-use Rattle.object_store.proofs.FaultLemmas.{kind_fault-none}
-use Rattle.commit_walk.specs.Answers.{IsNoCommit, ReadsBelow}
-use Rattle.commit_walk.specs.Below.{AreBelow, FaultHolds, IsBelow, IsClosed, IsCommit, head, parent, names_of}
+use Rattle.object_store.specs.Typed.{commit_at}
+use Rattle.commit_walk.specs.Answers.{ReadsBelow}
+use Rattle.commit_walk.specs.Below.{AreBelow, AreTooMany, FaultHolds, IsBelow, IsClosed, IsCommit, head, parent, names_of}
 use Rattle.commit_walk.specs.Reaches.{IsReach, ReadsKnown, Reached, TurnedBy, Turned, TurnedIn, a_commit, known, no_commit}
 use Rattle.commit_walk.specs.Distinct.{AreDistinct}
 use Rattle.commit_walk.specs.Queues.{Adds}
@@ -22,7 +20,7 @@ use Rattle.commit_walk.specs.declared.fault.WalkFault.{WalkFault}
 use Rattle.commit_walk.specs.declared.fault.WalkFault.TheVariants as fault
 use Rattle.commit_walk.proofs.BelowLemmas.{below_below}
 use Rattle.commit_walk.proofs.DistinctLemmas.{AreDistinct-nil, Contains-nil}
-use Rattle.commit_walk.proofs.FrontierLemmas.{fault_below}
+use Rattle.commit_walk.proofs.FaultLemmas.{fault_at, fault_over, holds_none}
 
 -- ---- names that are known
 
@@ -97,30 +95,18 @@ module _ (tops : List Name) (old new : Reach) where
 
 -- what is wrong below some heads is wrong below more
 more_wrong : (objects : Objects) (heads more : List Name) (f : WalkFault) → ((name : Name) → Contains heads name → Contains more name) → FaultHolds objects heads f → FaultHolds objects more f
-more_wrong objects heads more f all h = by f h
+more_wrong objects heads more f all h = fault_over objects (IsBelow objects heads) (AreTooMany objects heads) (IsBelow objects more) (AreTooMany objects more) up many f h
   where
     up : (name : Name) → IsBelow objects heads name → IsBelow objects more name
     up name b = below_below objects more heads name (λ n c. head (all n c)) b
 
-    by : (f : WalkFault) → FaultHolds objects heads f → FaultHolds objects more f
-    by (fault.Missing name) h = (up name h.0, h.1)
-    by (fault.Damaged name) h = (up name h.0, h.1)
-    by (fault.Large name) h = (up name h.0, h.1)
-    by (fault.NotCommit name) h = (up name h.0, h.1)
-    by fault.TooMany h = record {
+    many : AreTooMany objects heads → AreTooMany objects more
+    many h = record {
       names = h.names;
       once = h.once;
       many = h.many;
       each = λ name c. let is = h.each name c in record { below = up name is.below; commit = is.commit; held = is.held };
     }
-
--- a name with such a fault holds no commit
-holds_none : (objects : Objects) (name : Name) (f : WalkFault) → IsNoCommit objects name f → commit_at objects name ≡ None
-holds_none objects name (fault.Missing n) h = kind_fault-none as_commit objects name (kind.Missing n) h
-holds_none objects name (fault.Damaged n) h = kind_fault-none as_commit objects name (kind.Damaged n) h
-holds_none objects name (fault.Large n) h = kind_fault-none as_commit objects name (kind.Large n) h
-holds_none objects name (fault.NotCommit n) h = kind_fault-none as_commit objects name (kind.OtherKind n) h
-holds_none objects name fault.TooMany h = absurd h
 
 module _ (objects : Objects) (tops : List Name) (old new : Reach) where
   pub Reached-turn : (name : Name) (done : ℕ) → Reached objects tops old done → slice_get (known old) done ≡ Some name → TurnedIn objects old new name → Reached objects tops new (done + 1)
@@ -160,7 +146,7 @@ module _ (objects : Objects) (tops : List Name) (old new : Reach) where
     each = λ m c. r.each m (subst (λ (l : List Met). Contains l m) walk c);
     wrong = λ g e.
         let same : f ≡ g = same_Some f g (sym wrong ∙ e) in
-        subst (FaultHolds objects tops) same (fault_below objects tops name f (r.below name (name_is_known (known old) done name at)) lacks);
+        subst (FaultHolds objects tops) same (fault_at objects (IsBelow objects tops) (AreTooMany objects tops) name f (r.below name (name_is_known (known old) done name at)) lacks);
   }
 
   pub Reached-more : (top : Name) → Reached objects tops old (length (known old)) → Adds (known old) (top ∷ []) (known new) → new.walk ≡ old.walk → new.wrong ≡ old.wrong → Reached objects (tops ++ top ∷ []) new (length (known old))

@@ -1,14 +1,14 @@
 -- The commits below some heads (Git's object format), and what may be wrong with them.
-use Rattle.std.specs.Prelude.{◌≡◌, ◌<◌, List, map, length, Contains, Some, None}
+use Rattle.std.specs.Prelude.{◌≡◌, ◌<◌, List, map, length, Contains, Some}
 use Rattle.gb_text.specs.declared.id.Name.{Name}
 use Rattle.git_object.specs.declared.commit.Commit.{Commit}
-use Rattle.object_store.specs.Held.{Objects, IsDamaged, IsLarge}
-use Rattle.object_store.specs.Typed.{IsOtherKind, as_commit, commit_at}
+use Rattle.object_store.specs.Held.{Objects}
+use Rattle.object_store.specs.Typed.{commit_at}
 use Rattle.commit_walk.specs.Distinct.{AreDistinct}
+use Rattle.commit_walk.specs.Faults.{WalkFaultHolds}
 use Rattle.commit_walk.specs.declared.below.TheConstants.{MOST_COMMITS}
 use Rattle.commit_walk.specs.declared.below.Met.{Met}
 use Rattle.commit_walk.specs.declared.fault.WalkFault.{WalkFault}
-use Rattle.commit_walk.specs.declared.fault.WalkFault.TheVariants as fault
 
 -- the commit that the one name holds names the other as a parent
 pub record IsParent (objects : Objects) (high low : Name) : Type 0 where
@@ -57,10 +57,6 @@ pub record AreTooMany (objects : Objects) (heads : List Name) : Type 0 where
   pub many : MOST_COMMITS < length names
   pub each : (name : Name) → Contains names name → HasCommit objects heads name
 
--- what is wrong with the commits below the heads, one case a fault and with no order among them
+-- what is wrong with the commits below the heads
 abbrev pub FaultHolds : Objects → List Name → WalkFault → Type 0
-FaultHolds objects heads (fault.Missing name) = IsBelow objects heads name × (objects name ≡ None)
-FaultHolds objects heads (fault.Damaged name) = IsBelow objects heads name × IsDamaged objects name
-FaultHolds objects heads (fault.Large name) = IsBelow objects heads name × IsLarge (objects name)
-FaultHolds objects heads (fault.NotCommit name) = IsBelow objects heads name × IsOtherKind as_commit objects name
-FaultHolds objects heads fault.TooMany = AreTooMany objects heads
+FaultHolds objects heads f = WalkFaultHolds objects (IsBelow objects heads) (AreTooMany objects heads) f

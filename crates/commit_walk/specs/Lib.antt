@@ -1,7 +1,11 @@
 pub mod Answers
 pub mod Below
 pub mod Both
+pub mod Chain
+pub mod ChainAnswers
 pub mod Distinct
+pub mod Faults
+pub mod Passing
 pub mod Queues
 pub mod Reaches
 pub mod Searches

@@ -1,10 +1,10 @@
-//! What may be wrong with the commits below some heads, and why a walk stopped.
+//! What may be wrong with the commits of a walk, and why a walk stopped.
 use gb_store::StoreFault;
 use gb_text::Name;
 use object_store::{KindFault, ObjFault};
 use std::alloc::AllocFailed;
 
-/// What is wrong with the commits below some heads.
+/// What is wrong with the commits of a walk.
 #[derive(Clone, Copy, Debug, PartialEq, Eq)]
 pub enum WalkFault {
     /// No file stands under this name of a commit.
@@ -19,12 +19,23 @@ pub enum WalkFault {
     TooMany,
 }
 
-/// Why a walk gave no commits.
+/// Why a walk below some heads gave no commits.
 #[derive(Clone, Copy, Debug, PartialEq, Eq)]
 pub enum WalkStop {
     Memory,
     /// The store failed.
     Disk,
+    Fault(WalkFault),
+}
+
+/// Why a walk along a chain gave no commits.
+#[derive(Clone, Copy, Debug, PartialEq, Eq)]
+pub enum ChainStop {
+    Memory,
+    /// The store failed.
+    Disk,
+    /// The walk met this commit, which has two parents or more.
+    Merge(Name),
     Fault(WalkFault),
 }
 
@@ -78,5 +89,31 @@ impl<T: Drop> From<AllocFailed<T>> for WalkStop {
 
     fn from(_: AllocFailed<T>) -> Self {
         WalkStop::Memory
+    }
+}
+
+impl From<WalkStop> for ChainStop {
+    ghost use Rattle.std.specs.Prelude.{◌≡◌};
+    ghost use Rattle.commit_walk.specs.Stops.{chain_stop};
+
+    ghost from_gives = { λ stop e. e ≡ chain_stop stop };
+
+    fn from(stop: WalkStop) -> Self {
+        match stop {
+            WalkStop::Memory => ChainStop::Memory,
+            WalkStop::Disk => ChainStop::Disk,
+            WalkStop::Fault(fault) => ChainStop::Fault(fault),
+        }
+    }
+}
+
+impl<T: Drop> From<AllocFailed<T>> for ChainStop {
+    ghost use Rattle.std.specs.Prelude.{◌≡◌};
+    ghost use Rattle.commit_walk.specs.declared.fault.ChainStop.TheVariants as stop;
+
+    ghost from_gives = { λ _ e. e ≡ stop.Memory };
+
+    fn from(_: AllocFailed<T>) -> Self {
+        ChainStop::Memory
     }
 }

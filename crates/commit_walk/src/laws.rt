@@ -50,7 +50,7 @@ pub fn what_lies_below_stays()
         → IsBelow new heads name → IsBelow old heads name }
 {}
 
-/// A walk may have 2^16 commits.
+/// A walk may have 2^16 commits, over a graph and along a chain.
 pub fn a_walk_has_at_most_65536_commits()
     ensures { MOST_COMMITS ≡ 2 ^ 16 }
 {}

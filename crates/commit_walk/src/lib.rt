@@ -1,17 +1,26 @@
-//! The walk over all commits below some heads, where they branch and merge.
+//! Walks over commits: all below some heads, and along a chain by the single parent.
 #![tactic(auto)]
 
 mod below;
 mod both;
+mod chain;
+mod chain_laws;
 mod fault;
 mod laws;
+mod passing;
 mod queue;
 mod reach;
 
 pub use below::{MOST_COMMITS, Met, walk};
 pub use both::{Both, lies_below, walk_both};
-pub use fault::{WalkFault, WalkStop};
+pub use chain::{Link, walk_chain};
+pub use chain_laws::{
+    a_whole_chain_has_no_fault, a_whole_chain_passes_what_it_meets, chain_walks_are_determined,
+    chain_walks_stay, what_a_chain_meets_lies_below,
+};
+pub use fault::{ChainStop, WalkFault, WalkStop};
 pub use laws::{
     a_walk_has_at_most_65536_commits, a_whole_walk_has_no_fault, below_is_transitive,
     walks_have_the_same_commits, what_lies_below_stays, what_lies_below_two_lies_below_one,
 };
+pub use passing::passes;

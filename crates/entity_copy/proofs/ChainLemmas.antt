@@ -1,5 +1,5 @@
 -- What the chain of an identity needs, of a head that was copied.
-use Rattle.std.proofs.Common.{◌≡◌, inl, inr, true, false, List, [], ◌∷◌, Contains, Option, Some, None, refl, sym, ◌∙◌, ap, subst}
+use Rattle.std.proofs.Common.{◌≡◌, inl, inr, true, false, [], ◌∷◌, Contains, Option, Some, None, refl, sym, ◌∙◌, ap}
 use Rattle.std.specs.Prelude.{codes, find}
 use Rattle.std.specs.Option.{option_map}
 use Rattle.std.specs.Str.{bytes_eq}
@@ -16,21 +16,14 @@ use Rattle.object_store.specs.Typed.{tree_at}
 use Rattle.object_store.proofs.GrowthLemmas.{bind-some}
 use Rattle.object_batch.specs.Needs.{kind_named}
 use Rattle.object_batch.proofs.ClashLemmas.{find-some}
-use Rattle.commit_chain.specs.Chain.{Chain, Meets}
-use Rattle.commit_chain.specs.declared.chain.Met.{Met}
-use Rattle.commit_walk.specs.Below.{IsBelow, head, parent}
-use Rattle.commit_walk.proofs.DistinctLemmas.{Contains-first}
+use Rattle.commit_walk.specs.Below.{IsBelow}
+use Rattle.commit_walk.specs.Chain.{Meets}
+use Rattle.commit_walk.proofs.ChainLemmas.{chain_below}
 use Rattle.identity.specs.Agreeing.{SameChain}
 use Rattle.identity.specs.Commits.{Needs, TreeNeeds, is_file, is_version_entry, version_object}
 use Rattle.remote_copy.specs.Closure.{IsFollowed, commit_named}
 use Rattle.remote_copy.specs.Copies.{IsCopied}
 use Rattle.entity_copy.proofs.NeededLemmas.{alike_same, as_kind, below_followed, file_followed, tree_followed}
-
--- what is met by steps to single parents lies below
-chain_below : (objects : Objects) (top : Name) (above : List Met) (name : Name) → Chain objects top above name → IsBelow objects (top ∷ []) name
-chain_below objects top [] name c = head (subst (λ (n : Name). Contains (n ∷ []) name) c (Contains-first name []))
-chain_below objects top (met ∷ above) name c =
-    parent (chain_below objects top above met.name c.0) (record { commit = c.1.commit; held = c.1.held; names = subst (λ (l : List Name). Contains l name) (sym c.1.has) (Contains-first name []) })
 
 -- a file is named as a blob
 file_kind : (m : Mode) → is_file m ≡ true → kind_named m ≡ Some kinds.Blob

@@ -4,7 +4,7 @@ ghost use Rattle.std.specs.Prelude.{◌≡◌, ◌↔◌, false, List, [], ◌�
 ghost use Rattle.gb_text.specs.declared.id.Id.{Id as IdValue};
 ghost use Rattle.gb_text.specs.declared.id.Name.{Name as NameValue};
 ghost use Rattle.object_store.specs.Held.{Objects};
-ghost use Rattle.commit_chain.specs.Chain.{Meets};
+ghost use Rattle.commit_walk.specs.Chain.{Meets};
 ghost use Rattle.commit_walk.specs.Below.{IsBelow};
 ghost use Rattle.dag_entity.specs.Agreeing.{SameNeeded};
 ghost use Rattle.dag_entity.specs.Entities.{IsEntity, IsOperationList};

@@ -7,8 +7,8 @@ use Rattle.git_object.specs.declared.object.Object.{Object}
 use Rattle.git_object.specs.Reading.{object_of}
 use Rattle.object_store.specs.Held.{IsDamaged, IsLarge, Objects, named, object_at}
 use Rattle.object_store.specs.Typed.{IsOtherKind, as_blob, as_commit, as_tree, blob_at, commit_at, tree_at}
-use Rattle.commit_chain.specs.Chain.{Chain, IsTooLong, Meets, Walked}
-use Rattle.commit_chain.specs.declared.chain.Met.{Met}
+use Rattle.commit_walk.specs.Chain.{Chain, IsTooLong, Meets, Walked}
+use Rattle.commit_walk.specs.declared.chain.Link.{Link}
 use Rattle.identity.specs.Agreeing.{SameChain}
 use Rattle.identity.specs.Commits.{HasNoVersion, HasVersion, IsBad, Needs, TreeNeeds, no_blob, no_entry, no_tree, no_version, text_in, version_at, version_object, version_text_at}
 use Rattle.identity.specs.Persons.{BeginsWith, IdentityFaultHolds, IsChain, Shows, SomeHasNoVersion}
@@ -42,18 +42,18 @@ module _ (one two : Objects) (top : Name) (agree : SameChain one two top) where
   commit_same : (met : Name) → Meets one top met → commit_at two met ≡ commit_at one met
   commit_same met m = ap (option_and_then as_commit) (object_same one two met (agree.same met met m (inl refl)))
 
-  chain_over : (above : List Met) (name : Name) → length above ≤ 65536 → Chain one top above name → Chain two top above name
+  chain_over : (above : List Link) (name : Name) → length above ≤ 65536 → Chain one top above name → Chain two top above name
   chain_over [] name few c = c
-  chain_over (met ∷ above) name few c =
-      let m : Meets one top met.name = record { above = above; chain = c.0; near = omega (arith, few) } in
-      (chain_over above met.name (omega (arith, few)) c.0, record { commit = c.1.commit; held = commit_same met.name m ∙ c.1.held; tree = c.1.tree; has = c.1.has })
+  chain_over (link ∷ above) name few c =
+      let m : Meets one top link.name = record { above = above; chain = c.0; near = omega (arith, few) } in
+      (chain_over above link.name (omega (arith, few)) c.0, record { commit = c.1.commit; held = commit_same link.name m ∙ c.1.held; tree = c.1.tree; parents = c.1.parents })
 
-  chain_back : (above : List Met) (name : Name) → length above ≤ 65536 → Chain two top above name → Chain one top above name
+  chain_back : (above : List Link) (name : Name) → length above ≤ 65536 → Chain two top above name → Chain one top above name
   chain_back [] name few c = c
-  chain_back (met ∷ above) name few c =
-      let there : Chain one top above met.name = chain_back above met.name (omega (arith, few)) c.0 in
-      let m : Meets one top met.name = record { above = above; chain = there; near = omega (arith, few) } in
-      (there, record { commit = c.1.commit; held = sym (commit_same met.name m) ∙ c.1.held; tree = c.1.tree; has = c.1.has })
+  chain_back (link ∷ above) name few c =
+      let there : Chain one top above link.name = chain_back above link.name (omega (arith, few)) c.0 in
+      let m : Meets one top link.name = record { above = above; chain = there; near = omega (arith, few) } in
+      (there, record { commit = c.1.commit; held = sym (commit_same link.name m) ∙ c.1.held; tree = c.1.tree; parents = c.1.parents })
 
   pub meets_over : (name : Name) → Meets one top name → Meets two top name
   meets_over name m = record { above = m.above; chain = chain_over m.above name m.near m.chain; near = m.near }
@@ -151,12 +151,12 @@ module _ (one two : Objects) (top : Name) (agree : SameChain one two top) where
   fault_over id (fault.TooLarge count) (inr h) = inr (some_over (fault.TooLarge count) h)
   fault_over id f h = some_over f h
 
-  walked_over : (walk : List Met) → length walk ≤ 65536 → Walked one top walk → Walked two top walk
+  walked_over : (walk : List Link) → length walk ≤ 65536 → Walked one top walk → Walked two top walk
   walked_over [] few w = w
   walked_over (root ∷ above) few w =
       let near : length above ≤ 65536 = omega (arith, few) in
       let m : Meets one top root.name = record { above = above; chain = w.0; near = near } in
-      (chain_over above root.name near w.0, record { commit = w.1.commit; held = commit_same root.name m ∙ w.1.held; tree = w.1.tree; has = w.1.has })
+      (chain_over above root.name near w.0, record { commit = w.1.commit; held = commit_same root.name m ∙ w.1.held; tree = w.1.tree; parents = w.1.parents })
 
   pub chain_too : (id : Id) (chain : IsChain one id top) → (other : IsChain two id top) × (other.walk ≡ chain.walk)
   chain_too id chain = (

@@ -8,7 +8,7 @@ use Rattle.std.proofs.lemmas.List.Elements.{Contains-append_cases, Contains-appe
 use Rattle.std.proofs.lemmas.List.Sums.{count_by-le-length, sum_by-cons}
 use Rattle.gb_text.specs.declared.id.Name.{Name}
 use Rattle.object_store.specs.Held.{Objects}
-use Rattle.commit_chain.specs.declared.chain.Met.{Met}
+use Rattle.commit_walk.specs.declared.chain.Link.{Link}
 use Rattle.identity.specs.Knowing.{AreFrom, IsFrom, by_bytes, knows, unknown}
 use Rattle.identity.proofs.KnownLemmas.{same_name}
 
@@ -104,16 +104,16 @@ unknown-second names none one two first last empty more further at = by (is_at (
 -- ---- commits
 
 -- some commits and one more are from these trees and versions, so the one is
-pub IsFrom-last : (objects : Objects) (trees versions : List Name) (mets : List Met) (met : Met) → AreFrom objects trees versions (mets ++ met ∷ []) → IsFrom objects trees versions met
-IsFrom-last objects trees versions mets met from = from met (Contains-push mets met)
+pub IsFrom-last : (objects : Objects) (trees versions : List Name) (links : List Link) (link : Link) → AreFrom objects trees versions (links ++ link ∷ []) → IsFrom objects trees versions link
+IsFrom-last objects trees versions links link from = from link (Contains-push links link)
 
 -- and so are those in front
-pub AreFrom-front : (objects : Objects) (trees versions : List Name) (mets : List Met) (met : Met) → AreFrom objects trees versions (mets ++ met ∷ []) → AreFrom objects trees versions mets
-AreFrom-front objects trees versions mets met from = λ other at. from other (Contains-append_left mets (met ∷ []) other at)
+pub AreFrom-front : (objects : Objects) (trees versions : List Name) (links : List Link) (link : Link) → AreFrom objects trees versions (links ++ link ∷ []) → AreFrom objects trees versions links
+AreFrom-front objects trees versions links link from = λ other at. from other (Contains-append_left links (link ∷ []) other at)
 
 -- and those behind the first
-pub AreFrom-later : (objects : Objects) (trees versions : List Name) (walk : List Met) → 1 ≤ length walk → AreFrom objects trees versions walk → AreFrom objects trees versions (take (length walk - 1) (drop 1 walk))
+pub AreFrom-later : (objects : Objects) (trees versions : List Name) (walk : List Link) → 1 ≤ length walk → AreFrom objects trees versions walk → AreFrom objects trees versions (take (length walk - 1) (drop 1 walk))
 AreFrom-later objects trees versions [] some from = absurd (omega (arith, some))
 AreFrom-later objects trees versions (root ∷ later) some from =
     subst (AreFrom objects trees versions) (sym (take_all (length (root ∷ later) - 1) later (omega arith)))
-    (λ met at. from met (Contains-append_right (root ∷ []) later met at))
+    (λ link at. from link (Contains-append_right (root ∷ []) later link at))

@@ -9,15 +9,15 @@ use Rattle.git_object.specs.declared.object.Object.{Object}
 use Rattle.git_object.specs.Grammar.{object_name}
 use Rattle.object_store.specs.Held.{Objects}
 use Rattle.object_store.specs.Typed.{as_blob, as_commit, as_tree, blob_at, commit_at, tree_at}
-use Rattle.commit_chain.specs.Chain.{IsCommit, Chain, Walked, Meets}
-use Rattle.commit_chain.specs.declared.chain.Met.{Met}
-use Rattle.commit_chain.proofs.PassLemmas.{Linked-walked, meets_first, met_at, walk_passes}
+use Rattle.commit_walk.specs.Chain.{IsLink, Chain, Walked, Meets}
+use Rattle.commit_walk.specs.declared.chain.Link.{Link}
+use Rattle.commit_walk.proofs.ChainPassLemmas.{Linked-walked, meets_first, met_at, walk_passes}
 use Rattle.identity.specs.Version.{version_of, version_id}
 use Rattle.identity.specs.Commits.{HasVersion, text_in, version_object, version_text_at}
 use Rattle.identity.specs.Extending.{Extends, IsLonger}
 use Rattle.object_store.specs.Growth.{OnlyGrew}
 use Rattle.object_store.proofs.GrowthLemmas.{stays}
-use Rattle.commit_chain.proofs.StayLemmas.{Chain_stays, Walked_stays}
+use Rattle.commit_walk.proofs.ChainStayLemmas.{Chain_stays, Walked_stays}
 use Rattle.identity.specs.Making.{HoldsVersion, tree_object, made_of, version_commit}
 use Rattle.identity.specs.Persons.{BeginsWith, IsChain, Shows}
 use Rattle.identity.specs.declared.chain.Person.{Person}
@@ -61,18 +61,18 @@ module _ (old new : Objects) (grew : OnlyGrew old new) where
       }
 
 -- the one item of a list
-only_one : (met other : Met) → Contains (met ∷ []) other → met ≡ other
-only_one met other (zero, lt, e) = e
-only_one met other (suc k, lt, e) = absurd (omega (arith, lt))
+only_one : (link other : Link) → Contains (link ∷ []) other → link ≡ other
+only_one link other (zero, lt, e) = e
+only_one link other (suc k, lt, e) = absurd (omega (arith, lt))
 
 -- ---- a commit over a head
 
-module _ (objects : Objects) (head : Name) (met : Met) (is : IsCommit objects met (head ∷ [])) where
-  Chain_over : (above : List Met) (name : Name) → Chain objects head above name → Chain objects met.name (above ++ met ∷ []) name
-  Chain_over [] name chain = (refl, subst (λ (n : Name). IsCommit objects met (n ∷ [])) (sym chain) is)
+module _ (objects : Objects) (head : Name) (link : Link) (is : IsLink objects link (head ∷ [])) where
+  Chain_over : (above : List Link) (name : Name) → Chain objects head above name → Chain objects link.name (above ++ link ∷ []) name
+  Chain_over [] name chain = (refl, subst (λ (n : Name). IsLink objects link (n ∷ [])) (sym chain) is)
   Chain_over (m ∷ above) name chain = (Chain_over above m.name chain.0, chain.1)
 
-  Walked_over : (walk : List Met) → Walked objects head walk → Walked objects met.name (walk ++ met ∷ [])
+  Walked_over : (walk : List Link) → Walked objects head walk → Walked objects link.name (walk ++ link ∷ [])
   Walked_over [] walked = absurd walked
   Walked_over (root ∷ above) walked = (Chain_over above root.name walked.0, walked.1)
 
@@ -84,11 +84,11 @@ module _ (objects : Objects) (text : List ℕ) (parent : Option Name) (now : ℕ
   abbrev new_commit : Commit
   new_commit = version_commit (object_name (tree_object text)) parent now
 
-  abbrev new_met : Met
-  new_met = record { name = made.head; tree = object_name (tree_object text) }
+  abbrev new_link : Link
+  new_link = record { name = made.head; tree = object_name (tree_object text) }
 
-  new_is : (parents : List Name) → new_commit.parents ≡ parents → IsCommit objects new_met parents
-  new_is parents has = record { commit = new_commit; held = ap (option_and_then as_commit) holds.commit; tree = refl; has = has }
+  new_is : (parents : List Name) → new_commit.parents ≡ parents → IsLink objects new_link parents
+  new_is parents has = record { commit = new_commit; held = ap (option_and_then as_commit) holds.commit; tree = refl; parents = sym has }
 
   new_text : version_text_at objects made.head ≡ Some text
   new_text =
@@ -104,7 +104,7 @@ module _ (objects : Objects) (text : List ℕ) (parent : Option Name) (now : ℕ
   unfolding new_is
   longer_first none id_is = record {
     chain = record {
-      walk = new_met ∷ [];
+      walk = new_link ∷ [];
       walked = (refl, is);
       within = omega arith;
       each = at_name;
@@ -113,7 +113,7 @@ module _ (objects : Objects) (text : List ℕ) (parent : Option Name) (now : ℕ
         root = made.head;
         commit = new_commit;
         meets = record { meets = record { above = []; chain = refl; near = omega arith }; held = is.held };
-        no_parents = is.has;
+        no_parents = sym is.parents;
         holds = new_text;
         version = version;
         reads = reads;
@@ -125,26 +125,26 @@ module _ (objects : Objects) (text : List ℕ) (parent : Option Name) (now : ℕ
     shows = record { version = version; has = new_has; is = refl };
   }
     where
-      is : IsCommit objects new_met []
+      is : IsLink objects new_link []
       is = new_is [] (ap option_to_list none)
 
       at_name : (name : Name) → Meets objects made.head name → (v : Version) × HasVersion objects name v
       at_name name meets =
-          let passes = walk_passes objects made.head name (new_met ∷ []) (refl, is) meets in
-          let same : new_met ≡ passes.met = only_one new_met passes.met passes.at in
-          (version, subst (λ (n : Name). HasVersion objects n version) (ap (λ (m : Met). m.name) same ∙ passes.is) new_has)
+          let passes = walk_passes objects made.head name (new_link ∷ []) (refl, is) meets in
+          let same : new_link ≡ passes.link = only_one new_link passes.link passes.at in
+          (version, subst (λ (n : Name). HasVersion objects n version) (ap (λ (m : Link). m.name) same ∙ passes.is) new_has)
 
 -- the version goes on with a chain
 module _ (old new : Objects) (grew : OnlyGrew old new) (text : List ℕ) (head : Name) (now : ℕ) (made : Made) (version : Version)
     (holds : HoldsVersion new text (Some head) now made) (reads : version_of text ≡ Some version) (no_keys : version.has_keys ≡ false)
     (id : Id) (chain : IsChain old id head) (room : length chain.walk < 65536) where
-  abbrev last : Met
+  abbrev last : Link
   last = record { name = made.head; tree = object_name (tree_object text) }
 
-  abbrev whole : List Met
+  abbrev whole : List Link
   whole = chain.walk ++ last ∷ []
 
-  last_is : IsCommit new last (head ∷ [])
+  last_is : IsLink new last (head ∷ [])
   last_is = new_is new text (Some head) now made version holds reads no_keys (head ∷ []) refl
 
   last_has : HasVersion new made.head version
@@ -159,16 +159,16 @@ module _ (old new : Objects) (grew : OnlyGrew old new) (text : List ℕ) (head :
   at_name : (name : Name) → Meets new made.head name → (v : Version) × HasVersion new name v
   at_name name meets =
       let passes = walk_passes new made.head name whole walked meets in
-      elim (Contains-push_cases chain.walk last passes.met passes.at) [
+      elim (Contains-push_cases chain.walk last passes.link passes.at) [
         | inl below ↦
-            let at = met_at old head chain.walk passes.met chain.walked chain.within below in
-            let has = chain.each passes.met.name at.0 in
-            (has.0, subst (λ (n : Name). HasVersion new n has.0) passes.is (HasVersion_stays old new grew passes.met.name has.0 has.1))
-        | inr same ↦ (version, subst (λ (n : Name). HasVersion new n version) (ap (λ (m : Met). m.name) same ∙ passes.is) last_has)
+            let at = met_at old head chain.walk passes.link chain.walked chain.within below in
+            let has = chain.each passes.link.name at.0 in
+            (has.0, subst (λ (n : Name). HasVersion new n has.0) passes.is (HasVersion_stays old new grew passes.link.name has.0 has.1))
+        | inr same ↦ (version, subst (λ (n : Name). HasVersion new n version) (ap (λ (m : Link). m.name) same ∙ passes.is) last_has)
       ]
 
   -- the chain begins where it began
-  root_meets : (walk : List Met) → Walked old head walk → Walked new made.head (walk ++ last ∷ []) → length (walk ++ last ∷ []) ≤ 65536 → Meets new made.head chain.begins.root
+  root_meets : (walk : List Link) → Walked old head walk → Walked new made.head (walk ++ last ∷ []) → length (walk ++ last ∷ []) ≤ 65536 → Meets new made.head chain.begins.root
   root_meets [] before after near = absurd before
   root_meets (root ∷ above) before after near =
       subst (Meets new made.head) (root_is old head chain.begins.root chain.begins.commit root above before chain.begins.meets chain.begins.no_parents)
@@ -237,9 +237,9 @@ chain_stays old new grew id head chain = (
     at_name : (name : Name) → Meets new head name → (v : Version) × HasVersion new name v
     at_name name meets =
         let passes = walk_passes new head name chain.walk walked meets in
-        let at = met_at old head chain.walk passes.met chain.walked chain.within passes.at in
-        let has = chain.each passes.met.name at.0 in
-        (has.0, subst (λ (n : Name). HasVersion new n has.0) passes.is (HasVersion_stays old new grew passes.met.name has.0 has.1))
+        let at = met_at old head chain.walk passes.link chain.walked chain.within passes.at in
+        let has = chain.each passes.link.name at.0 in
+        (has.0, subst (λ (n : Name). HasVersion new n has.0) passes.is (HasVersion_stays old new grew passes.link.name has.0 has.1))
 
 -- so does the person that a head shows
 pub person_stays : (old new : Objects) → OnlyGrew old new → (id : Id) (head : Name) (person : Person) → Shows old id head person → Shows new id head person

@@ -13,7 +13,7 @@ use Rattle.std.proofs.lemmas.List.Elements.{All-head, All-tail, Contains-append_
 use Rattle.gb_text.specs.declared.id.Name.{Name}
 use Rattle.object_store.specs.Held.{Objects}
 use Rattle.object_store.specs.Typed.{blob_at}
-use Rattle.commit_chain.specs.declared.chain.Met.{Met}
+use Rattle.commit_walk.specs.declared.chain.Link.{Link}
 use Rattle.identity.specs.Answers.{IsJudged, Leads, NoVersion, OneRefused, VersionIn}
 use Rattle.identity.specs.Commits.{NamesVersion, text_in}
 use Rattle.identity.specs.Faults.{Refused}
@@ -89,29 +89,29 @@ IsVersion-named objects judged tree object same named is = record {
 -- ---- commits one after the other
 
 -- from one version through those of these commits to that of one more
-pub Leads-through : (objects : Objects) (first next : Version) (mets : List Met) (met : Met) (text : List ℕ) → EachHas objects mets → VersionIn objects met text next
-    → Leads objects first (mets ++ met ∷ []) next
-Leads-through objects first next [] met text each has = (next, (text, has), refl)
-Leads-through objects first next (m ∷ mets) met text each has =
-    let here : TreeHas objects m.tree = All-head (λ met. TreeHas objects met.tree) m mets each in (
+pub Leads-through : (objects : Objects) (first next : Version) (links : List Link) (link : Link) (text : List ℕ) → EachHas objects links → VersionIn objects link text next
+    → Leads objects first (links ++ link ∷ []) next
+Leads-through objects first next [] link text each has = (next, (text, has), refl)
+Leads-through objects first next (m ∷ links) link text each has =
+    let here : TreeHas objects m.tree = All-head (λ link. TreeHas objects link.tree) m links each in (
       here.version,
       (here.text, record { holds = here.holds; reads = here.reads; no_keys = here.no_keys }),
-      Leads-through objects here.version next mets met text (All-tail (λ met. TreeHas objects met.tree) m mets each) has,
+      Leads-through objects here.version next links link text (All-tail (λ link. TreeHas objects link.tree) m links each) has,
     )
 
 -- a commit that is refused is one of those in front of it and itself
-pub OneRefused-last : (objects : Objects) (mets : List Met) (met : Met) (f : IdentityFault) → Refused (NoVersion objects met) f → Refused (OneRefused objects (mets ++ met ∷ [])) f
-OneRefused-last objects mets met f h =
-    Refused-map (NoVersion objects met) (OneRefused objects (mets ++ met ∷ [])) (λ f h. (met, Contains-push mets met, h)) f h
+pub OneRefused-last : (objects : Objects) (links : List Link) (link : Link) (f : IdentityFault) → Refused (NoVersion objects link) f → Refused (OneRefused objects (links ++ link ∷ [])) f
+OneRefused-last objects links link f h =
+    Refused-map (NoVersion objects link) (OneRefused objects (links ++ link ∷ [])) (λ f h. (link, Contains-push links link, h)) f h
 
 -- so is one of those in front
-pub OneRefused-front : (objects : Objects) (mets : List Met) (met : Met) (f : IdentityFault) → Refused (OneRefused objects mets) f → Refused (OneRefused objects (mets ++ met ∷ [])) f
-OneRefused-front objects mets met f h =
-    Refused-map (OneRefused objects mets) (OneRefused objects (mets ++ met ∷ [])) (λ f h. (h.0, Contains-append_left mets (met ∷ []) h.0 h.1, h.2)) f h
+pub OneRefused-front : (objects : Objects) (links : List Link) (link : Link) (f : IdentityFault) → Refused (OneRefused objects links) f → Refused (OneRefused objects (links ++ link ∷ [])) f
+OneRefused-front objects links link f h =
+    Refused-map (OneRefused objects links) (OneRefused objects (links ++ link ∷ [])) (λ f h. (h.0, Contains-append_left links (link ∷ []) h.0 h.1, h.2)) f h
 
 -- these commits are refused for one that has no version
-pub OneRefused-at : (objects : Objects) (mets : List Met) (k : ℕ) (d : Met) (f : IdentityFault) → k < length mets
-    → Refused (NoVersion objects (get_or mets k d)) f → Refused (OneRefused objects mets) f
-OneRefused-at objects mets k d f lt h =
-    Refused-map (NoVersion objects (get_or mets k d)) (OneRefused objects mets)
-    (λ f h. (get_or mets k d, (k, lt, get_or_default mets k (get_or mets k d) d lt), h)) f h
+pub OneRefused-at : (objects : Objects) (links : List Link) (k : ℕ) (d : Link) (f : IdentityFault) → k < length links
+    → Refused (NoVersion objects (get_or links k d)) f → Refused (OneRefused objects links) f
+OneRefused-at objects links k d f lt h =
+    Refused-map (NoVersion objects (get_or links k d)) (OneRefused objects links)
+    (λ f h. (get_or links k d, (k, lt, get_or_default links k (get_or links k d) d lt), h)) f h

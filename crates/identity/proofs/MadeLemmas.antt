@@ -20,7 +20,7 @@ use Rattle.git_object.proofs.NameLaws.{IsName-object_name}
 use Rattle.object_batch.proofs.NeedLemmas.{batch_needed}
 use Rattle.object_batch.proofs.OrderLemmas.{in_need_order}
 use Rattle.object_batch.proofs.PlanLemmas.{batch_grew, batch_held}
-use Rattle.commit_chain.specs.Chain.{Meets}
+use Rattle.commit_walk.specs.Chain.{Meets}
 use Rattle.object_store.specs.Typed.{as_commit}
 use Rattle.identity.specs.Commits.{HasVersion, text_in}
 use Rattle.identity.specs.Extending.{Extends}
@@ -123,7 +123,7 @@ made_below folder name email nonce now head old may has free = record {
       commit = version_commit tree (Some head) now;
       held = ap (option_and_then as_commit) (made_held folder name email nonce now (Some head) old may has free).commit;
       tree = refl;
-      has = refl;
+      parents = refl;
     },
   );
   near = omega arith;

@@ -9,11 +9,11 @@ use Rattle.git_object.specs.declared.object.Object.{Object}
 use Rattle.git_object.specs.Reading.{object_of}
 use Rattle.object_store.specs.Held.{Objects, object_at, named}
 use Rattle.object_store.specs.Typed.{as_blob, as_commit, as_tree, blob_at, commit_at}
-use Rattle.commit_chain.specs.Chain.{Walked, MeetsCommit}
-use Rattle.commit_chain.specs.declared.chain.Met.{Met}
+use Rattle.commit_walk.specs.Chain.{Walked, MeetsCommit}
+use Rattle.commit_walk.specs.declared.chain.Link.{Link}
 use Rattle.object_store.proofs.FaultLemmas.{fault-none}
 use Rattle.object_store.specs.declared.fault.ObjFault.TheVariants as object
-use Rattle.commit_chain.proofs.PassLemmas.{Linked-walked, no_merge-walked, not_too_long, one_walk, parent_at, walk_passes}
+use Rattle.commit_walk.proofs.ChainPassLemmas.{Linked-walked, no_merge-walked, not_too_long, one_walk, parent_at, walk_passes}
 use Rattle.identity.specs.Version.{version_of, version_id, person_name}
 use Rattle.identity.specs.Commits.{Needs, IsBad, no_tree, no_entry, no_blob, no_version, text_in, version_object, version_text_at, version_at, HasVersion, HasNoVersion}
 use Rattle.identity.specs.Persons.{BeginsWith, IsChain, Shows, SomeHasNoVersion, IdentityFaultHolds}
@@ -81,24 +81,24 @@ no_fault_at objects name version (fault.TooLarge count) has h =
 -- ---- a chain has none
 
 -- a commit without parents is the first of the walk
-pub root_is : (objects : Objects) (head name : Name) (commit : Commit) (root : Met) (above : List Met) → Walked objects head (root ∷ above) → MeetsCommit objects head name commit
+pub root_is : (objects : Objects) (head name : Name) (commit : Commit) (root : Link) (above : List Link) → Walked objects head (root ∷ above) → MeetsCommit objects head name commit
     → commit.parents ≡ [] → root.name ≡ name
 root_is objects head name commit root above walked met none =
     let passes = walk_passes objects head name (root ∷ above) walked met.meets in
-    at_place passes.met passes.at.0 passes.at.1 (ap (λ (m : Met). m.name) passes.at.2 ∙ passes.is)
+    at_place passes.link passes.at.0 passes.at.1 (ap (λ (m : Link). m.name) passes.at.2 ∙ passes.is)
   where
-    at_place : (d : Met) (k : ℕ) → k < length (root ∷ above) → (get_or (root ∷ above) k d).name ≡ name → root.name ≡ name
+    at_place : (d : Link) (k : ℕ) → k < length (root ∷ above) → (get_or (root ∷ above) k d).name ≡ name → root.name ≡ name
     at_place d zero lt named = named
     at_place d (suc k) lt named =
         let is = parent_at objects head (root ∷ above) k d (Linked-walked objects head (root ∷ above) walked) lt in
         let same = same_Some is.commit commit (sym is.held ∙ ap (commit_at objects) named ∙ met.held) in
-        absurd (cc (sym is.has ∙ ap (λ (c : Commit). c.parents) same ∙ none))
+        absurd (cc (is.parents ∙ ap (λ (c : Commit). c.parents) same ∙ none))
 
 same_text : (s t : List ℕ) → Some s ≡ Some t → s ≡ t
 same_text s t e = grind (arith, e)
 
 -- a walk begins with one text
-BeginsWith-same : (objects : Objects) (head : Name) (walk : List Met) (s t : List ℕ) → Walked objects head walk → BeginsWith objects head s → BeginsWith objects head t → s ≡ t
+BeginsWith-same : (objects : Objects) (head : Name) (walk : List Link) (s t : List ℕ) → Walked objects head walk → BeginsWith objects head s → BeginsWith objects head t → s ≡ t
 BeginsWith-same objects head [] s t walked one two = absurd walked
 BeginsWith-same objects head (root ∷ above) s t walked one two =
     let first = root_is objects head one.root one.commit root above walked one.meets one.no_parents in

@@ -18,7 +18,7 @@ use Rattle.op_kind.specs.Common.{nonce_in, nonce_of, time_at}
 use Rattle.op_kind.specs.Members.{Fields, fields_at, values_of, only_value, value_or}
 use Rattle.op_kind.specs.Nonces.{IsNonce}
 use Rattle.op_kind.proofs.ReadLaws.{time_is_low, nonce_is_one}
-use Rattle.commit_chain.specs.Chain.{Meets}
+use Rattle.commit_walk.specs.Chain.{Meets}
 use Rattle.identity.specs.Commits.{HasNoVersion, version_at, version_text_at}
 use Rattle.identity.specs.Persons.{IdentityFaultHolds, IsChain}
 use Rattle.identity.specs.Version.{has_element, keys_at, keys_of, line_of, version_of}

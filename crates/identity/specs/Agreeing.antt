@@ -2,7 +2,7 @@
 use Rattle.std.specs.Prelude.{◌≡◌}
 use Rattle.gb_text.specs.declared.id.Name.{Name}
 use Rattle.object_store.specs.Held.{Objects}
-use Rattle.commit_chain.specs.Chain.{Meets}
+use Rattle.commit_walk.specs.Chain.{Meets}
 use Rattle.identity.specs.Commits.{Needs}
 
 -- the second store has the same file, or none, under each name that the version of a commit of the chain needs in the first

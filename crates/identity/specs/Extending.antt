@@ -3,8 +3,8 @@ use Rattle.std.specs.Prelude.{◌≡◌, ◌<◌, List, [], ◌∷◌, ◌++◌,
 use Rattle.gb_text.specs.declared.id.Id.{Id}
 use Rattle.gb_text.specs.declared.id.Name.{Name}
 use Rattle.object_store.specs.Held.{Objects}
-use Rattle.commit_chain.specs.declared.chain.Met.{Met}
-use Rattle.commit_chain.specs.declared.chain.TheConstants.{MOST_COMMITS}
+use Rattle.commit_walk.specs.declared.chain.Link.{Link}
+use Rattle.commit_walk.specs.declared.below.TheConstants.{MOST_COMMITS}
 use Rattle.identity.specs.Version.{person_name}
 use Rattle.identity.specs.Persons.{IsChain, Shows}
 use Rattle.identity.specs.declared.chain.Person.{Person}
@@ -16,7 +16,7 @@ abbrev pub person_by : Id → Name → Version → Person
 person_by id head version = record { id = id; head = head; name = person_name version; email = version.email }
 
 -- the chain from a head is that from the head below it and one commit more, and shows the person of a version
-pub record IsLonger (objects : Objects) (id : Id) (walk : List Met) (head : Name) (version : Version) : Type 0 where
+pub record IsLonger (objects : Objects) (id : Id) (walk : List Link) (head : Name) (version : Version) : Type 0 where
   pub chain : IsChain objects id head
   pub tree : Name
   pub longer : chain.walk ≡ walk ++ record { name = head; tree = tree } ∷ []

@@ -2,12 +2,12 @@
 use Rattle.std.specs.Prelude.{⊤, ◌+◌}
 use Rattle.gb_text.specs.declared.id.Name.{Name}
 use Rattle.object_store.specs.declared.read.TheConstants.{MOST_BYTES}
-use Rattle.commit_chain.specs.declared.chain.TheConstants.{MOST_COMMITS}
+use Rattle.commit_walk.specs.declared.below.TheConstants.{MOST_COMMITS}
 use Rattle.object_store.specs.declared.fault.KindFault.{KindFault}
 use Rattle.object_store.specs.declared.fault.KindFault.TheVariants as object
-use Rattle.commit_chain.specs.declared.fault.ChainFault.TheVariants as chain
-use Rattle.commit_chain.specs.declared.fault.ChainStop.{ChainStop}
-use Rattle.commit_chain.specs.declared.fault.ChainStop.TheVariants as stop
+use Rattle.commit_walk.specs.declared.fault.WalkFault.TheVariants as walk
+use Rattle.commit_walk.specs.declared.fault.ChainStop.{ChainStop}
+use Rattle.commit_walk.specs.declared.fault.ChainStop.TheVariants as stop
 use Rattle.identity.specs.declared.fault.IdentityFault.{IdentityFault}
 use Rattle.identity.specs.declared.fault.IdentityFault.TheVariants as fault
 
@@ -30,11 +30,11 @@ abbrev pub fault_of_stop : ChainStop → IdentityFault
 fault_of_stop stop.Memory = fault.Memory
 fault_of_stop stop.Disk = fault.Disk
 fault_of_stop (stop.Merge name) = fault.NotLinear name
-fault_of_stop (stop.Fault (chain.Missing name)) = fault.Missing name
-fault_of_stop (stop.Fault (chain.Damaged name)) = fault.Damaged name
-fault_of_stop (stop.Fault (chain.Large name)) = fault.TooLarge (MOST_BYTES + 1)
-fault_of_stop (stop.Fault (chain.NotCommit name)) = fault.NotCommit name
-fault_of_stop (stop.Fault chain.TooLong) = fault.TooLarge (MOST_COMMITS + 1)
+fault_of_stop (stop.Fault (walk.Missing name)) = fault.Missing name
+fault_of_stop (stop.Fault (walk.Damaged name)) = fault.Damaged name
+fault_of_stop (stop.Fault (walk.Large name)) = fault.TooLarge (MOST_BYTES + 1)
+fault_of_stop (stop.Fault (walk.NotCommit name)) = fault.NotCommit name
+fault_of_stop (stop.Fault walk.TooMany) = fault.TooLarge (MOST_COMMITS + 1)
 
 -- a refusal for a fault that holds; want of memory and faults of the disk have no cause here
 abbrev pub Refused : (IdentityFault → Type 0) → IdentityFault → Type 0

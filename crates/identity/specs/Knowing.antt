@@ -8,7 +8,7 @@ use Rattle.std.specs.Ordering.{nat_cmp}
 use Rattle.gb_text.specs.declared.id.Name.{Name}
 use Rattle.object_store.specs.Held.{Objects}
 use Rattle.object_store.specs.Typed.{blob_at}
-use Rattle.commit_chain.specs.declared.chain.Met.{Met}
+use Rattle.commit_walk.specs.declared.chain.Link.{Link}
 use Rattle.identity.specs.Answers.{NoVersion, OneRefused}
 use Rattle.identity.specs.Commits.{NamesVersion, text_in}
 use Rattle.identity.specs.Faults.{Refused}
@@ -60,26 +60,26 @@ abbrev pub unread : List Name → List Name → Known → ℕ
 unread trees versions known = unknown trees known.trees + unknown versions known.objects
 
 -- a commit's tree is one of these trees, and what the tree names as its version one of these versions
-pub record IsFrom (objects : Objects) (trees versions : List Name) (met : Met) : Type 0 where
-  pub tree : Contains trees met.tree
-  pub version : (object : Name) → NamesVersion objects met.tree object → Contains versions object
+pub record IsFrom (objects : Objects) (trees versions : List Name) (link : Link) : Type 0 where
+  pub tree : Contains trees link.tree
+  pub version : (object : Name) → NamesVersion objects link.tree object → Contains versions object
 
 -- so it is with each of these commits
-abbrev pub AreFrom : Objects → List Name → List Name → List Met → Type 0
-AreFrom objects trees versions mets = (met : Met) → Contains mets met → IsFrom objects trees versions met
+abbrev pub AreFrom : Objects → List Name → List Name → List Link → Type 0
+AreFrom objects trees versions links = (link : Link) → Contains links link → IsFrom objects trees versions link
 
 -- each of these commits has a version
-abbrev pub EachHas : Objects → List Met → Type 0
-EachHas objects mets = All (λ met. TreeHas objects met.tree) mets
+abbrev pub EachHas : Objects → List Link → Type 0
+EachHas objects links = All (λ link. TreeHas objects link.tree) links
 
-abbrev pub ObjectAnswers : Objects → Met → Name → Result (Unit {0}) IdentityFault → Type 0
-ObjectAnswers objects met object (Ok _) = IsVersion objects object
-ObjectAnswers objects met object (Err f) = Refused (NoVersion objects met) f
+abbrev pub ObjectAnswers : Objects → Link → Name → Result (Unit {0}) IdentityFault → Type 0
+ObjectAnswers objects link object (Ok _) = IsVersion objects object
+ObjectAnswers objects link object (Err f) = Refused (NoVersion objects link) f
 
-abbrev pub KnowingAnswers : Objects → Met → Known → Result (Unit {0}) IdentityFault → Type 0
-KnowingAnswers objects met known (Ok _) = TreeHas objects met.tree × AreKnown objects known
-KnowingAnswers objects met known (Err f) = Refused (NoVersion objects met) f
+abbrev pub KnowingAnswers : Objects → Link → Known → Result (Unit {0}) IdentityFault → Type 0
+KnowingAnswers objects link known (Ok _) = TreeHas objects link.tree × AreKnown objects known
+KnowingAnswers objects link known (Err f) = Refused (NoVersion objects link) f
 
-abbrev pub EachAnswers : Objects → List Met → Result (Unit {0}) IdentityFault → Type 0
-EachAnswers objects mets (Ok _) = EachHas objects mets
-EachAnswers objects mets (Err f) = Refused (OneRefused objects mets) f
+abbrev pub EachAnswers : Objects → List Link → Result (Unit {0}) IdentityFault → Type 0
+EachAnswers objects links (Ok _) = EachHas objects links
+EachAnswers objects links (Err f) = Refused (OneRefused objects links) f

@@ -4,9 +4,9 @@ use Rattle.gb_text.specs.declared.id.Id.{Id}
 use Rattle.gb_text.specs.declared.id.Name.{Name}
 use Rattle.git_object.specs.declared.commit.Commit.{Commit}
 use Rattle.object_store.specs.Held.{Objects}
-use Rattle.commit_chain.specs.Chain.{Walked, Meets, MeetsCommit, MeetsMerge, IsTooLong}
-use Rattle.commit_chain.specs.declared.chain.Met.{Met}
-use Rattle.commit_chain.specs.declared.chain.TheConstants.{MOST_COMMITS}
+use Rattle.commit_walk.specs.Chain.{Walked, Meets, MeetsCommit, MeetsMerge, IsTooLong}
+use Rattle.commit_walk.specs.declared.chain.Link.{Link}
+use Rattle.commit_walk.specs.declared.below.TheConstants.{MOST_COMMITS}
 use Rattle.identity.specs.Version.{version_of, version_id, person_name}
 use Rattle.identity.specs.Commits.{version_text_at, HasVersion, HasNoVersion}
 use Rattle.identity.specs.declared.version.Version.{Version}
@@ -27,7 +27,7 @@ pub record BeginsWith (objects : Objects) (head : Name) (text : List ℕ) : Type
 -- The chain of an identity: a whole walk from the head of at most 65,536 commits, each with a version without keys,
 -- and the id is that of the first version's text.
 pub record IsChain (objects : Objects) (id : Id) (head : Name) : Type 0 where
-  pub walk : List Met
+  pub walk : List Link
   pub walked : Walked objects head walk
   pub within : length walk ≤ MOST_COMMITS
   pub each : (name : Name) → Meets objects head name → (version : Version) × HasVersion objects name version

@@ -3,7 +3,7 @@ ghost use Rattle.std.specs.Prelude.{◌≡◌, ◌↔◌};
 ghost use Rattle.gb_text.specs.declared.id.Id.{Id};
 ghost use Rattle.gb_text.specs.declared.id.Name.{Name};
 ghost use Rattle.object_store.specs.Held.{Objects};
-ghost use Rattle.commit_chain.specs.Chain.{Meets};
+ghost use Rattle.commit_walk.specs.Chain.{Meets};
 ghost use Rattle.identity.specs.Agreeing.{SameChain};
 ghost use Rattle.identity.specs.Persons.{IdentityFaultHolds, IsChain, Shows};
 ghost use Rattle.identity.specs.declared.chain.Person.{Person};

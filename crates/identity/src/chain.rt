@@ -3,9 +3,9 @@ ghost use Rattle.std.specs.Prelude.{◌≡◌, ◌≤◌, ◌+◌, ◌*◌, IsTr
 ghost use Rattle.gb_text.specs.declared.id.Name.{Name as NameValue};
 ghost use Rattle.gb_store.specs.Faults.{KeepsFaults};
 ghost use Rattle.object_store.specs.Held.{objects_after};
-ghost use Rattle.commit_chain.specs.Chain.{Walked};
-ghost use Rattle.commit_chain.specs.declared.chain.Met.{Met as MetValue};
-ghost use Rattle.commit_chain.specs.declared.chain.TheConstants.{MOST_COMMITS};
+ghost use Rattle.commit_walk.specs.Chain.{Walked};
+ghost use Rattle.commit_walk.specs.declared.chain.Link.{Link as LinkValue};
+ghost use Rattle.commit_walk.specs.declared.below.TheConstants.{MOST_COMMITS};
 ghost use Rattle.identity.specs.Version.{person_name};
 ghost use Rattle.identity.specs.Answers.{ChainAnswers, CheckAnswers, CountAnswers, IsJudged, LastAnswers, LaterAnswers, WholeAnswers};
 ghost use Rattle.identity.specs.Knowing.{AreFrom};
@@ -14,7 +14,7 @@ use crate::commit::{Judged, first_version, next_version, version_of};
 use crate::fault::IdentityFault;
 use crate::known::Known;
 use crate::version::Version;
-use commit_chain::{Met, walk};
+use commit_walk::{Link, walk_chain};
 use gb_store::Store;
 use gb_text::{Folder, Id, Memory, Name, Text};
 use object_store::get_commit;
@@ -43,11 +43,11 @@ pub fn read_chain<S: Store>(
     ensures unwritten { IsTrue S.tells → S.history disk.new ≡ S.history disk.old }
     ensures reads { S.object_reads disk.new ≤ S.object_reads disk.old + 3 * MOST_COMMITS }
     ensures once { IsTrue S.tells
-        → IfOk result (λ _. (walk : List MetValue)
+        → IfOk result (λ _. (walk : List LinkValue)
         → Walked (objects_after (S.history disk.old) folder.now) head.now walk
         → S.object_reads disk.new ≤ S.object_reads disk.old + 3 * length walk) }
     ensures distinct { IsTrue S.tells
-        → OnOk result ((walk : List MetValue) (trees versions : List NameValue)
+        → OnOk result ((walk : List LinkValue) (trees versions : List NameValue)
         → Walked (objects_after (S.history disk.old) folder.now) head.now walk
         → AreFrom (objects_after (S.history disk.old) folder.now) trees versions walk
         → S.object_reads disk.new
@@ -74,7 +74,7 @@ pub fn versions<S: Store>(
     ensures once { IfOk result
         (λ count. S.object_reads disk.new ≤ S.object_reads disk.old + 3 * count) }
     ensures distinct { IsTrue S.tells
-        → OnOk result ((walk : List MetValue) (trees versions : List NameValue)
+        → OnOk result ((walk : List LinkValue) (trees versions : List NameValue)
         → Walked (objects_after (S.history disk.old) folder.now) head.now walk
         → AreFrom (objects_after (S.history disk.old) folder.now) trees versions walk
         → S.object_reads disk.new
@@ -103,11 +103,11 @@ pub fn read_last<S: Store>(
         disk.old disk.new }
 {
     let commit = get_commit(alloc, disk, folder, head)?;
-    let met = Met {
+    let link = Link {
         name: *head,
         tree: commit.tree,
     };
-    let last = version_of(alloc, disk, folder, &met)?;
+    let last = version_of(alloc, disk, folder, &link)?;
     Ok(person_of(alloc, id, head, last.version)?)
 }
 
@@ -141,7 +141,7 @@ fn read_whole<S: Store>(
     ensures once { IfOk result
         (λ whole. S.object_reads disk.new ≤ S.object_reads disk.old + 3 * whole.0) }
     ensures distinct { IsTrue S.tells
-        → OnOk result ((walk : List MetValue) (trees versions : List NameValue)
+        → OnOk result ((walk : List LinkValue) (trees versions : List NameValue)
         → Walked (objects_after (S.history disk.old) folder.now) head.now walk
         → AreFrom (objects_after (S.history disk.old) folder.now) trees versions walk
         → S.object_reads disk.new
@@ -149,7 +149,7 @@ fn read_whole<S: Store>(
     ensures caused { KeepsFaults S.never_fails S.faults (IsErrOf result IdentityFault.Disk)
         disk.old disk.new }
 {
-    let walk = walk(alloc, disk, folder, head)?;
+    let walk = walk_chain(alloc, disk, folder, head)?;
     match check_versions(alloc, disk, folder, id, &walk)? {
         Some(last) => Ok((walk.len() as u64, last)),
         // A walk has the commit of the head.
@@ -163,7 +163,7 @@ fn check_versions<S: Store>(
     disk: &mut S,
     folder: &Folder,
     id: &Id,
-    walk: &[Met],
+    walk: &[Link],
 ) -> Result<Option<Version>, IdentityFault>
     ensures answers { IsTrue S.tells
         → CheckAnswers (objects_after (S.history disk.old) folder.now) id.now walk.now result }
@@ -190,7 +190,7 @@ fn last_version<S: Store>(
     disk: &mut S,
     folder: &Folder,
     first: Judged,
-    later: &[Met],
+    later: &[Link],
 ) -> Result<Version, IdentityFault>
     ensures answers { IsTrue S.tells
         → IsJudged (objects_after (S.history disk.old) folder.now) first

@@ -8,7 +8,7 @@ ghost use Rattle.identity.specs.Faults.{version_fault};
 
 use crate::fault::IdentityFault;
 use crate::version::{Version, id_of_version};
-use commit_chain::Met;
+use commit_walk::Link;
 use gb_store::Store;
 use gb_text::{Bytes, Folder, Id, Name};
 use git_object::{Entry, Mode, Tree};
@@ -28,17 +28,17 @@ pub fn version_of<S: Store>(
     alloc: Global,
     disk: &mut S,
     folder: &Folder,
-    met: &Met,
+    link: &Link,
 ) -> Result<Judged, IdentityFault>
     ensures answers { IsTrue S.tells
-        → JudgedAnswers (objects_after (S.history disk.old) folder.now) met.now result }
+        → JudgedAnswers (objects_after (S.history disk.old) folder.now) link.now result }
     ensures unwritten { IsTrue S.tells → S.history disk.new ≡ S.history disk.old }
     ensures reads { S.object_reads disk.new ≤ S.object_reads disk.old + 2 }
     ensures caused { KeepsFaults S.never_fails S.faults (IsErrOf result IdentityFault.Disk)
         disk.old disk.new }
 {
-    let object = version_name(alloc, disk, folder, met)?;
-    judge(alloc, disk, folder, met, object)
+    let object = version_name(alloc, disk, folder, link)?;
+    judge(alloc, disk, folder, link, object)
 }
 
 /// The same, next to a version that was judged before: where the commit has the same tree nothing is
@@ -47,34 +47,34 @@ pub fn next_version<S: Store>(
     alloc: Global,
     disk: &mut S,
     folder: &Folder,
-    met: &Met,
+    link: &Link,
     last: Judged,
 ) -> Result<Judged, IdentityFault>
     ensures answers { IsTrue S.tells
         → IsJudged (objects_after (S.history disk.old) folder.now) last
-        → JudgedAnswers (objects_after (S.history disk.old) folder.now) met.now result }
+        → JudgedAnswers (objects_after (S.history disk.old) folder.now) link.now result }
     ensures unwritten { IsTrue S.tells → S.history disk.new ≡ S.history disk.old }
     ensures reads { S.object_reads disk.new ≤ S.object_reads disk.old + 2 }
-    ensures same_tree { met.now.tree ≡ last.tree
+    ensures same_tree { link.now.tree ≡ last.tree
         → S.object_reads disk.new ≡ S.object_reads disk.old }
     ensures same_object { IsTrue S.tells
-        → NamesVersion (objects_after (S.history disk.old) folder.now) met.now.tree last.object
+        → NamesVersion (objects_after (S.history disk.old) folder.now) link.now.tree last.object
         → S.object_reads disk.new ≤ S.object_reads disk.old + 1 }
     ensures caused { KeepsFaults S.never_fails S.faults (IsErrOf result IdentityFault.Disk)
         disk.old disk.new }
 {
-    if met.tree == last.tree {
+    if link.tree == last.tree {
         return Ok(last);
     }
-    let object = version_name(alloc, disk, folder, met)?;
+    let object = version_name(alloc, disk, folder, link)?;
     if object == last.object {
         return Ok(Judged {
-            tree: met.tree,
+            tree: link.tree,
             object,
             version: last.version,
         });
     }
-    judge(alloc, disk, folder, met, object)
+    judge(alloc, disk, folder, link, object)
 }
 
 /// The version of the first commit, which has no keys and whose text has the id.
@@ -83,7 +83,7 @@ pub fn first_version<S: Store>(
     disk: &mut S,
     folder: &Folder,
     id: &Id,
-    root: &Met,
+    root: &Link,
 ) -> Result<Judged, IdentityFault>
     ensures answers { IsTrue S.tells
         → RootAnswers (objects_after (S.history disk.old) folder.now) id.now root.now result }
@@ -113,21 +113,21 @@ pub fn judge<S: Store>(
     alloc: Global,
     disk: &mut S,
     folder: &Folder,
-    met: &Met,
+    link: &Link,
     object: Name,
 ) -> Result<Judged, IdentityFault>
     ensures answers { IsTrue S.tells
-        → NamesVersion (objects_after (S.history disk.old) folder.now) met.now.tree object
-        → JudgedAnswers (objects_after (S.history disk.old) folder.now) met.now result }
+        → NamesVersion (objects_after (S.history disk.old) folder.now) link.now.tree object
+        → JudgedAnswers (objects_after (S.history disk.old) folder.now) link.now result }
     ensures unwritten { IsTrue S.tells → S.history disk.new ≡ S.history disk.old }
     ensures reads { S.object_reads disk.new ≤ S.object_reads disk.old + 1 }
     ensures caused { KeepsFaults S.never_fails S.faults (IsErrOf result IdentityFault.Disk)
         disk.old disk.new }
 {
-    let text = version_bytes(alloc, disk, folder, met, &object)?;
-    let version = read_version(alloc, &met.name, text.as_slice())?;
+    let text = version_bytes(alloc, disk, folder, link, &object)?;
+    let version = read_version(alloc, &link.name, text.as_slice())?;
     Ok(Judged {
-        tree: met.tree,
+        tree: link.tree,
         object,
         version,
     })
@@ -149,22 +149,22 @@ pub fn version_name<S: Store>(
     alloc: Global,
     disk: &mut S,
     folder: &Folder,
-    met: &Met,
+    link: &Link,
 ) -> Result<Name, IdentityFault>
     ensures answers { IsTrue S.tells
-        → NameAnswers (objects_after (S.history disk.old) folder.now) met.now result }
+        → NameAnswers (objects_after (S.history disk.old) folder.now) link.now result }
     ensures unwritten { IsTrue S.tells → S.history disk.new ≡ S.history disk.old }
     ensures reads { S.object_reads disk.new ≤ S.object_reads disk.old + 1 }
     ensures caused { KeepsFaults S.never_fails S.faults (IsErrOf result IdentityFault.Disk)
         disk.old disk.new }
 {
-    let tree = match get_tree(alloc, disk, folder, &met.tree) {
+    let tree = match get_tree(alloc, disk, folder, &link.tree) {
         Ok(tree) => tree,
-        Err(fault) => return Err(version_fault(&met.name, fault)),
+        Err(fault) => return Err(version_fault(&link.name, fault)),
     };
     match version_object(&tree) {
         Some(object) => Ok(object),
-        None => Err(IdentityFault::BadVersion(met.name)),
+        None => Err(IdentityFault::BadVersion(link.name)),
     }
 }
 
@@ -173,12 +173,12 @@ fn version_bytes<S: Store>(
     alloc: Global,
     disk: &mut S,
     folder: &Folder,
-    met: &Met,
+    link: &Link,
     object: &Name,
 ) -> Result<Bytes, IdentityFault>
     ensures answers { IsTrue S.tells
-        → NamesVersion (objects_after (S.history disk.old) folder.now) met.now.tree object.now
-        → TextAnswers (objects_after (S.history disk.old) folder.now) met.now result }
+        → NamesVersion (objects_after (S.history disk.old) folder.now) link.now.tree object.now
+        → TextAnswers (objects_after (S.history disk.old) folder.now) link.now result }
     ensures unwritten { IsTrue S.tells → S.history disk.new ≡ S.history disk.old }
     ensures reads { S.object_reads disk.new ≤ S.object_reads disk.old + 1 }
     ensures caused { KeepsFaults S.never_fails S.faults (IsErrOf result IdentityFault.Disk)
@@ -186,7 +186,7 @@ fn version_bytes<S: Store>(
 {
     match get_blob(alloc, disk, folder, object) {
         Ok(text) => Ok(text),
-        Err(fault) => Err(version_fault(&met.name, fault)),
+        Err(fault) => Err(version_fault(&link.name, fault)),
     }
 }
 

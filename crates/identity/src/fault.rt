@@ -1,5 +1,5 @@
 //! What may be wrong with the chain of an identity.
-use commit_chain::{ChainFault, ChainStop, MOST_COMMITS};
+use commit_walk::{ChainStop, MOST_COMMITS, WalkFault};
 use gb_text::{Id, Memory, Name};
 use object_store::{KindFault, MOST_BYTES};
 
@@ -67,11 +67,13 @@ impl From<ChainStop> for IdentityFault {
             ChainStop::Memory => IdentityFault::Memory,
             ChainStop::Disk => IdentityFault::Disk,
             ChainStop::Merge(name) => IdentityFault::NotLinear(name),
-            ChainStop::Fault(ChainFault::Missing(name)) => IdentityFault::Missing(name),
-            ChainStop::Fault(ChainFault::Damaged(name)) => IdentityFault::Damaged(name),
-            ChainStop::Fault(ChainFault::Large(_)) => IdentityFault::TooLarge(MOST_BYTES + 1),
-            ChainStop::Fault(ChainFault::NotCommit(name)) => IdentityFault::NotCommit(name),
-            ChainStop::Fault(ChainFault::TooLong) => IdentityFault::TooLarge(MOST_COMMITS + 1),
+            ChainStop::Fault(WalkFault::Missing(name)) => IdentityFault::Missing(name),
+            ChainStop::Fault(WalkFault::Damaged(name)) => IdentityFault::Damaged(name),
+            ChainStop::Fault(WalkFault::Large(_)) => IdentityFault::TooLarge(MOST_BYTES + 1),
+            ChainStop::Fault(WalkFault::NotCommit(name)) => IdentityFault::NotCommit(name),
+            ChainStop::Fault(WalkFault::TooMany) => IdentityFault::TooLarge(
+                MOST_COMMITS as u64 + 1,
+            ),
         }
     }
 }

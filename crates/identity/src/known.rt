@@ -9,7 +9,7 @@ ghost use Rattle.identity.specs.Knowing.{AreFrom, AreKnown, EachAnswers, IsFrom,
 
 use crate::commit::{judge, version_name};
 use crate::fault::IdentityFault;
-use commit_chain::Met;
+use commit_walk::Link;
 use gb_store::Store;
 use gb_text::{Folder, Memory, Name};
 use std::alloc::Global;
@@ -58,36 +58,36 @@ impl Known {
         alloc: Global,
         disk: &mut S,
         folder: &Folder,
-        met: &Met,
+        link: &Link,
     ) -> Result<(), IdentityFault>
         ensures answers { IsTrue S.tells
             → AreKnown (objects_after (S.history disk.old) folder.now) self.old
-            → KnowingAnswers (objects_after (S.history disk.old) folder.now) met.now self.new
+            → KnowingAnswers (objects_after (S.history disk.old) folder.now) link.now self.new
             result }
         ensures unwritten { IsTrue S.tells → S.history disk.new ≡ S.history disk.old }
         ensures reads { S.object_reads disk.new ≤ S.object_reads disk.old + 2 }
-        ensures same_tree { IsTrue (contains ⟦<Name as Ord>⟧.cmp self.old.trees met.now.tree)
+        ensures same_tree { IsTrue (contains ⟦<Name as Ord>⟧.cmp self.old.trees link.now.tree)
             → S.object_reads disk.new ≡ S.object_reads disk.old }
         ensures same_object { (object : NameValue) → IsTrue S.tells
-            → NamesVersion (objects_after (S.history disk.old) folder.now) met.now.tree object
+            → NamesVersion (objects_after (S.history disk.old) folder.now) link.now.tree object
             → IsTrue (contains ⟦<Name as Ord>⟧.cmp self.old.objects object)
             → S.object_reads disk.new ≤ S.object_reads disk.old + 1 }
         ensures known { OnOk result
-            (IsTrue (contains ⟦<Name as Ord>⟧.cmp self.new.trees met.now.tree)) }
+            (IsTrue (contains ⟦<Name as Ord>⟧.cmp self.new.trees link.now.tree)) }
         ensures kept { OnOk result (StaysKnown self.old self.new) }
         ensures once { (trees versions : List NameValue) → IsTrue S.tells
-            → IsFrom (objects_after (S.history disk.old) folder.now) trees versions met.now
+            → IsFrom (objects_after (S.history disk.old) folder.now) trees versions link.now
             → OnOk result (S.object_reads disk.new + unread trees versions self.new
             ≤ S.object_reads disk.old + unread trees versions self.old) }
         ensures caused { KeepsFaults S.never_fails S.faults (IsErrOf result IdentityFault.Disk)
             disk.old disk.new }
     {
-        if self.trees.contains(&met.tree) {
+        if self.trees.contains(&link.tree) {
             return Ok(());
         }
-        let object = version_name(alloc, disk, folder, met)?;
-        self.judge_object(alloc, disk, folder, met, object)?;
-        self.add(met.tree, object)?;
+        let object = version_name(alloc, disk, folder, link)?;
+        self.judge_object(alloc, disk, folder, link, object)?;
+        self.add(link.tree, object)?;
         Ok(())
     }
 
@@ -97,13 +97,13 @@ impl Known {
         alloc: Global,
         disk: &mut S,
         folder: &Folder,
-        met: &Met,
+        link: &Link,
         object: Name,
     ) -> Result<(), IdentityFault>
         ensures answers { IsTrue S.tells
             → AreKnown (objects_after (S.history disk.old) folder.now) self.now
-            → NamesVersion (objects_after (S.history disk.old) folder.now) met.now.tree object
-            → ObjectAnswers (objects_after (S.history disk.old) folder.now) met.now object
+            → NamesVersion (objects_after (S.history disk.old) folder.now) link.now.tree object
+            → ObjectAnswers (objects_after (S.history disk.old) folder.now) link.now object
             result }
         ensures unwritten { IsTrue S.tells → S.history disk.new ≡ S.history disk.old }
         ensures reads { S.object_reads disk.new ≤ S.object_reads disk.old + 1 }
@@ -115,7 +115,7 @@ impl Known {
         if self.objects.contains(&object) {
             return Ok(());
         }
-        judge(alloc, disk, folder, met, object)?;
+        judge(alloc, disk, folder, link, object)?;
         Ok(())
     }
 
@@ -125,22 +125,22 @@ impl Known {
         alloc: Global,
         disk: &mut S,
         folder: &Folder,
-        mets: &[Met],
+        links: &[Link],
     ) -> Result<(), IdentityFault>
         ensures answers { IsTrue S.tells
             → AreKnown (objects_after (S.history disk.old) folder.now) self.old
-            → EachAnswers (objects_after (S.history disk.old) folder.now) mets.now result }
+            → EachAnswers (objects_after (S.history disk.old) folder.now) links.now result }
         ensures unwritten { IsTrue S.tells → S.history disk.new ≡ S.history disk.old }
-        ensures reads { S.object_reads disk.new ≤ S.object_reads disk.old + 2 * length mets.now }
+        ensures reads { S.object_reads disk.new ≤ S.object_reads disk.old + 2 * length links.now }
         ensures once { (trees versions : List NameValue) → IsTrue S.tells
-            → AreFrom (objects_after (S.history disk.old) folder.now) trees versions mets.now
+            → AreFrom (objects_after (S.history disk.old) folder.now) trees versions links.now
             → OnOk result (S.object_reads disk.new + unread trees versions self.new
             ≤ S.object_reads disk.old + unread trees versions self.old) }
         ensures caused { KeepsFaults S.never_fails S.faults (IsErrOf result IdentityFault.Disk)
             disk.old disk.new }
     {
-        for met in mets {
-            self.judge(alloc, disk, folder, met)?;
+        for link in links {
+            self.judge(alloc, disk, folder, link)?;
         }
         Ok(())
     }

@@ -7,7 +7,7 @@ ghost use Rattle.gb_store.specs.Moments.{Wrote};
 ghost use Rattle.object_store.specs.Held.{Objects, objects_in};
 ghost use Rattle.object_batch.specs.Batches.{MayBePut};
 ghost use Rattle.object_batch.specs.Needs.{PutsAfterNeeds};
-ghost use Rattle.commit_chain.specs.Chain.{Meets};
+ghost use Rattle.commit_walk.specs.Chain.{Meets};
 ghost use Rattle.identity.specs.Extending.{Extends};
 ghost use Rattle.identity.specs.Making.{HasParent, HoldsVersion, after_version, made_of, version_objects};
 ghost use Rattle.identity.specs.Persons.{IsChain};

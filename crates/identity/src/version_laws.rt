@@ -9,7 +9,7 @@ ghost use Rattle.json_span.specs.Parts.{elements_of};
 ghost use Rattle.object_store.specs.Held.{Objects};
 ghost use Rattle.object_store.specs.Typed.{commit_at};
 ghost use Rattle.op_kind.specs.Members.{Fields, fields_at, values_of};
-ghost use Rattle.commit_chain.specs.Chain.{Meets};
+ghost use Rattle.commit_walk.specs.Chain.{Meets};
 ghost use Rattle.identity.specs.Commits.{HasNoVersion, version_at, version_text_at};
 ghost use Rattle.identity.specs.Persons.{IdentityFaultHolds, IsChain};
 ghost use Rattle.identity.specs.Version.{version_of};

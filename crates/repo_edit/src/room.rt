@@ -6,7 +6,7 @@ ghost use Rattle.repo_steps.specs.Answers.{KeepsToWords};
 ghost use Rattle.repo_edit.specs.Reads.{ReadsRoom};
 ghost use Rattle.repo_edit.specs.Room.{ChainStops, HasRoom};
 
-use commit_chain::MOST_COMMITS;
+use commit_walk::MOST_COMMITS;
 use gb_store::Store;
 use gb_text::{Folder, Id};
 use identity::{IdentityFault, versions};
@@ -34,8 +34,8 @@ pub fn check_room<S: Store>(
         disk.old disk.new }
 {
     match versions(alloc, disk, folder, &entry.id, &entry.name) {
-        Ok(count) if count < MOST_COMMITS => Ok(()),
-        Ok(_) => Err(Stop::Refused(Refusal::TooLarge(MOST_COMMITS + 1))),
+        Ok(count) if count < MOST_COMMITS as u64 => Ok(()),
+        Ok(_) => Err(Stop::Refused(Refusal::TooLarge(MOST_COMMITS as u64 + 1))),
         Err(fault) => Err(chain_stop(alloc, folder, &entry.id, fault)),
     }
 }

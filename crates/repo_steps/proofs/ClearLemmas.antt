@@ -8,8 +8,8 @@ use Rattle.gb_text.specs.declared.id.Name.{Name}
 use Rattle.gb_store.specs.Files.{Files, History, files_of}
 use Rattle.object_store.specs.Held.{objects_in}
 use Rattle.object_store.specs.Texts.{IsShort}
-use Rattle.commit_chain.specs.Chain.{Walked}
-use Rattle.commit_chain.proofs.PassLemmas.{one_walk}
+use Rattle.commit_walk.specs.Chain.{Walked}
+use Rattle.commit_walk.proofs.ChainPassLemmas.{one_walk}
 use Rattle.commit_walk.specs.declared.below.TheConstants.{MOST_COMMITS}
 use Rattle.bug_ops.specs.Kind.{bug_kind}
 use Rattle.bug_ops.specs.declared.op.BugOp.{BugOp}

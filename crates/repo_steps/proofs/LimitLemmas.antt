@@ -8,7 +8,7 @@ use Rattle.repo_steps.specs.Checks.{FirstFails}
 use Rattle.repo_steps.specs.Doings.{Refused}
 use Rattle.repo_steps.specs.PeopleDoings.{HasUser, MayWrite, bad_person, edited_user}
 use Rattle.repo_steps.specs.declared.edit.Edit.TheVariants as edit
-use Rattle.commit_chain.specs.declared.chain.TheConstants.{MOST_COMMITS}
+use Rattle.commit_walk.specs.declared.below.TheConstants.{MOST_COMMITS}
 use Rattle.repo_steps.proofs.PickLemmas.{no_pick}
 
 -- ---- a full chain

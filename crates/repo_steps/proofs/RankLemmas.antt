@@ -8,7 +8,7 @@ use Rattle.gb_text.specs.declared.decimal.TheConstants.{GREATEST_TIME}
 use Rattle.gb_text.specs.declared.id.Id.{Id}
 use Rattle.gb_store.specs.Files.{Files, History, files_of}
 use Rattle.object_store.specs.declared.read.TheConstants.{MOST_BYTES}
-use Rattle.commit_chain.specs.declared.chain.TheConstants.{MOST_COMMITS as MOST_VERSIONS}
+use Rattle.commit_walk.specs.declared.below.TheConstants.{MOST_COMMITS as MOST_VERSIONS}
 use Rattle.commit_walk.specs.declared.below.TheConstants.{MOST_COMMITS}
 use Rattle.bug_ops.specs.declared.op.BugOp.{BugOp}
 use Rattle.repo_state.specs.Finds.{bug_finder, person_finder}

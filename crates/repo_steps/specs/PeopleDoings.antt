@@ -9,7 +9,7 @@ use Rattle.gb_text.specs.declared.id.Name.{Name}
 use Rattle.gb_store.specs.Files.{Files, History, files_of}
 use Rattle.gb_store.specs.declared.store.Change.{Change}
 use Rattle.object_store.specs.Held.{objects_in}
-use Rattle.commit_chain.specs.declared.chain.TheConstants.{MOST_COMMITS}
+use Rattle.commit_walk.specs.declared.below.TheConstants.{MOST_COMMITS}
 use Rattle.object_batch.specs.Batches.{missing_writes}
 use Rattle.ref_store.specs.Refs.{Head, Bad}
 use Rattle.ref_store.specs.Setting.{ref_write}

@@ -15,8 +15,7 @@ use Rattle.gb_store.proofs.MomentLemmas.{AllMoments-from_Wrote}
 use Rattle.object_store.specs.Growth.{OnlyGrew}
 use Rattle.object_store.specs.Held.{Objects, objects_in}
 use Rattle.object_batch.proofs.ClashLemmas.{Contains-first}
-use Rattle.commit_chain.specs.Chain.{Chain}
-use Rattle.commit_chain.specs.declared.chain.Met.{Met}
+use Rattle.commit_walk.proofs.ChainLemmas.{chain_below}
 use Rattle.commit_walk.specs.Below.{IsBelow as Below, head as at_top, parent}
 use Rattle.commit_walk.proofs.BelowLemmas.{IsBelow-stays, below_below}
 use Rattle.commit_walk.proofs.DistinctLemmas.{Contains-one}
@@ -38,14 +37,6 @@ use Rattle.repo_writes.proofs.SoundBugLemmas.{authored-grew, bug-grew}
 use Rattle.repo_writes.proofs.SoundLemmas.{write-grew, write-place}
 
 -- ---- nothing is lost
-
--- what steps by the single parent lead to lies below the head
-chain_below : (objects : Objects) (top : Name) (above : List Met) (name : Name) → Chain objects top above name → Below objects (top ∷ []) name
-chain_below objects top [] name same = subst (Below objects (top ∷ [])) (sym same) (at_top (Contains-first top []))
-chain_below objects top (met ∷ above) name chain =
-    let step = chain.1 in
-    let names : Contains step.commit.parents name = subst (λ (ps : List Name). Contains ps name) (sym step.has) (Contains-first name []) in
-    parent (chain_below objects top above met.name chain.0) (record { commit = step.commit; held = step.held; names = names })
 
 -- what lies below a name that lies below a head lies below the head
 below_then : (objects : Objects) (top middle name : Name) → Below objects (top ∷ []) middle → Below objects (middle ∷ []) name → Below objects (top ∷ []) name

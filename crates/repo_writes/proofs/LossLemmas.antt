@@ -8,7 +8,7 @@ use Rattle.gb_store.specs.Files.{Files, written}
 use Rattle.gb_store.specs.declared.store.Change.{Change}
 use Rattle.object_store.specs.Held.{Objects, objects_in}
 use Rattle.object_batch.proofs.ClashLemmas.{Contains-first}
-use Rattle.commit_chain.specs.Chain.{Meets}
+use Rattle.commit_walk.specs.Chain.{Meets}
 use Rattle.commit_walk.specs.Below.{IsBelow as Below, head as at_top}
 use Rattle.commit_walk.proofs.BelowLemmas.{IsBelow-stays}
 use Rattle.ref_store.specs.Refs.{Head}

@@ -9,7 +9,7 @@ use Rattle.gb_store.specs.ObjectPath.{object_place}
 use Rattle.gb_store.specs.declared.store.Change.{Change}
 use Rattle.object_store.specs.Held.{Objects, objects_in}
 use Rattle.object_batch.specs.Needs.{PutsAfterNeeds}
-use Rattle.commit_chain.specs.Chain.{Meets}
+use Rattle.commit_walk.specs.Chain.{Meets}
 use Rattle.ref_store.specs.Refs.{Ref, Absent, Head}
 use Rattle.ref_store.specs.Setting.{ref_write}
 use Rattle.identity.specs.Persons.{IsChain}

@@ -10,7 +10,7 @@ ghost use Rattle.gb_store.specs.Moments.{AllMoments, Wrote};
 ghost use Rattle.gb_store.specs.declared.store.Change.{Change};
 ghost use Rattle.object_store.specs.Growth.{OnlyGrew};
 ghost use Rattle.object_store.specs.Held.{objects_in};
-ghost use Rattle.commit_chain.specs.Chain.{Meets};
+ghost use Rattle.commit_walk.specs.Chain.{Meets};
 ghost use Rattle.commit_walk.specs.Below.{IsBelow};
 ghost use Rattle.ref_store.specs.Refs.{Head};
 ghost use Rattle.repo_state.specs.Clocks.{clock_at};

@@ -3,7 +3,7 @@ use Rattle.std.proofs.lemmas.List.Elements.{Contains-get_or}
 use Rattle.gb_text.specs.declared.id.Name.{Name}
 use Rattle.gb_store.specs.Files.{History, files_of}
 use Rattle.object_store.specs.Held.{objects_in}
-use Rattle.commit_chain.specs.declared.chain.Met.{Met}
+use Rattle.commit_walk.specs.declared.chain.Link.{Link}
 use Rattle.identity.specs.Answers.{CheckAnswers, IsJudged, RootRefused, OneRefused}
 use Rattle.identity.specs.Commits.{NamesVersion}
 use Rattle.identity.specs.Knowing.{AreFrom, IsFrom}
@@ -14,7 +14,7 @@ use Rattle.identity.proofs.CountLemmas.{AreFrom-later}
 use Rattle.identity.proofs.PersonLemmas.{CheckRefused-first, CheckRefused-later}
 use Rattle.identity.proofs.chain.check_versions.Goals as goal
 
-none : Met
+none : Link
 none = record { name = record { bytes = [] }; tree = record { bytes = [] } }
 
 pub returns-in_err-first-clause-answers : goal.returns-in_err-first-clause-answers

@@ -2,7 +2,7 @@ use Rattle.std.proofs.Common.{◌≡◌, ◌++◌, ◌∷◌, [], List, Contains
 use Rattle.gb_text.specs.declared.id.Name.{Name}
 use Rattle.gb_store.specs.Files.{History}
 use Rattle.object_store.specs.Held.{objects_after}
-use Rattle.commit_chain.specs.declared.chain.Met.{Met}
+use Rattle.commit_walk.specs.declared.chain.Link.{Link}
 use Rattle.identity.specs.Answers.{JudgedAnswers, LaterAnswers, Leads, OneRefused}
 use Rattle.identity.specs.Commits.{NamesVersion}
 use Rattle.identity.specs.Faults.{Refused}
@@ -26,7 +26,7 @@ returns-in_err-judge_each-clause-answers g c = λ tells judged.
     let front : Refused (OneRefused objects (c.in-Some.between.now ++ c.in-Some.head.now ∷ [])) c.in_err-judge_each.field-0.0 =
     OneRefused-front objects c.in-Some.between.now c.in-Some.head.now c.in_err-judge_each.field-0.0 (answer known) in
     subst (λ (r : Result Version IdentityFault). LaterAnswers objects c.args.first.version c.args.later.now r) (sym is)
-    (subst (λ (ms : List Met). Refused (OneRefused objects ms) c.in_err-judge_each.field-0.0) (sym c.in-Some.ensures.cases.0) front)
+    (subst (λ (ms : List Link). Refused (OneRefused objects ms) c.in_err-judge_each.field-0.0) (sym c.in-Some.ensures.cases.0) front)
 
 pub returns-clause-answers : goal.returns-clause-answers
 returns-clause-answers g c = λ tells judged.
@@ -36,7 +36,7 @@ returns-clause-answers g c = λ tells judged.
     let known : AreKnown objects c.add-2.new.self = c.in_ok-add-2.ensures.are objects first_known last.1.named (IsVersion-judged objects c.in_ok-last.last last.1) in
     let answer : AreKnown objects c.add-2.new.self → EachAnswers objects c.in-Some.between.now (Ok tt) =
     subst (λ (h : History). AreKnown (objects_after h c.args.folder.now) c.add-2.new.self → EachAnswers (objects_after h c.args.folder.now) c.in-Some.between.now (Ok tt)) (c.in_ok-last.ensures.unwritten tells) (c.in_ok-judge_each.ensures.answers tells) in
-    subst (λ (ms : List Met). Leads objects c.args.first.version ms c.in_ok-last.last.version) (sym c.in-Some.ensures.cases.0)
+    subst (λ (ms : List Link). Leads objects c.args.first.version ms c.in_ok-last.last.version) (sym c.in-Some.ensures.cases.0)
     (Leads-through objects c.args.first.version c.in_ok-last.last.version c.in-Some.between.now c.in-Some.head.now last.1.text (answer known)
     (VersionIn-judged objects c.in-Some.head.now c.in_ok-last.last last.0 last.1))
 

@@ -1,7 +1,7 @@
 use Rattle.std.proofs.Common.{◌≡◌, ◌∙◌, length, ap, arith}
 use Rattle.gb_store.specs.Files.{files_of}
 use Rattle.object_store.specs.Held.{objects_in}
-use Rattle.commit_chain.proofs.PassLemmas.{one_walk}
+use Rattle.commit_walk.proofs.ChainPassLemmas.{one_walk}
 use Rattle.identity.proofs.chain.read_chain.Goals as goal
 
 pub returns-clause-once : goal.returns-clause-once

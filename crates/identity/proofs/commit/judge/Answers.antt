@@ -10,7 +10,7 @@ pub returns-in_err-version-clause-answers : goal.returns-in_err-version-clause-a
 returns-in_err-version-clause-answers g c = λ tells named.
     let objects = objects_after (g.S.Store.history c.args.disk.now) c.args.folder.now in
     let is : c.from_residual-in_err-version.result ≡ Err c.in_err-version.field-0.0 = search rules in
-    let reading : ReadingAnswers c.args.met.now.name c.in_ok-text.text (Err c.in_err-version.field-0.0) =
-    subst (λ (text : List ℕ). ReadingAnswers c.args.met.now.name text (Err c.in_err-version.field-0.0)) c.as_slice.ensures c.in_err-version.ensures in
-    subst (λ (r : Result Judged IdentityFault). JudgedAnswers objects c.args.met.now r) (sym is)
-    (NoVersion-reading objects c.args.met.now c.in_ok-text.text c.in_err-version.field-0.0 (c.in_ok-text.ensures.answers tells named) reading)
+    let reading : ReadingAnswers c.args.link.now.name c.in_ok-text.text (Err c.in_err-version.field-0.0) =
+    subst (λ (text : List ℕ). ReadingAnswers c.args.link.now.name text (Err c.in_err-version.field-0.0)) c.as_slice.ensures c.in_err-version.ensures in
+    subst (λ (r : Result Judged IdentityFault). JudgedAnswers objects c.args.link.now r) (sym is)
+    (NoVersion-reading objects c.args.link.now c.in_ok-text.text c.in_err-version.field-0.0 (c.in_ok-text.ensures.answers tells named) reading)

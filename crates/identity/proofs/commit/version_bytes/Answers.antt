@@ -8,5 +8,5 @@ use Rattle.identity.proofs.commit.version_bytes.Goals as goal
 pub returns-in-Err-clause-answers : goal.returns-in-Err-clause-answers
 returns-in-Err-clause-answers g c = λ tells named.
     let objects = objects_after (g.S.Store.history c.args.disk.now) c.args.folder.now in
-    subst (λ (f : IdentityFault). TextAnswers objects c.args.met.now (Err f)) (sym c.version_fault.ensures)
-    (NoVersion-blob objects c.args.met.now c.args.object.now c.in-Err.fault named (c.in-Err.ensures.answers tells))
+    subst (λ (f : IdentityFault). TextAnswers objects c.args.link.now (Err f)) (sym c.version_fault.ensures)
+    (NoVersion-blob objects c.args.link.now c.args.object.now c.in-Err.fault named (c.in-Err.ensures.answers tells))

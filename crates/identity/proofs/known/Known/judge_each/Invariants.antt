@@ -5,15 +5,15 @@ use Rattle.object_store.specs.Held.{objects_after}
 use Rattle.identity.specs.Knowing.{AreFrom, AreKnown, EachHas, unread}
 use Rattle.identity.proofs.known.Known.judge_each.Given as goal
 
-abbrev pub invariant-loop-met : goal.invariant-loop-met
-invariant-loop-met g l = record {
+abbrev pub invariant-loop-link : goal.invariant-loop-link
+invariant-loop-link g l = record {
   each : IsTrue g.S.Store.tells → AreKnown (objects_after (g.S.Store.history l.fn.disk) l.folder) l.fn.self
-      → EachHas (objects_after (g.S.Store.history l.fn.disk) l.folder) (take l.met-index l.mets);
+      → EachHas (objects_after (g.S.Store.history l.fn.disk) l.folder) (take l.link-index l.links);
   known : IsTrue g.S.Store.tells → AreKnown (objects_after (g.S.Store.history l.fn.disk) l.folder) l.fn.self
       → AreKnown (objects_after (g.S.Store.history l.fn.disk) l.folder) l.self;
   unwritten : IsTrue g.S.Store.tells → g.S.Store.history l.disk ≡ g.S.Store.history l.fn.disk;
-  reads : g.S.Store.object_reads l.disk ≤ g.S.Store.object_reads l.fn.disk + 2 * l.met-index;
-  once : (trees versions : List Name) → IsTrue g.S.Store.tells → AreFrom (objects_after (g.S.Store.history l.fn.disk) l.folder) trees versions l.mets
+  reads : g.S.Store.object_reads l.disk ≤ g.S.Store.object_reads l.fn.disk + 2 * l.link-index;
+  once : (trees versions : List Name) → IsTrue g.S.Store.tells → AreFrom (objects_after (g.S.Store.history l.fn.disk) l.folder) trees versions l.links
       → g.S.Store.object_reads l.disk + unread trees versions l.self ≤ g.S.Store.object_reads l.fn.disk + unread trees versions l.fn.self;
   caused : KeepsFaults g.S.Store.never_fails g.S.Store.faults ⊥ l.fn.disk l.disk;
 }

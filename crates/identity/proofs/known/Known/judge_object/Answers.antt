@@ -14,10 +14,10 @@ pub returns-in_err-judge-clause-answers : goal.returns-in_err-judge-clause-answe
 returns-in_err-judge-clause-answers g c = λ tells known named.
     let objects = objects_after (g.S.Store.history c.args.disk.now) c.args.folder.now in
     let is : c.from_residual.result ≡ Err c.in_err-judge.field-0.0 = search rules in
-    subst (λ (r : Result _ IdentityFault). ObjectAnswers objects c.args.met.now c.args.object r) (sym is) (c.in_err-judge.ensures.answers tells named)
+    subst (λ (r : Result _ IdentityFault). ObjectAnswers objects c.args.link.now c.args.object r) (sym is) (c.in_err-judge.ensures.answers tells named)
 
 pub returns-clause-answers : goal.returns-clause-answers
 returns-clause-answers g c = λ tells known named.
     let objects = objects_after (g.S.Store.history c.args.disk.now) c.args.folder.now in
     let judged = c.in_ok-judge.ensures.answers tells named in
-    IsVersion-named objects c.in_ok-judge.field-0 c.args.met.now.tree c.args.object judged.0 named judged.1
+    IsVersion-named objects c.in_ok-judge.field-0 c.args.link.now.tree c.args.object judged.0 named judged.1

@@ -1,4 +1,0 @@
-pub mod Answers
-pub mod Chain
-pub mod Passing
-pub mod Stops
