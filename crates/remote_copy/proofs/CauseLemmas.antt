@@ -34,7 +34,8 @@ use Rattle.remote_copy.specs.declared.index.Mark.TheVariants as mark
 use Rattle.remote_copy.specs.declared.need.Need.{Need}
 use Rattle.remote_copy.specs.declared.open.Open.{Open}
 use Rattle.remote_copy.specs.declared.open.TheConstants.{MOST_TREES}
-use Rattle.remote_copy.specs.declared.work.TheConstants.{MOST_COMMITS, MOST_OTHERS}
+use Rattle.commit_walk.specs.declared.below.TheConstants.{MOST_COMMITS}
+use Rattle.remote_copy.specs.declared.work.TheConstants.{MOST_OTHERS}
 use Rattle.remote_copy.specs.declared.work.Work.{Work}
 use Rattle.remote_copy.proofs.CopyingLemmas.{left_stays}
 use Rattle.remote_copy.proofs.IndexLemmas.{same_need}

@@ -22,7 +22,8 @@ use Rattle.remote_copy.specs.declared.fault.CopyFault.TheVariants as fault
 use Rattle.remote_copy.specs.declared.index.Mark.{Mark}
 use Rattle.remote_copy.specs.declared.index.Mark.TheVariants as mark
 use Rattle.remote_copy.specs.declared.need.Need.{Need}
-use Rattle.remote_copy.specs.declared.work.TheConstants.{MOST_COMMITS, MOST_OTHERS}
+use Rattle.commit_walk.specs.declared.below.TheConstants.{MOST_COMMITS}
+use Rattle.remote_copy.specs.declared.work.TheConstants.{MOST_OTHERS}
 use Rattle.remote_copy.specs.declared.work.Work.{Work}
 use Rattle.remote_copy.proofs.NeedLemmas.{needs_of-has}
 use Rattle.remote_copy.proofs.TextLemmas.{next_names, object_at-of_text, text_at-is}

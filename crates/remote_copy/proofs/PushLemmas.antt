@@ -20,7 +20,8 @@ use Rattle.remote_copy.specs.declared.index.Index.{Index}
 use Rattle.remote_copy.specs.declared.index.Mark.TheVariants as mark
 use Rattle.remote_copy.specs.declared.need.Need.{Need}
 use Rattle.remote_copy.specs.declared.open.Open.{Open}
-use Rattle.remote_copy.specs.declared.work.TheConstants.{MOST_COMMITS, MOST_OTHERS}
+use Rattle.commit_walk.specs.declared.below.TheConstants.{MOST_COMMITS}
+use Rattle.remote_copy.specs.declared.work.TheConstants.{MOST_OTHERS}
 use Rattle.remote_copy.specs.declared.work.Work.{Work}
 use Rattle.remote_copy.proofs.CopyingLemmas.{added_later, counted_more, counted_other, finished_later, followed_unleft, leads_further, leads_next, met_later, open_later}
 use Rattle.remote_copy.proofs.MarkLemmas.{StaysDone, sets_back, sets_done, sets_met}

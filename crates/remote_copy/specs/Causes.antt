@@ -13,7 +13,8 @@ use Rattle.remote_copy.specs.Closure.{IsFollowed, IsLeft, commit_named}
 use Rattle.remote_copy.specs.declared.fault.CopyFault.{CopyFault}
 use Rattle.remote_copy.specs.declared.fault.CopyFault.TheVariants as fault
 use Rattle.remote_copy.specs.declared.open.TheConstants.{MOST_TREES}
-use Rattle.remote_copy.specs.declared.work.TheConstants.{MOST_COMMITS, MOST_OTHERS}
+use Rattle.commit_walk.specs.declared.below.TheConstants.{MOST_COMMITS}
+use Rattle.remote_copy.specs.declared.work.TheConstants.{MOST_OTHERS}
 
 -- the name holds an object that is not of the kind by which it is named
 pub record IsOfOtherKind (source : Objects) (one : Reference) : Type 0 where

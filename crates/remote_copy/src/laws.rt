@@ -16,7 +16,8 @@ ghost use Rattle.remote_copy.specs.Writes.{PutsCopy};
 ghost use Rattle.remote_copy.specs.declared.fault.CopyFault.TheVariants as fault;
 
 use crate::open::MOST_TREES;
-use crate::work::{MOST_COMMITS, MOST_OTHERS};
+use crate::work::MOST_OTHERS;
+use commit_walk::MOST_COMMITS;
 
 /// A copy writes only objects, each where nothing is stored.
 pub fn copies_put_objects()

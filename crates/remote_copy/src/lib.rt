@@ -23,5 +23,5 @@ pub use laws::{
 };
 pub use open::MOST_TREES;
 pub use read_laws::commits_that_are_left_are_not_read;
-pub use work::{MOST_COMMITS, MOST_OTHERS};
+pub use work::MOST_OTHERS;
 pub use write_laws::copies_come_after_their_needs;

@@ -13,15 +13,13 @@ use crate::index::{Index, Mark};
 use crate::look::put_at;
 use crate::need::Need;
 use crate::open::{MOST_TREES, Open, begin};
+use commit_walk::MOST_COMMITS;
 use gb_store::Store;
 use gb_text::Folder;
 use git_object::Kind;
 use std::alloc::Global;
 
-/// The most commits that a copy follows.
-pub const MOST_COMMITS: usize = 65_536;
-
-/// The most other objects that a copy follows.
+/// The most other objects that a copy follows, beside the most commits of a walk.
 pub const MOST_OTHERS: usize = 1_048_576;
 
 /// A copy on its way.
