@@ -4,9 +4,8 @@ use Rattle.std.specs.BTreeMap.{BTreeMap, get}
 use Rattle.std.specs.Option.{IsSome, is_some}
 use Rattle.std.proofs.lemmas.Option.{same_Some}
 use Rattle.gb_text.specs.declared.id.Name.{Name}
-use Rattle.dag_graph.specs.Index.{IsIndex}
+use Rattle.dag_graph.specs.Index.{IsIndex, name_cmp}
 use Rattle.dag_graph.specs.Nodes.{AreNodes, names_of, node_at}
-use Rattle.dag_graph.specs.Order.{name_cmp}
 use Rattle.dag_graph.specs.declared.node.Node.{Node}
 use Rattle.dag_graph.proofs.ListLemmas.{Contains-map}
 use Rattle.dag_graph.proofs.NodeLemmas.{AreApart, has_at, length-names, name_at}

@@ -2,12 +2,11 @@
 ghost use Rattle.std.specs.Prelude.{◌≡◌, IfOk, IfSome, IsSome, IsTrue, Contains};
 ghost use Rattle.std.specs.BTreeMap.{get};
 ghost use Rattle.gb_text.specs.declared.id.Name.{Name as NameValue};
-ghost use Rattle.dag_graph.specs.Index.{IsIndex};
+ghost use Rattle.dag_graph.specs.Index.{IsIndex, name_cmp};
 ghost use Rattle.dag_graph.specs.Nodes.{AreNodes};
-ghost use Rattle.dag_graph.specs.Order.{name_cmp};
 
 use dag_graph::{Graph, GraphFault, Node};
-use gb_text::{Id, List, Name};
+use gb_text::{List, Name};
 use std::alloc::Global;
 use std::collections::BTreeMap;
 use std::test::Fail;
@@ -80,8 +79,8 @@ fn name(byte: u8) -> Name {
     Name { bytes: [byte; 20] }
 }
 
-// A node without operations, whose name, parents and pack are told by one byte each.
-fn node(alloc: Global, byte: u8, parents: &[u8], edit: u64, pack: u8) -> Result<Node, Fail> {
+// A node without operations, whose name and parents are told by one byte each.
+fn node(alloc: Global, byte: u8, parents: &[u8], edit: u64) -> Result<Node, Fail> {
     let mut names = Vec::new(alloc);
     for parent in parents {
         names.push(name(*parent))?;
@@ -90,63 +89,44 @@ fn node(alloc: Global, byte: u8, parents: &[u8], edit: u64, pack: u8) -> Result<
         name: name(byte),
         parents: List::from_vec(names),
         edit,
-        pack: Id { bytes: [pack; 32] },
         count: 0,
     })
 }
 
 // A root, two commits above it and the merge of these, which has so many operations.
 fn diamond(alloc: Global, count: u64) -> Result<List<Node>, Fail> {
-    let mut merge = node(alloc, 4, &[2, 3], 3, 0)?;
+    let mut merge = node(alloc, 4, &[2, 3], 3)?;
     merge.count = count;
     let nodes = [
         merge,
-        node(alloc, 3, &[1], 2, 9)?,
-        node(alloc, 2, &[1], 2, 0x90)?,
-        node(alloc, 1, &[], 1, 0)?,
+        node(alloc, 3, &[1], 2)?,
+        node(alloc, 2, &[1], 2)?,
+        node(alloc, 1, &[], 1)?,
     ];
     Ok(List::from_vec(Vec::from_array(alloc, nodes)?))
 }
 
 #[test]
-fn a_chain_is_in_order(rt: HostRuntime) -> Result<(), Fail> {
+fn the_root_of_a_chain_is_found(rt: HostRuntime) -> Result<(), Fail> {
     let alloc = rt.alloc();
     let nodes = [
-        node(alloc, 7, &[8], 9, 3)?,
-        node(alloc, 9, &[], 1, 5)?,
-        node(alloc, 8, &[9], 2, 4)?,
+        node(alloc, 7, &[8], 9)?,
+        node(alloc, 9, &[], 1)?,
+        node(alloc, 8, &[9], 2)?,
     ];
     let graph = graph_of(alloc, List::from_vec(Vec::from_array(alloc, nodes)?))?;
     assert_eq!(rt; graph.check(), Ok(1));
-    let order = graph.order(alloc)?;
-    assert_eq!(rt; order.as_slice(), [1, 2, 0].as_slice());
     Ok(())
 }
 
 #[test]
 fn one_node_is_a_graph(rt: HostRuntime) -> Result<(), Fail> {
     let alloc = rt.alloc();
-    let nodes = List::from_vec(Vec::from_array(alloc, [node(alloc, 1, &[], 1, 0)?])?);
+    let nodes = List::from_vec(Vec::from_array(alloc, [node(alloc, 1, &[], 1)?])?);
     assert_eq!(rt; nodes.len(), 1);
     let mut graph = graph_of(alloc, nodes)?;
     assert_eq!(rt; graph.check(), Ok(0));
-    assert_eq!(rt; graph.order(alloc)?.as_slice(), [0].as_slice());
     assert!(rt; graph.is_ancestor(0, 0));
-    Ok(())
-}
-
-#[test]
-fn equal_clocks_are_ordered_by_pack_and_then_by_name(rt: HostRuntime) -> Result<(), Fail> {
-    let alloc = rt.alloc();
-    let nodes = [
-        node(alloc, 1, &[], 1, 0)?,
-        node(alloc, 2, &[1], 7, 0xf0)?,
-        node(alloc, 9, &[1], 7, 0x0f)?,
-        node(alloc, 8, &[1], 7, 0x0f)?,
-    ];
-    let graph = graph_of(alloc, List::from_vec(Vec::from_array(alloc, nodes)?))?;
-    assert_eq!(rt; graph.check(), Ok(0));
-    assert_eq!(rt; graph.order(alloc)?.as_slice(), [0, 3, 2, 1].as_slice());
     Ok(())
 }
 
@@ -155,7 +135,6 @@ fn a_merge_has_no_operations(rt: HostRuntime) -> Result<(), Fail> {
     let alloc = rt.alloc();
     let graph = graph_of(alloc, diamond(alloc, 0)?)?;
     assert_eq!(rt; graph.check(), Ok(3));
-    assert_eq!(rt; graph.order(alloc)?.as_slice(), [3, 1, 2, 0].as_slice());
     let graph = graph_of(alloc, diamond(alloc, 1)?)?;
     assert_eq!(rt; graph.check(), Err(GraphFault::MergeHasOperations(name(4))));
     Ok(())
@@ -186,7 +165,7 @@ fn ancestors_in_a_diamond(rt: HostRuntime) -> Result<(), Fail> {
 #[test]
 fn rings_have_a_clock_fault_and_end(rt: HostRuntime) -> Result<(), Fail> {
     let alloc = rt.alloc();
-    let nodes = [node(alloc, 1, &[1], 1, 0)?];
+    let nodes = [node(alloc, 1, &[1], 1)?];
     let mut graph = graph_of(alloc, List::from_vec(Vec::from_array(alloc, nodes)?))?;
     assert_eq!(rt;
         graph.check(),
@@ -194,9 +173,9 @@ fn rings_have_a_clock_fault_and_end(rt: HostRuntime) -> Result<(), Fail> {
     );
     assert_eq!(rt; is_ancestor(&mut graph, 0, 0), Some(true));
     let nodes = [
-        node(alloc, 1, &[], 1, 0)?,
-        node(alloc, 2, &[1, 3], 2, 0)?,
-        node(alloc, 3, &[2], 3, 0)?,
+        node(alloc, 1, &[], 1)?,
+        node(alloc, 2, &[1, 3], 2)?,
+        node(alloc, 3, &[2], 3)?,
     ];
     let mut graph = graph_of(alloc, List::from_vec(Vec::from_array(alloc, nodes)?))?;
     assert_eq!(rt;
@@ -216,10 +195,7 @@ fn check_two(
     low: u64,
     high: u64,
 ) -> Result<Result<usize, GraphFault>, Fail> {
-    let nodes = [
-        node(alloc, 1, &[], low, 0)?,
-        node(alloc, 2, parents, high, 0)?,
-    ];
+    let nodes = [node(alloc, 1, &[], low)?, node(alloc, 2, parents, high)?];
     let graph = graph_of(alloc, List::from_vec(Vec::from_array(alloc, nodes)?))?;
     Ok(graph.check())
 }
@@ -251,9 +227,9 @@ fn a_second_root_is_named(rt: HostRuntime) -> Result<(), Fail> {
 #[test]
 fn a_parent_that_is_named_twice_is_two(rt: HostRuntime) -> Result<(), Fail> {
     let alloc = rt.alloc();
-    let mut high = node(alloc, 2, &[1, 1], 2, 0)?;
+    let mut high = node(alloc, 2, &[1, 1], 2)?;
     high.count = 1;
-    let nodes = [node(alloc, 1, &[], 1, 0)?, high];
+    let nodes = [node(alloc, 1, &[], 1)?, high];
     let graph = graph_of(alloc, List::from_vec(Vec::from_array(alloc, nodes)?))?;
     assert_eq!(rt; graph.check(), Err(GraphFault::MergeHasOperations(name(2))));
     Ok(())
@@ -279,14 +255,11 @@ fn a_chain_of_65536_commits(rt: HostRuntime) -> Result<(), Fail> {
             name: numbered(number),
             parents: List::from_vec(parents),
             edit: number,
-            pack: Id { bytes: [0; 32] },
             count: 1,
         })?;
     }
     let mut graph = graph_of(alloc, List::from_vec(nodes))?;
     assert_eq!(rt; graph.check(), Ok(0));
-    let order = graph.order(alloc)?;
-    assert_eq!(rt; order.as_slice().last(), Some(&65_535));
     assert_eq!(rt; is_ancestor(&mut graph, 0, 65_535), Some(true));
     assert_eq!(rt; is_ancestor(&mut graph, 65_535, 0), Some(false));
     Ok(())

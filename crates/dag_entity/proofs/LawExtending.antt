@@ -24,7 +24,8 @@ use Rattle.commit_pack.specs.declared.fault.CommitPackFault.{CommitPackFault}
 use Rattle.commit_pack.specs.declared.fault.CommitPackFault.TheVariants as pack
 use Rattle.commit_pack.proofs.LawLemmas.{not_both}
 use Rattle.op_kind.specs.Meaning.{KeepsLaws, Meaning}
-use Rattle.dag_entity.specs.Entities.{AreAllInOrder, IsEntity, IsOperationList, commits_of, ops_in, placed_cmp}
+use Rattle.dag_entity.specs.Entities.{AreAllInOrder, IsEntity, IsOperationList, ops_in}
+use Rattle.dag_entity.specs.Order.{commits_of, placed_cmp}
 use Rattle.dag_entity.specs.Extending.{Extends, extended}
 use Rattle.dag_entity.specs.Faults.{AreApart, EntityFaultHolds, IsRootCommit, IsRootNode, IsTooLarge, IsValid, RepeatsAcross, RepeatsWithin}
 use Rattle.dag_entity.specs.Nodes.{HasPackFault, IsNeeded, IsNode, IsNodeBelow, edit_at, ids_of, pack_at}
@@ -34,22 +35,7 @@ use Rattle.dag_entity.specs.declared.entity.Placed.{Placed}
 use Rattle.dag_entity.specs.declared.fault.EntityFault.TheVariants as fault
 use Rattle.dag_entity.proofs.LawOrders.{operation_list, stands}
 use Rattle.dag_entity.proofs.LawValid.{clocks_rise, edit_of_pack, one_place, pack_of_node}
-
--- ---- lists
-
-each_push : {X : Type 0} (P : X → Type 0) (xs : List X) (y : X) → AllByRecursion P xs → P y → AllByRecursion P (xs ++ y ∷ [])
-each_push P [] y all p = (p, tt)
-each_push P (x ∷ xs) y all p = (all.0, each_push P xs y all.1 p)
-
--- one more behind all others
-strict_push : {X : Type 0} (cmp : X → X → Ordering) (xs : List X) (y : X) → IsStrictlySortedBy cmp xs → ((x : X) → Contains xs x → cmp x y ≡ Less) → IsStrictlySortedBy cmp (xs ++ y ∷ [])
-unfolding IsStrictlySortedBy
-strict_push cmp [] y s last = (tt, tt)
-strict_push cmp (x ∷ xs) y s last =
-    (each_push (λ z. cmp x z ≡ Less) xs y s.0 (last x (Contains-first x xs)), strict_push cmp xs y s.1 (λ z c. last z (Contains-later x xs z c)))
-
-earlier : {Op : Type 0} (a b : Placed Op) → a.pack.edit < b.pack.edit → placed_cmp a b ≡ Less
-earlier a b l = rw (lt-ltb a.pack.edit b.pack.edit l) refl
+use Rattle.dag_entity.proofs.RankLemmas.{later_last}
 
 module _ {Op State Row : Type 0} (k : Meaning Op State Row) (laws : KeepsLaws k) (objects : Objects) (id : Id) (heads : List Name) (authors : List Id) (entity : Entity Op) (node : Loaded Op)
     (was : IsEntity k objects id heads authors entity) (extends : Extends k objects heads authors entity.packs node) where
@@ -276,8 +262,8 @@ module _ {Op State Row : Type 0} (k : Meaning Op State Row) (laws : KeepsLaws k)
         (λ (old : Contains entity.packs placed). was.packs.each placed old)
         (λ (e : node.placed ≡ placed). subst (λ (p : Placed Op). pack_at k objects p.commit ≡ Some p.pack) e (pack_of_node k objects node extends.is))
         (Contains-push_cases entity.packs node.placed placed c);
-    rise = strict_push (placed_cmp {Op = Op}) entity.packs node.placed was.packs.rise (λ placed c.
-        earlier placed node.placed (edit_below placed.commit (was.packs.only placed c) placed.pack.edit (edit_of_pack k objects placed.commit placed.pack (was.packs.each placed c))));
+    rise = later_last entity.packs node.placed was.packs.rise (λ placed c.
+        edit_below placed.commit (was.packs.only placed c) placed.pack.edit (edit_of_pack k objects placed.commit placed.pack (was.packs.each placed c)));
   }
 
   pub is_extended : IsEntity k objects id tops authors (extended entity node)

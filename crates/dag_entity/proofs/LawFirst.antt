@@ -16,7 +16,8 @@ use Rattle.dag_graph.specs.Faults.{IsFaultless, IsRoot}
 use Rattle.dag_graph.specs.declared.fault.GraphFault.TheVariants as graph
 use Rattle.dag_graph.specs.declared.node.Node.{Node}
 use Rattle.op_kind.specs.Meaning.{KeepsLaws, Meaning}
-use Rattle.dag_entity.specs.Entities.{IsEntity, Rise}
+use Rattle.dag_entity.specs.Entities.{IsEntity}
+use Rattle.dag_entity.specs.Order.{Rise}
 use Rattle.dag_entity.specs.Extending.{Begins, begun}
 use Rattle.dag_entity.specs.Heads.{IsGreatestIn}
 use Rattle.dag_entity.specs.Judging.{AllFollowAnswers, later_ops}

@@ -10,7 +10,8 @@ use Rattle.object_store.specs.Held.{Objects}
 use Rattle.commit_walk.specs.Below.{IsBelow}
 use Rattle.commit_walk.proofs.DistinctLemmas.{Contains-cons, Contains-first, Contains-from_map, Contains-later, Contains-nil}
 use Rattle.op_kind.specs.Meaning.{Meaning}
-use Rattle.dag_entity.specs.Entities.{AreAllInOrder, AreOperationCommits, IsOperationCommit, IsOperationList, ops_in, placed_cmp, with_operations}
+use Rattle.dag_entity.specs.Entities.{AreAllInOrder, AreOperationCommits, IsOperationCommit, IsOperationList, ops_in, with_operations}
+use Rattle.dag_entity.specs.Order.{placed_cmp}
 use Rattle.dag_entity.specs.Nodes.{pack_at}
 use Rattle.dag_entity.specs.declared.entity.Placed.{Placed}
 use Rattle.dag_entity.proofs.OrderLemmas.{one_rise}

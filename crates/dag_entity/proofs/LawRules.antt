@@ -20,7 +20,8 @@ use Rattle.commit_walk.specs.declared.below.TheConstants.{MOST_COMMITS}
 use Rattle.commit_walk.proofs.DistinctLemmas.{Contains-cons, Contains-first, Contains-from_map, Contains-later, Contains-nil}
 use Rattle.commit_pack.specs.Packs.{pack_under}
 use Rattle.op_kind.specs.Meaning.{Meaning}
-use Rattle.dag_entity.specs.Entities.{IsEntity, commits_of}
+use Rattle.dag_entity.specs.Entities.{IsEntity}
+use Rattle.dag_entity.specs.Order.{commits_of}
 use Rattle.dag_entity.specs.Faults.{AreApart, EntityFaultHolds, IsValid}
 use Rattle.dag_entity.specs.Nodes.{IsCommitBelow, IsNodeBelow, edit_at}
 use Rattle.dag_entity.specs.declared.entity.Entity.{Entity}

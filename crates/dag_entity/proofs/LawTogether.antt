@@ -1,11 +1,12 @@
 -- Two heads that are valid alone are so together, where nothing is wrong that takes both.
-use Rattle.std.proofs.Common.{◌≡◌, ◌≢◌, ◌⊎◌, inl, inr, ◌<◌, ℕ, List, [], ◌∷◌, length, Contains, Some, subst, ap, ◌∙◌, arith}
+use Rattle.std.proofs.Common.{◌≡◌, ◌≢◌, ◌⊎◌, inl, inr, ◌<◌, ℕ, List, [], ◌∷◌, length, Contains, Some, ap, ◌∙◌, arith}
 use Rattle.gb_text.specs.declared.decimal.TheConstants.{GREATEST_TIME}
 use Rattle.gb_text.specs.declared.id.Id.{Id}
 use Rattle.gb_text.specs.declared.id.Name.{Name}
 use Rattle.object_store.specs.Held.{Objects}
-use Rattle.commit_walk.specs.Below.{HasCommit, IsBelow, head, parent}
-use Rattle.commit_walk.proofs.DistinctLemmas.{Contains-cons, Contains-first, Contains-one, length-distinct}
+use Rattle.commit_walk.specs.Below.{HasCommit, IsBelow}
+use Rattle.commit_walk.proofs.BelowLemmas.{below_one}
+use Rattle.commit_walk.proofs.DistinctLemmas.{Contains-cons, Contains-one, length-distinct}
 use Rattle.commit_pack.specs.declared.fault.CommitPackFault.{CommitPackFault}
 use Rattle.commit_pack.specs.declared.fault.CommitPackFault.TheVariants as pack
 use Rattle.op_kind.specs.Meaning.{Meaning}
@@ -15,14 +16,6 @@ use Rattle.dag_entity.specs.declared.entity.Loaded.{Loaded}
 use Rattle.dag_entity.specs.declared.fault.EntityFault.{EntityFault}
 use Rattle.dag_entity.specs.declared.fault.EntityFault.TheVariants as fault
 
--- what lies below two heads lies below one of them
-split : (objects : Objects) (one two : Name) {name : Name} → IsBelow objects (one ∷ two ∷ []) name → IsBelow objects (one ∷ []) name ⊎ IsBelow objects (two ∷ []) name
-split objects one two {name = name} (head c) = elim (Contains-cons one (two ∷ []) name c) [
-  | inl e ↦ inl (head (subst (Contains (one ∷ [])) e (Contains-first one [])))
-  | inr h ↦ inr (head h)
-]
-split objects one two (parent b p) = elim (split objects one two b) [ inl l ↦ inl (parent l p) | inr r ↦ inr (parent r p) ]
-
 module _ {Op State Row : Type 0} (k : Meaning Op State Row) (objects : Objects) (id : Id) (authors : List Id) (one two : Name) where
   abbrev both : List Name
   both = one ∷ two ∷ []
@@ -30,7 +23,7 @@ module _ {Op State Row : Type 0} (k : Meaning Op State Row) (objects : Objects) 
   module _ (first : IsValid k objects id (one ∷ []) authors) (second : IsValid k objects id (two ∷ []) authors) where
     -- what is wrong below both is wrong below one
     below : (name : Name) → IsBelow objects both name → ((heads : List Name) → IsValid k objects id heads authors → IsBelow objects heads name → ⊥) → ⊥
-    below name b never = elim (split objects one two b) [ inl l ↦ never (one ∷ []) first l | inr r ↦ never (two ∷ []) second r ]
+    below name b never = elim (below_one objects one two b) [ inl l ↦ never (one ∷ []) first l | inr r ↦ never (two ∷ []) second r ]
 
     needed : (name : Name) → IsNeeded objects both name → ((heads : List Name) → IsValid k objects id heads authors → IsNeeded objects heads name → ⊥) → ⊥
     needed name (inl b) never = below name b (λ heads v b. never heads v (inl b))

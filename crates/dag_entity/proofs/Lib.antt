@@ -24,6 +24,7 @@ pub mod LawValid
 pub mod LoadLemmas
 pub mod OrderLemmas
 pub mod PairLemmas
+pub mod RankLemmas
 pub mod ReadLemmas
 pub mod ShortLemmas
 pub mod SplitLemmas

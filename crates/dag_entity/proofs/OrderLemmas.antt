@@ -1,16 +1,17 @@
 -- The order of packs: what a sort by ranks gives, and that it is the only one.
-use Rattle.std.proofs.Common.{◌≡◌, ◌↔◌, inl, inr, ◌<◌, Bool, false, List, ℕ, length, get_or, Contains, IsPermutation, refl, sym, ◌∙◌, ap, arith}
+use Rattle.std.proofs.Common.{◌≡◌, ◌↔◌, inl, inr, ◌<◌, Bool, false, List, [], ◌∷◌, ℕ, zero, suc, length, get_or, Contains, IsPermutation, refl, sym, ◌∙◌, ap, arith}
 use Rattle.std.specs.Bool.{Decides}
 use Rattle.std.specs.Cmp.{IsTotalOrder}
-use Rattle.std.specs.Cmp.Lexicographic.{slice_cmp}
-use Rattle.std.specs.List.Sorted.{IsSorted}
+use Rattle.std.specs.List.{AllPairs}
+use Rattle.std.specs.List.Sorted.{IsSorted, IsStrictlySortedBy}
 use Rattle.std.specs.Ordering.{is_lt, nat_cmp, ordering_reverse, ordering_then}
 use Rattle.std.specs.Str.{bytes_eq}
 use Rattle.std.specs.declared.cmp.Ordering.{Ordering}
 use Rattle.std.specs.declared.cmp.Ordering.TheVariants.{Less, Equal, Greater}
 use Rattle.std.proofs.lemmas.Bool.{cases_Bool}
-use Rattle.std.proofs.lemmas.Cmp.{on_total}
+use Rattle.std.proofs.lemmas.Cmp.{nat_cmp_total, nat_list_cmp_total, on_total, then_total}
 use Rattle.std.proofs.lemmas.List.{get_or-map, length-map}
+use Rattle.std.proofs.lemmas.List.Elements.{recursion_from_All}
 use Rattle.std.proofs.lemmas.List.Sorted.{Contains-permutation, IsPermutation-map, IsPermutation-sym, length_permutation, ranks_by, sorted_far}
 use Rattle.std.proofs.lemmas.Map.Keys.{IsDistinct-IsPermutation}
 use Rattle.std.proofs.lemmas.Map.Made.{AllPairs-from_IsDistinct, IsDistinct-from_AllPairs}
@@ -18,12 +19,10 @@ use Rattle.std.proofs.lemmas.Slice.Eq.{bytes_eq-Decides}
 use Rattle.gb_text.specs.declared.id.Name.{Name}
 use Rattle.gb_text.proofs.SortedLemmas.{same_elements}
 use Rattle.commit_walk.specs.Distinct.{AreDistinct}
-use Rattle.dag_graph.specs.Order.{name_cmp, rank_cmp}
-use Rattle.dag_graph.specs.declared.node.Rank.{Rank}
 use Rattle.dag_graph.proofs.IndexLemmas.{exact_name}
-use Rattle.dag_graph.proofs.OrderLemmas.{rank_total, strict_from_pairs}
-use Rattle.dag_entity.specs.Entities.{Rise, commits_of, placed_cmp, rank_of}
+use Rattle.dag_entity.specs.Order.{Rise, commits_of, compared, placed_cmp, rank_cmp, rank_of}
 use Rattle.dag_entity.specs.declared.entity.Placed.{Placed}
+use Rattle.dag_entity.specs.declared.order.Rank.{Rank}
 
 module _ {X : Type 0} (xs ys : List X) (moved : IsPermutation xs ys) where
   -- another order has the same elements
@@ -62,6 +61,18 @@ distinct_moved one two moved once =
 
 -- ---- ranks
 
+rank_total : IsTotalOrder rank_cmp
+rank_total = then_total (on_total (λ r. r.edit) nat_cmp_total) (then_total (on_total (λ r. r.pack.bytes) nat_list_cmp_total) (on_total (λ r. r.name.bytes) nat_list_cmp_total))
+
+-- a list in which each pair rises is strictly sorted
+strict_from_pairs : {X : Type 0} (cmp : X → X → Ordering) (xs : List X) → AllPairs (λ a b. cmp a b ≡ Less) xs → IsStrictlySortedBy cmp xs
+unfolding IsStrictlySortedBy
+strict_from_pairs cmp [] h = tt
+strict_from_pairs cmp (x ∷ xs) h = (
+  recursion_from_All (λ y. cmp x y ≡ Less) xs (λ j d inside. h zero (suc j) d (omega arith) (omega arith)),
+  strict_from_pairs cmp xs (λ i j d below inside. h (suc i) (suc j) d (omega arith) (omega arith)),
+)
+
 less_when : (a : Ordering) → is_lt a ≡ false → (a ≡ Equal → ⊥) → ordering_reverse a ≡ Less
 less_when Less f n = cc f
 less_when Equal f n = absurd (n refl)
@@ -75,7 +86,7 @@ last_equal Equal Greater r e = cc e
 last_equal Equal Equal r e = e
 
 same_name : (a b : Rank) → rank_cmp a b ≡ Equal → a.name ≡ b.name
-same_name a b e = exact_name a.name b.name (last_equal (nat_cmp a.edit b.edit) (slice_cmp nat_cmp a.pack.bytes b.pack.bytes) (name_cmp a.name b.name) e)
+same_name a b e = exact_name a.name b.name (last_equal (nat_cmp a.edit b.edit) (compared a.pack.bytes b.pack.bytes) (compared a.name.bytes b.name.bytes) e)
 
 module _ {Op : Type 0} where
   pub placed_total : IsTotalOrder (placed_cmp {Op = Op})

@@ -21,7 +21,8 @@ use Rattle.commit_pack.specs.declared.fault.CommitPackFault.TheVariants as pack
 use Rattle.dag_graph.specs.Nodes.{AreNodes, names_of as node_names}
 use Rattle.dag_graph.specs.declared.node.Node.{Node}
 use Rattle.op_kind.specs.Meaning.{Meaning}
-use Rattle.dag_entity.specs.Entities.{AreAllInOrder, AreOneOrTwo, KeepsRules, ReadsEach, Rise, commits_of}
+use Rattle.dag_entity.specs.Entities.{AreAllInOrder, AreOneOrTwo, KeepsRules, ReadsEach}
+use Rattle.dag_entity.specs.Order.{Rise, commits_of}
 use Rattle.dag_entity.specs.Faults.{EntityFaultHolds}
 use Rattle.dag_entity.specs.Heads.{HaveHeads}
 use Rattle.dag_entity.specs.Loading.{AreAllLoaded, CannotLoad, Lineage, lineage_of_loaded, lineage_of_met, loaded_names, node_of, placed_of}

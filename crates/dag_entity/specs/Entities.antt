@@ -1,19 +1,15 @@
 -- The packs of an entity in their order, and the entity that is read.
-use Rattle.std.specs.Prelude.{◌≡◌, ◌≤◌, ◌<◌, ◌+◌, ◌*◌, ℕ, List, map, filter, flat_map, length, All, nat_le, Contains, Some, Result, Ok, Err}
-use Rattle.std.specs.Ordering.{on}
+use Rattle.std.specs.Prelude.{◌≡◌, ◌≤◌, ◌<◌, ◌+◌, ◌*◌, ℕ, List, filter, flat_map, length, All, nat_le, Contains, Some, Result, Ok, Err}
 use Rattle.std.specs.List.{AllByRecursion}
-use Rattle.std.specs.List.Sorted.{IsStrictlySortedBy}
-use Rattle.std.specs.declared.cmp.Ordering.{Ordering}
 use Rattle.gb_text.specs.declared.id.Id.{Id}
 use Rattle.gb_text.specs.declared.id.Name.{Name}
 use Rattle.object_store.specs.Held.{Objects}
 use Rattle.commit_walk.specs.Below.{IsBelow}
 use Rattle.commit_walk.specs.Distinct.{AreDistinct}
-use Rattle.dag_graph.specs.Order.{rank_cmp}
-use Rattle.dag_graph.specs.declared.node.Rank.{Rank}
 use Rattle.op_kind.specs.Meaning.{Meaning}
 use Rattle.dag_entity.specs.Faults.{EntityFaultHolds, IsRootNode, IsValid}
 use Rattle.dag_entity.specs.Nodes.{edit_at, pack_at}
+use Rattle.dag_entity.specs.Order.{Rise, commits_of}
 use Rattle.dag_entity.specs.Stops.{Refused}
 use Rattle.dag_entity.specs.declared.entity.Entity.{Entity}
 use Rattle.dag_entity.specs.declared.read.Clocks.{Clocks}
@@ -24,20 +20,6 @@ use Rattle.dag_entity.specs.declared.fault.EntityFault.{EntityFault}
 -- the condition of a reading: there are one or two heads
 abbrev pub AreOneOrTwo : List Name → Type 0
 AreOneOrTwo heads = (1 ≤ length heads) × (length heads ≤ 2)
-
--- where a pack stands: by its edit clock, its id, and the name of its commit
-abbrev pub rank_of : {Op : Type 0} → Placed Op → Rank
-rank_of placed = record { edit = placed.pack.edit; pack = placed.pack.id; name = placed.commit }
-
-abbrev pub placed_cmp : {Op : Type 0} → Placed Op → Placed Op → Ordering
-placed_cmp = on rank_of rank_cmp
-
--- each pack stands before all that come after it
-abbrev pub Rise : {Op : Type 0} → List (Placed Op) → Type 0
-Rise packs = IsStrictlySortedBy placed_cmp packs
-
-abbrev pub commits_of : {Op : Type 0} → List (Placed Op) → List Name
-commits_of packs = map (λ p. p.commit) packs
 
 -- the greatest edit clock of a head
 pub record IsGreatestEdit (objects : Objects) (heads : List Name) (edit : ℕ) : Type 0 where

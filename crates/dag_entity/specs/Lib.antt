@@ -9,4 +9,5 @@ pub mod Joining
 pub mod Judging
 pub mod Loading
 pub mod Nodes
+pub mod Order
 pub mod Stops

@@ -36,7 +36,7 @@ loaded_names loaded = map (λ one. one.placed.commit) loaded
 
 -- the node of the commit in a graph
 abbrev pub node_of : {Op : Type 0} → Loaded Op → Node
-node_of loaded = record { name = loaded.placed.commit; parents = loaded.parents; edit = loaded.placed.pack.edit; pack = loaded.placed.pack.id; count = length loaded.placed.pack.ops }
+node_of loaded = record { name = loaded.placed.commit; parents = loaded.parents; edit = loaded.placed.pack.edit; count = length loaded.placed.pack.ops }
 
 module _ {Op State Row : Type 0} (k : Meaning Op State Row) where
   -- a commit that was met, with the pack under its tree

@@ -14,6 +14,7 @@ mod judge;
 mod laws;
 mod load;
 mod order;
+mod order_laws;
 mod read;
 mod report_laws;
 
@@ -42,6 +43,10 @@ pub use laws::{
     entities_give_their_operations, faults_tell_what_is_wrong, heads_are_apart_in_either_order,
     limits_of_entities_are_known, operations_are_determined, two_heads_are_valid_together,
     valid_entities_are_well_formed, valid_entities_keep_the_rules,
+};
+pub use order_laws::{
+    a_later_pack_stands_at_the_end, orders_of_packs_are_determined, packs_stand_by_clock_then_id,
+    parents_stand_before_children,
 };
 pub use read::{read_entity, read_walked};
 pub use report_laws::{

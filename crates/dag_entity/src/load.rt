@@ -102,7 +102,6 @@ fn node_of<K: OpKind>(parents: List<Name>, placed: &Placed<K>) -> Node
         name: placed.commit,
         parents,
         edit: placed.pack.edit,
-        pack: placed.pack.id,
         count: placed.pack.ops.len() as u64,
     }
 }

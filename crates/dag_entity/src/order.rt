@@ -1,11 +1,19 @@
 //! The order of packs: by edit clock, then by pack id, then by the name of their commit.
 ghost use Rattle.std.specs.Prelude.{◌≡◌, IsPermutation};
 ghost use Rattle.commit_walk.specs.Distinct.{AreDistinct};
-ghost use Rattle.dag_entity.specs.Entities.{Rise, commits_of, rank_of};
+ghost use Rattle.dag_entity.specs.Order.{Rise, commits_of, rank_of};
 
 use crate::entity::Placed;
-use dag_graph::Rank;
+use gb_text::{Id, Name};
 use op_kind::OpKind;
+
+/// Where a pack stands in the order: by edit clock, then by pack id, then by the name of its commit.
+#[derive(Clone, Copy, PartialEq, Eq, PartialOrd, Ord)]
+pub struct Rank {
+    pub edit: u64,
+    pub pack: Id,
+    pub name: Name,
+}
 
 /// Puts the packs of commits into their order.
 pub(crate) fn sort_packs<K: OpKind>(packs: &mut Vec<Placed<K>>)

@@ -1,4 +1,4 @@
-//! A law of the order of packs, and tests of `dag_entity`.
+//! Tests of `dag_entity`. They stand apart, so that the proofs of that are made once.
 #![tactic(auto)]
 
 #[cfg(test)]
@@ -15,6 +15,3 @@ mod faults;
 mod graphs;
 #[cfg(test)]
 mod large;
-mod laws;
-
-pub use laws::packs_stand_by_clock_then_id;

@@ -10,9 +10,8 @@ use Rattle.std.proofs.lemmas.Map.Lookups.{exact_bytes}
 use Rattle.std.proofs.lemmas.Option.{none-some, same_Some}
 use Rattle.std.specs.Cmp.{IsTotalOrder}
 use Rattle.gb_text.specs.declared.id.Name.{Name}
-use Rattle.dag_graph.specs.Index.{IsIndex}
+use Rattle.dag_graph.specs.Index.{IsIndex, name_cmp}
 use Rattle.dag_graph.specs.Nodes.{node_at}
-use Rattle.dag_graph.specs.Order.{name_cmp}
 use Rattle.dag_graph.specs.declared.node.Node.{Node}
 use Rattle.dag_graph.proofs.NodeLemmas.{AreApart, same_place}
 

@@ -4,6 +4,4 @@ pub mod ClockLemmas
 pub mod IndexLemmas
 pub mod ListLemmas
 pub mod NodeLemmas
-pub mod OrderLaws
-pub mod OrderLemmas
 pub mod SearchLemmas

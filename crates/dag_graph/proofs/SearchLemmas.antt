@@ -1,7 +1,7 @@
 -- What a search has found, one position after the other.
 use Rattle.std.proofs.Common.{◌≡◌, ◌≢◌, ◌⊎◌, inl, inr, ⊎_elim, ◌<◌, ◌≤◌, ◌+◌, ℕ, zero, suc, Bool, true, false, List, [], ◌∷◌, ◌++◌, length, get_or, set, replicate, Contains, refl, sym, ◌∙◌, ap, subst, arith, append_assoc, append-nil, length-append}
 use Rattle.std.specs.List.{AllPairs}
-use Rattle.std.proofs.lemmas.Bool.{cases_Bool, cases_eq, cases_lt, eqb-true}
+use Rattle.std.proofs.lemmas.Bool.{cases_Bool, cases_eq, cases_lt, eq-eqb, eqb-true}
 use Rattle.std.proofs.lemmas.List.{length-set, get_or-set_same, get_or-set_other, set-get_or, get_or_append_left}
 use Rattle.std.proofs.lemmas.List.Elements.{Contains-append_left, Contains-get_or, Contains-push, Contains-push_cases}
 use Rattle.std.proofs.lemmas.List.Quantifiers.{all_pairs_push}
@@ -15,7 +15,6 @@ use Rattle.dag_graph.specs.Search.{AreBelow, AreFound, Follows, found_with, is_m
 use Rattle.dag_graph.specs.declared.node.Node.{Node}
 use Rattle.dag_graph.proofs.ListLemmas.{Contains-first, Contains-nil, Contains-one, get_or_any}
 use Rattle.dag_graph.proofs.NodeLemmas.{AreApart, has_at, named, same_node, same_place}
-use Rattle.dag_graph.proofs.OrderLemmas.{numbers_decide}
 
 pub met_none : (n place : ℕ) → is_met (replicate n false) place ≡ false
 met_none zero place = refl
@@ -49,7 +48,7 @@ module _ (met : List Bool) (found : List ℕ) (are : AreFound met found) (place 
   pub has_room : is_met met place ≡ false → length found < length met
   has_room f =
       let few : length (found ++ place ∷ []) ≤ length met =
-      length-le_from_distinct_below (found ++ place ∷ []) (length met) (IsDistinct-from_AllPairs numbers_decide (found ++ place ∷ []) (once_more f))
+      length-le_from_distinct_below (found ++ place ∷ []) (length met) (IsDistinct-from_AllPairs (λ (x y : ℕ). (eqb-true x y, eq-eqb x y)) (found ++ place ∷ []) (once_more f))
       (λ q t. ⊎_elim (λ (c : Contains found q). are.inside q c) (λ (e : place ≡ q). subst (λ (k : ℕ). k < length met) e within)
       (Contains-push_cases found place q (Contains-from_any eqb-true q (found ++ place ∷ []) t))) in
       omega (arith, few, length-append found (place ∷ []))

@@ -1,10 +1,16 @@
 -- The index of nodes by name.
 use Rattle.std.specs.Prelude.{◌≡◌, ◌<◌, ℕ, List, length, Some}
 use Rattle.std.specs.BTreeMap.{BTreeMap, get}
+use Rattle.std.specs.Ordering.{nat_cmp, on}
+use Rattle.std.specs.Cmp.Lexicographic.{slice_cmp}
+use Rattle.std.specs.declared.cmp.Ordering.{Ordering}
 use Rattle.gb_text.specs.declared.id.Name.{Name}
 use Rattle.dag_graph.specs.Nodes.{AreNodes, node_at}
-use Rattle.dag_graph.specs.Order.{name_cmp}
 use Rattle.dag_graph.specs.declared.node.Node.{Node}
+
+-- names are in byte order
+abbrev pub name_cmp : Name → Name → Ordering
+name_cmp = on (λ (name : Name). name.bytes) (slice_cmp nat_cmp)
 
 -- the index has the position of each node under its name, and nothing else
 pub record IsIndex (nodes : List Node) (places : BTreeMap Name ℕ) : Type 0 where

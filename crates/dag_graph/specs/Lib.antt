@@ -2,5 +2,4 @@ pub mod Below
 pub mod Faults
 pub mod Index
 pub mod Nodes
-pub mod Order
 pub mod Search

@@ -9,7 +9,7 @@ names_of nodes = map (λ (node : Node). node.name) nodes
 
 -- what stands past the end: a node without a name
 abbrev pub no_node : Node
-no_node = record { name = record { bytes = [] }; parents = []; edit = 0; pack = record { bytes = [] }; count = 0 }
+no_node = record { name = record { bytes = [] }; parents = []; edit = 0; count = 0 }
 
 abbrev pub node_at : List Node → ℕ → Node
 node_at nodes place = slice_index_or nodes place no_node

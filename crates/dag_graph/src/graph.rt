@@ -3,13 +3,11 @@ ghost use Rattle.std.specs.Prelude.{◌≡◌, ◌<◌, ◌↔◌, IfOk, IsTrue,
 ghost use Rattle.dag_graph.specs.Below.{IsAncestor};
 ghost use Rattle.dag_graph.specs.Faults.{CheckAnswers};
 ghost use Rattle.dag_graph.specs.Nodes.{AreNodes, node_at};
-ghost use Rattle.dag_graph.specs.Order.{IsOrder};
 
 use crate::check::check_graph;
 use crate::fault::GraphFault;
 use crate::index::index;
 use crate::node::Node;
-use crate::order::order_of;
 use crate::search::mark_below;
 use gb_text::{List, Memory, Name};
 use std::alloc::Global;
@@ -68,13 +66,6 @@ impl Graph {
         ensures { CheckAnswers self.now result }
     {
         check_graph(self.nodes.as_slice(), &self.places)
-    }
-
-    /// The positions of the commits in the order of their operations.
-    pub fn order(&self, alloc: Global) -> Result<List<usize>, Memory>
-        ensures { IfOk result (IsOrder self.now) }
-    {
-        order_of(alloc, self.nodes.as_slice())
     }
 
     /// Whether the first commit is the second, or parents lead from the second to it. Follows each

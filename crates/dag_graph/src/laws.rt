@@ -1,10 +1,9 @@
 //! Laws of graphs, each the contract of a function that does nothing.
-ghost use Rattle.std.specs.Prelude.{◌≡◌, ◌≢◌, ◌<◌, ◌≤◌, ◌+◌, ◌↔◌, ◌⊎◌, ◌++◌, ◌∷◌, [], ℕ, List, length, Contains};
+ghost use Rattle.std.specs.Prelude.{◌≡◌, ◌≢◌, ◌<◌, ◌≤◌, ◌+◌, ◌↔◌, ◌⊎◌, ◌∷◌, [], ℕ, List, length, Contains};
 ghost use Rattle.gb_text.specs.declared.id.Name.{Name};
 ghost use Rattle.dag_graph.specs.Below.{IsAncestor, IsBelow, IsRing, added};
 ghost use Rattle.dag_graph.specs.Faults.{ClocksRise, GraphFaultHolds, HasClockOrder, IsFaultless, IsRoot};
 ghost use Rattle.dag_graph.specs.Nodes.{AreNodes, node_at};
-ghost use Rattle.dag_graph.specs.Order.{IsOrder, ParentsComeFirst, listed};
 ghost use Rattle.dag_graph.specs.declared.fault.GraphFault.TheVariants as fault;
 ghost use Rattle.dag_graph.specs.declared.node.Node.{Node};
 
@@ -69,27 +68,4 @@ pub fn a_graph_without_faults_has_one_root()
     ensures { (nodes : List Node) → AreNodes nodes → IsFaultless nodes
         → (root : ℕ) × IsRoot nodes root × ((place : ℕ) → place < length nodes
         → IsAncestor nodes (node_at nodes root).name (node_at nodes place).name) }
-{}
-
-/// If clocks rise, the order lists each parent before its children.
-pub fn parents_stand_before_children()
-    ensures { (nodes : List Node) (places : List ℕ) → IsOrder nodes places → ClocksRise nodes
-        → ParentsComeFirst nodes places }
-{}
-
-/// A node whose clock is greater than all others comes last in the order.
-pub fn a_later_node_stands_at_the_end()
-    ensures { (nodes : List Node) (node : Node) (places : List ℕ) → IsOrder nodes places
-        → ((other : Node) → Contains nodes other → other.edit < node.edit)
-        → IsOrder (nodes ++ node ∷ []) (places ++ length nodes ∷ []) }
-{}
-
-/// A list of nodes has at most one order, which does not depend on how the nodes were listed.
-pub fn orders_are_determined()
-    ensures places { (nodes : List Node) (one other : List ℕ) → AreNodes nodes
-        → IsOrder nodes one → IsOrder nodes other → one ≡ other }
-    ensures nodes { (nodes others : List Node) (places further : List ℕ) → IsOrder nodes places
-        → IsOrder others further
-        → ((node : Node) → Contains nodes node ↔ Contains others node)
-        → listed nodes places ≡ listed others further }
 {}

@@ -1,4 +1,4 @@
-//! Graphs of commits: the order of their operations, what may be wrong with them, and ancestors.
+//! Graphs of commits: what may be wrong with them, and ancestors.
 #![tactic(auto)]
 
 mod check;
@@ -7,14 +7,12 @@ mod graph;
 mod index;
 mod laws;
 mod node;
-mod order;
 mod search;
 
 pub use fault::GraphFault;
 pub use graph::Graph;
 pub use laws::{
-    a_graph_without_faults_has_one_root, a_later_node_stands_at_the_end, a_ring_has_a_clock_fault,
-    ancestors_have_lesser_clocks, below_is_transitive, below_is_what_adding_parents_gives,
-    graph_faults_are_known, orders_are_determined, parents_stand_before_children,
+    a_graph_without_faults_has_one_root, a_ring_has_a_clock_fault, ancestors_have_lesser_clocks,
+    below_is_transitive, below_is_what_adding_parents_gives, graph_faults_are_known,
 };
-pub use node::{Node, Rank};
+pub use node::Node;

@@ -18,7 +18,8 @@ use Rattle.commit_walk.specs.Below.{IsParent, parent}
 use Rattle.bug_ops.specs.Kind.{bug_kind}
 use Rattle.bug_ops.specs.declared.op.BugOp.{BugOp}
 use Rattle.snapshot.specs.LastMention.{IsBugList, IsLater}
-use Rattle.dag_entity.specs.Entities.{IsEntity, KeepsRules, Rise, ops_in, placed_cmp}
+use Rattle.dag_entity.specs.Entities.{IsEntity, KeepsRules, ops_in}
+use Rattle.dag_entity.specs.Order.{Rise, placed_cmp}
 use Rattle.dag_entity.specs.Extending.{BeginsOnce}
 use Rattle.dag_entity.specs.Faults.{EntityFaultHolds}
 use Rattle.dag_entity.specs.Nodes.{IsNodeBelow, edit_at, pack_at}

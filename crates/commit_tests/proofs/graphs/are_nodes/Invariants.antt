@@ -3,7 +3,7 @@ use Rattle.std.specs.BTreeMap.{get}
 use Rattle.std.specs.Option.{IsSome}
 use Rattle.gb_text.specs.declared.id.Name.{Name}
 use Rattle.dag_graph.specs.Nodes.{node_at}
-use Rattle.dag_graph.specs.Order.{name_cmp}
+use Rattle.dag_graph.specs.Index.{name_cmp}
 use Rattle.commit_tests.proofs.graphs.are_nodes.Given as goal
 
 abbrev pub invariant-loop-node : goal.invariant-loop-node

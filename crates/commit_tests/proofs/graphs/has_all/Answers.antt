@@ -5,7 +5,7 @@ use Rattle.std.proofs.lemmas.List.{take_more}
 use Rattle.std.proofs.lemmas.List.Elements.{Contains-push_cases}
 use Rattle.gb_text.specs.declared.id.Name.{Name}
 use Rattle.dag_graph.specs.Nodes.{no_node}
-use Rattle.dag_graph.specs.Order.{name_cmp}
+use Rattle.dag_graph.specs.Index.{name_cmp}
 use Rattle.commit_tests.proofs.graphs.has_all.Goals as goal
 
 pub loop-name-preserved : goal.loop-name-preserved

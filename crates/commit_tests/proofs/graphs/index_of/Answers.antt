@@ -1,7 +1,7 @@
 use Rattle.std.proofs.Common.{◌≡◌, None, Some, cond, sym, ◌∙◌, subst, arith}
 use Rattle.std.specs.BTreeMap.{get, is_at}
 use Rattle.dag_graph.specs.Nodes.{no_node, node_at}
-use Rattle.dag_graph.specs.Order.{name_cmp}
+use Rattle.dag_graph.specs.Index.{name_cmp}
 use Rattle.dag_graph.specs.declared.node.Node.{Node}
 use Rattle.dag_graph.proofs.IndexLemmas.{IsIndex-all, IsIndexOf-more}
 use Rattle.dag_graph.proofs.ListLemmas.{read_at}

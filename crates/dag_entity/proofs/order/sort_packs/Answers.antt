@@ -1,7 +1,7 @@
 use Rattle.std.proofs.Common.{rules}
 use Rattle.std.specs.List.Sorted.{IsSorted}
 use Rattle.std.proofs.lemmas.List.Sorted.{answers_always}
-use Rattle.dag_entity.specs.Entities.{placed_cmp, rank_of}
+use Rattle.dag_entity.specs.Order.{placed_cmp, rank_of}
 use Rattle.dag_entity.proofs.OrderLemmas.{sorted_rises}
 use Rattle.dag_entity.proofs.order.sort_packs.Goals as goal
 

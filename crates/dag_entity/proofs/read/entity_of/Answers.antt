@@ -2,7 +2,8 @@ use Rattle.std.proofs.Common.{rules, ◌≡◌, List, map, length, IsPermutation
 use Rattle.std.proofs.lemmas.List.{length-map}
 use Rattle.commit_walk.specs.Distinct.{AreDistinct}
 use Rattle.dag_graph.specs.declared.node.Node.{Node}
-use Rattle.dag_entity.specs.Entities.{AreAllInOrder, EntityAnswers, JudgeAnswers, KeepsRules, commits_of}
+use Rattle.dag_entity.specs.Entities.{AreAllInOrder, EntityAnswers, JudgeAnswers, KeepsRules}
+use Rattle.dag_entity.specs.Order.{commits_of}
 use Rattle.dag_entity.specs.Heads.{HaveHeads}
 use Rattle.dag_entity.specs.Loading.{node_of, placed_of}
 use Rattle.dag_entity.proofs.OrderLemmas.{same_length}

@@ -1,7 +1,7 @@
 use Rattle.std.proofs.Common.{◌≡◌, Some, refl, subst}
 use Rattle.std.specs.BTreeMap.{get}
 use Rattle.gb_text.specs.declared.id.Name.{Name}
-use Rattle.dag_graph.specs.Order.{name_cmp}
+use Rattle.dag_graph.specs.Index.{name_cmp}
 use Rattle.dag_graph.proofs.NodeLemmas.{named}
 use Rattle.dag_graph.proofs.index.place_of.Goals as goal
 
