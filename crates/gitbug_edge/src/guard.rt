@@ -1,5 +1,5 @@
 //! Folders that a run does not begin in: Git's own, and those that are missing.
-use folder_store::{Claim, Purpose};
+use folder_store::{Claim, Purpose, again};
 use std::alloc::Global;
 use std::fs::Metadata;
 use std::io::ErrorKind;
@@ -63,12 +63,12 @@ fn is_same<R: Files>(rt: &R, one: &str, two: &str) -> bool {
 
 // What a path names, if it can be looked at.
 fn found<R: Files>(rt: &R, path: &str) -> Option<Metadata> {
-    fs::metadata(rt, path).ok()
+    again(|| fs::metadata(rt, path)).ok()
 }
 
 // Whether nothing is named by a path.
 fn is_missing<R: Files>(rt: &R, path: &str) -> bool {
-    match fs::metadata(rt, path) {
+    match again(|| fs::metadata(rt, path)) {
         Ok(_) => false,
         Err(e) => matches!(e.kind(), ErrorKind::NotFound | ErrorKind::NotADirectory),
     }

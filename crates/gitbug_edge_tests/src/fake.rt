@@ -17,6 +17,7 @@ pub struct Notes {
     calls: RefCell<String>,
     slept: Cell<Duration>,
     filled: Cell<u8>,
+    is_interrupted: Cell<bool>,
 }
 
 impl Notes {
@@ -27,6 +28,7 @@ impl Notes {
             calls: RefCell::new(String::new(alloc)),
             slept: Cell::new(Duration::ZERO),
             filled: Cell::new(0),
+            is_interrupted: Cell::new(false),
         }
     }
 
@@ -60,7 +62,8 @@ fn note(texts: &RefCell<String>, text: &str) -> io::Result<()> {
     Ok(())
 }
 
-/// The system, at one time of the clock. Its random bytes are 0, 1, 2 and so on.
+/// The system, at one time of the clock. Its random bytes are 0, 1, 2 and so on. A signal interrupts every second look at what
+/// a path names.
 #[derive(Clone, Drop)]
 pub struct Fake<'a, R: Testing> {
     host: &'a R,
@@ -191,6 +194,11 @@ impl<'a, R: Testing> Files for Fake<'a, R> {
     }
 
     fn metadata(&self, path: &str) -> io::Result<Metadata> {
+        let is_interrupted = !self.notes.is_interrupted.get();
+        self.notes.is_interrupted.set(is_interrupted);
+        if is_interrupted {
+            return Err(Error::from(ErrorKind::Interrupted));
+        }
         self.host.metadata(path)
     }
 
