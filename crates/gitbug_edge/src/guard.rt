@@ -1,4 +1,4 @@
-//! Folders that a run does not begin in: Git's own, and those that are missing.
+//! Folders that a run does not begin in: Git's own. And those that are read as folders with nothing in them.
 use folder_store::{Claim, Purpose, again};
 use std::alloc::Global;
 use std::fs::Metadata;
@@ -8,7 +8,7 @@ use std::rt::Files;
 use std::{fs, io};
 
 /// Refuses to write in a folder that is Git's own, and says so, since Git would find objects there that it cannot read. Says
-/// of a folder that is only read and is missing that it is.
+/// of what is only read that it is missing, or that it is not a folder.
 pub fn look_at<R: Files + Eprint>(rt: &R, alloc: Global, claims: &[Claim]) -> io::Result<()> {
     for claim in claims {
         let path = claim.path();
@@ -19,12 +19,14 @@ pub fn look_at<R: Files + Eprint>(rt: &R, alloc: Global, claims: &[Claim]) -> io
                 );
                 return Err(io::Error::from(ErrorKind::PermissionDenied));
             }
-            Purpose::Read if is_missing(rt, path) => {
-                let _ = eprintln!(rt;
-                    "gitbug: {path} does not exist; it is read as a folder with nothing in it"
-                );
+            Purpose::Write => {}
+            Purpose::Read => {
+                if let Some(why) = why_empty(rt, path) {
+                    let _ = eprintln!(rt;
+                        "gitbug: {path} {why}; it is read as a folder with nothing in it"
+                    );
+                }
             }
-            _ => {}
         }
     }
     Ok(())
@@ -66,10 +68,14 @@ fn found<R: Files>(rt: &R, path: &str) -> Option<Metadata> {
     again(|| fs::metadata(rt, path)).ok()
 }
 
-// Whether nothing is named by a path.
-fn is_missing<R: Files>(rt: &R, path: &str) -> bool {
+// Why a path is read as a folder with nothing in it, if it is.
+fn why_empty<R: Files>(rt: &R, path: &str) -> Option<&'static str> {
     match again(|| fs::metadata(rt, path)) {
-        Ok(_) => false,
-        Err(e) => matches!(e.kind(), ErrorKind::NotFound | ErrorKind::NotADirectory),
+        Ok(entry) if entry.is_dir() => None,
+        Ok(_) => Some("is not a folder"),
+        Err(e) => match e.kind() {
+            ErrorKind::NotFound | ErrorKind::NotADirectory => Some("does not exist"),
+            _ => None,
+        },
     }
 }

@@ -15,7 +15,7 @@ pub fn try_all<R: Testing>(rt: &R) -> Result<(), Fail> {
     each_command_takes_its_arguments(rt)?;
     usage_is_explained(rt)?;
     folders_of_git_are_left_alone(rt)?;
-    missing_folders_are_read_as_empty(rt)?;
+    what_is_no_folder_is_read_as_empty(rt)?;
     failures_name_their_paths(rt)?;
     locks_are_waited_for(rt)?;
     the_clock_and_random_bytes_are_used(rt)?;
@@ -143,13 +143,25 @@ fn folders_of_git_are_left_alone<R: Testing>(rt: &R) -> Result<(), Fail> {
     Ok(())
 }
 
-fn missing_folders_are_read_as_empty<R: Testing>(rt: &R) -> Result<(), Fail> {
-    let ran = run_at(rt, &["nowhere", "users"])?;
-    assert!(rt; matches!(ran.status, Ok(Status::Done)));
-    assert_eq!(rt;
-        ran.said.as_str(),
-        "gitbug: nowhere does not exist; it is read as a folder with nothing in it\n"
-    );
+// A folder that is missing, and a file where a folder is to be.
+fn what_is_no_folder_is_read_as_empty<R: Testing>(rt: &R) -> Result<(), Fail> {
+    write(rt, "plain", "a file")?;
+    let told = [
+        (
+            "nowhere",
+            "gitbug: nowhere does not exist; it is read as a folder with nothing in it\n",
+        ),
+        (
+            "plain",
+            "gitbug: plain is not a folder; it is read as a folder with nothing in it\n",
+        ),
+    ];
+    for (folder, line) in told {
+        let ran = run_at(rt, &[folder, "users"])?;
+        assert!(rt; matches!(ran.status, Ok(Status::Done)));
+        assert_eq!(rt; ran.said.as_str(), line);
+        assert_eq!(rt; ran.printed.as_str(), "");
+    }
     assert!(rt; is_free(rt, "nowhere"));
     Ok(())
 }
