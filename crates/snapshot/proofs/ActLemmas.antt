@@ -1,5 +1,5 @@
 -- What each operation says of who acted and when, what it changes, and which operations may be first.
-use Rattle.std.proofs.Common.{◌≡◌, ◌∙◌, ◌++◌, refl, sym, ap, subst, true, List, [], ◌∷◌, ℕ}
+use Rattle.std.proofs.Common.{◌≡◌, ◌++◌, refl, ap, subst, true, List, [], ◌∷◌, ℕ}
 use Rattle.std.specs.Prelude.{not, ◌||◌, ◌&&◌}
 use Rattle.gb_text.specs.declared.id.Id.{Id}
 use Rattle.gb_text.specs.declared.id.Name.{Name}

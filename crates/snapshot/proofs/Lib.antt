@@ -6,3 +6,4 @@ pub mod MetadataLemmas
 pub mod StepLemmas
 pub mod EditLemmas
 pub mod ActLemmas
+pub mod FieldLemmas

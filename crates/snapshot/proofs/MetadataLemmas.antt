@@ -207,6 +207,13 @@ entries_back (e ∷ es) = ap (λ fs. e ∷ fs) (entries_back es)
 pub first_found : (ps : List Pair) (q : List ℕ) → first_value (first_of_each ps) q ≡ first_value ps q
 first_found ps q = ap (λ us. first_value us q) (first_is_joined ps) ∙ ap (at_key q) (entries_back (joined ps)) ∙ with_all [] ps q
 
+-- Pairs with further ones have under each key what was set there, and else what is set.
+pub joined_have : (old pairs : List Pair) (q : List ℕ) → first_value (joined_pairs old pairs) q ≡ option_or (first_value old q) (first_value pairs q)
+joined_have old pairs q =
+    ap (at_key q) (entries_back (with_pairs (joined old) pairs))
+    ∙ with_all (joined old) pairs q
+    ∙ ap (λ o. option_or o (first_value pairs q)) (with_all [] old q)
+
 -- ---- one operation further
 
 set_by : (old pairs : List Pair) (b : Bool) → (if b then joined_pairs (first_of_each old) pairs else first_of_each old) ≡ first_of_each (old ++ ((if b then pairs else []) ++ []))

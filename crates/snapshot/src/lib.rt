@@ -2,9 +2,11 @@
 #![tactic(auto)]
 
 mod bug;
+mod fields;
 mod laws;
 
 pub use bug::{compile, excerpt_of};
+pub use fields::{has_label, id_of, status_of, title_of};
 pub use laws::{
     a_creation_begins_a_bug, a_no_op_changes_who_acted_and_when, all_but_a_creation_may_follow,
     comments_are_counted, each_comment_is_added, each_operation_changes_its_own_alone,
