@@ -1,0 +1,4 @@
+pub mod Answers
+pub mod EditLaws
+pub mod EditTable
+pub mod NewOps
