@@ -1,4 +1,4 @@
--- What is so of the row of each edit.
+-- What holds of the row of each edit.
 use Rattle.std.specs.Prelude.{◌≡◌, true, List, [], ◌∷◌, ◌++◌, Some}
 use Rattle.std.specs.Str.{IsUtf8}
 use Rattle.gb_text.specs.Digits.{IsId}
@@ -23,10 +23,10 @@ with_op ops place op = snapshot_of (ops ++ bug_kind.placed place op ∷ [])
 
 -- The laws of a row.
 pub record KeepsLaws (row : EditRow) : Type 0 where
-  -- it adds no operation for a reason exactly where for that reason it would change nothing
+  -- it adds no operation for a reason exactly when it would change nothing for that reason
   pub bars : (bug : Snapshot) (why : NoChange) → row.ChangesNothing why bug → row.barred bug ≡ Some why
   pub only : (bug : Snapshot) (why : NoChange) → row.barred bug ≡ Some why → row.ChangesNothing why bug
-  -- its operation has the time and the seed of the command, may follow others, and keeps the rules
+  -- its operation has the time and the seed of the command, may follow others, and satisfies the rules
   pub anew : (moment : Moment) (bug : Snapshot) → IsOfTheMoment moment (row.made moment bug)
   pub follows : (moment : Moment) (bug : Snapshot) → bug_kind.is_following (row.made moment bug) ≡ true
   pub rules : (moment : Moment) (bug : Snapshot) → CanBeCopied bug → bug_kind.KeepsRules (row.made moment bug)

@@ -27,7 +27,7 @@ pub data Word : Type 0 where
 
 -- What is to be known of an edit.
 pub record EditRow : Type 1 where
-  -- the name of its command, and the arguments behind that of the bug
+  -- the name of its command, and its arguments after that of the bug
   pub name : List ℕ
   pub words : List Word
   -- the operation that it makes, by what the bug says

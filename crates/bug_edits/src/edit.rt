@@ -1,7 +1,6 @@
 //! The edits of a bug, and the operation that each adds by what the bug says.
 ghost use Rattle.snapshot.specs.LastMention.{snapshot_of};
 ghost use Rattle.bug_edits.specs.Answers.{OpAnswers};
-ghost use Rattle.bug_edits.specs.EditTable.{same_status};
 ghost use Rattle.bug_edits.specs.declared.edit.BugEdit.TheVariants as kind;
 ghost use Rattle.std.specs.Prelude.{◌≡◌};
 
@@ -113,21 +112,10 @@ fn with_status(
 ) -> Result<NewOp, EditStop>
     ensures { OpAnswers moment.entry.now (kind.Status status) (snapshot_of ops.now) result }
 {
-    if is_same(status_of(ops), status) {
+    if status_of(ops) == status {
         return Err(EditStop::NoChange(NoChange::SameStatus));
     }
     Ok(status_op(alloc, moment, status)?)
-}
-
-// Whether two statuses are one.
-fn is_same(one: BugStatus, two: BugStatus) -> bool
-    ensures { result ≡ same_status one two }
-{
-    match (one, two) {
-        (BugStatus::Opened, BugStatus::Opened) => true,
-        (BugStatus::Closed, BugStatus::Closed) => true,
-        _ => false,
-    }
 }
 
 // The named labels that are off, which are put on.

@@ -77,8 +77,8 @@ pub fn edits_keep_all_else()
 {}
 
 /// After an edit its author is last among those who acted, unless already listed, and the last clock and
-/// time are the edit's. Who comments stands so behind those who took part, and a comment more is
-/// counted.
+/// time are the edit's. The author of a comment is so last among those who took part, and one comment
+/// more is counted.
 pub fn edits_tell_who_acted_and_when()
     ensures acted { (moment : MomentValue) (ops : List OpValue) (op : OpValue) → IsBugList ops
         → (place : PlaceValue) (edit : BugEditValue)

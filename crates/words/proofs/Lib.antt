@@ -1,0 +1,6 @@
+pub mod ArgumentLemmas
+pub mod AskLemmas
+pub mod Examples
+pub mod RuleLemmas
+pub mod TitleLemmas
+pub mod VerbLemmas

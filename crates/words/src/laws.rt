@@ -1,0 +1,122 @@
+//! Laws of what arguments ask, each the contract of a function that does nothing.
+ghost use Rattle.std.specs.Prelude.{◌≡◌, ◌∷◌, [], ℕ, List, IsSome, Some, None, Result, Ok, Err, codes, length, map, true};
+ghost use Rattle.gb_text.specs.Folder.{folder_of};
+ghost use Rattle.gb_text.specs.declared.ruled.Line.{Line as LineValue};
+ghost use Rattle.gb_text.specs.declared.ruled.Message.{Message as MessageValue};
+ghost use Rattle.gb_text.specs.declared.ruled.Title.{Title as TitleValue};
+ghost use Rattle.bug_ops.specs.declared.op.BugStatus.TheVariants.{Closed, Opened};
+ghost use Rattle.bug_edits.specs.EditTable.{row_of};
+ghost use Rattle.bug_edits.specs.declared.edit.BugEdit.{BugEdit as BugEditValue};
+ghost use Rattle.bug_edits.specs.declared.edit.BugEdit.TheVariants as bug_edit;
+ghost use Rattle.words.specs.Verbs.{name_of, verb_of};
+ghost use Rattle.words.specs.WordRules.{IsCounted, IsFirstBad, IsRead, NamesItsLabels, all_keep, is_message_word, is_title_word, text_of, words_keep};
+ghost use Rattle.words.specs.Words.{asked_of, command_of, of_bug};
+ghost use Rattle.words.specs.declared.edit.Edit.TheVariants as edits;
+ghost use Rattle.words.specs.declared.verb.Verb.{Verb as VerbValue};
+ghost use Rattle.words.specs.declared.words.Asked.TheVariants as asked;
+ghost use Rattle.words.specs.declared.words.BadWord.TheVariants.{BadFolder, BadText};
+ghost use Rattle.words.specs.declared.words.Command.{Command as CommandValue};
+ghost use Rattle.words.specs.declared.words.Command.TheVariants as ask;
+
+/// The commands by their names and their numbers of arguments. No other arguments give a command.
+pub fn only_these_are_commands()
+    ensures named { (name : List ℕ) (arguments : List (List ℕ))
+        → IsSome (command_of name arguments) → IsCounted name (length arguments) }
+    ensures each { (name : List ℕ) (arguments : List (List ℕ))
+        → IsCounted name (length arguments) → IsSome (command_of name arguments) }
+    ensures unnamed { (folder : List ℕ)
+        → (asked_of [] ≡ asked.Nothing) × (asked_of (folder ∷ []) ≡ asked.Nothing) }
+{}
+
+/// The name of a command is read as that command, and no other text is.
+pub fn names_are_those_of_verbs()
+    ensures read { (verb : VerbValue) → verb_of (name_of verb) ≡ Some verb }
+    ensures only { (name : List ℕ) (verb : VerbValue)
+        → verb_of name ≡ Some verb → name ≡ name_of verb }
+{}
+
+/// What each command asks for, by its name and its arguments.
+pub fn commands_ask_for_what_they_name()
+    ensures users { command_of (codes "users") [] ≡ Some (Ok ask.Users) }
+    ensures log { (bug : List ℕ) → command_of (codes "log") (bug ∷ [])
+        ≡ Some (Ok (ask.Log bug)) }
+    ensures show { (bug : List ℕ) → command_of (codes "show") (bug ∷ [])
+        ≡ Some (Ok (ask.Show bug)) }
+    ensures user_set { (id : List ℕ) → command_of (codes "user-set") (id ∷ [])
+        ≡ Some (Ok (ask.Edit (edits.UserSet id))) }
+    ensures user_new { (name : TitleValue) (email : LineValue)
+        → command_of (codes "user-new") (name.text ∷ email.text ∷ [])
+        ≡ Some (Ok (ask.Edit (edits.UserNew name email))) }
+    ensures user_edit { (name : TitleValue) (email : LineValue)
+        → command_of (codes "user-edit") (name.text ∷ email.text ∷ [])
+        ≡ Some (Ok (ask.Edit (edits.UserEdit name email))) }
+    ensures new { (title : TitleValue) (message : MessageValue)
+        → command_of (codes "new") (title.text ∷ message.text ∷ [])
+        ≡ Some (Ok (ask.Edit (edits.New title message))) }
+{}
+
+/// What each edit of a bug asks for: the first argument finds the bug.
+pub fn edits_of_bugs_ask_for_what_they_name()
+    ensures each { (bug : List ℕ) (edit : BugEditValue) → NamesItsLabels edit
+        → command_of (row_of edit).name (bug ∷ map text_of (row_of edit).words)
+        ≡ Some (Ok (of_bug bug edit)) }
+    ensures noop { (bug : List ℕ) → command_of (codes "noop") (bug ∷ [])
+        ≡ Some (Ok (of_bug bug bug_edit.Noop)) }
+    ensures close { (bug : List ℕ) → command_of (codes "close") (bug ∷ [])
+        ≡ Some (Ok (of_bug bug (bug_edit.Status Closed))) }
+    ensures open { (bug : List ℕ) → command_of (codes "open") (bug ∷ [])
+        ≡ Some (Ok (of_bug bug (bug_edit.Status Opened))) }
+    ensures comment { (bug : List ℕ) (message : MessageValue)
+        → command_of (codes "comment") (bug ∷ message.text ∷ [])
+        ≡ Some (Ok (of_bug bug (bug_edit.Comment message))) }
+    ensures title { (bug : List ℕ) (title : TitleValue)
+        → command_of (codes "title") (bug ∷ title.text ∷ [])
+        ≡ Some (Ok (of_bug bug (bug_edit.Title title))) }
+    ensures meta { (bug : List ℕ) (key : TitleValue) (value : MessageValue)
+        → command_of (codes "meta") (bug ∷ key.text ∷ value.text ∷ [])
+        ≡ Some (Ok (of_bug bug (bug_edit.Metadata key value))) }
+    ensures label_add { (bug : List ℕ) (label : TitleValue) (more : List TitleValue)
+        → command_of (codes "label-add")
+        (bug ∷ label.text ∷ map (λ (other : TitleValue). other.text) more)
+        ≡ Some (Ok (of_bug bug (bug_edit.AddLabels (label ∷ more)))) }
+    ensures label_rm { (bug : List ℕ) (label : TitleValue) (more : List TitleValue)
+        → command_of (codes "label-rm")
+        (bug ∷ label.text ∷ map (λ (other : TitleValue). other.text) more)
+        ≡ Some (Ok (of_bug bug (bug_edit.RemoveLabels (label ∷ more)))) }
+{}
+
+/// Arguments that give no command ask nothing, whatever the folder. Otherwise a bad folder is
+/// refused, whatever the command's arguments. Otherwise the place of an argument that breaks its
+/// rule is reported. Otherwise the command is asked for, in that folder.
+pub fn requests_are_read_in_order()
+    ensures nothing { (folder name : List ℕ) (arguments : List (List ℕ))
+        → command_of name arguments ≡ None
+        → asked_of (folder ∷ name ∷ arguments) ≡ asked.Nothing }
+    ensures folder { (folder name : List ℕ) (arguments : List (List ℕ))
+        → IsSome (command_of name arguments) → folder_of folder ≡ None
+        → asked_of (folder ∷ name ∷ arguments) ≡ asked.Refused BadFolder }
+    ensures place { (folder name : List ℕ) (arguments : List (List ℕ)) (read : List ℕ) (place : ℕ)
+        → folder_of folder ≡ Some read → command_of name arguments ≡ Some (Err place)
+        → asked_of (folder ∷ name ∷ arguments) ≡ asked.Refused (BadText place) }
+    ensures request { (folder name : List ℕ) (arguments : List (List ℕ)) (read : List ℕ)
+        (command : CommandValue)
+        → folder_of folder ≡ Some read → command_of name arguments ≡ Some (Ok command)
+        → asked_of (folder ∷ name ∷ arguments)
+        ≡ asked.Request (record { folder = read; command = command }) }
+{}
+
+/// A command is refused with the place of the first argument that breaks its rule, counted from 1.
+/// A comment, what begins a bug, and a value under a key may be any message, of several lines too.
+pub fn first_bad_words_are_told()
+    ensures first { (name : List ℕ) (arguments : List (List ℕ)) (place : ℕ)
+        → command_of name arguments ≡ Some (Err place)
+        → IsFirstBad (words_keep name arguments) place }
+    ensures none { (name : List ℕ) (arguments : List (List ℕ)) (command : CommandValue)
+        → command_of name arguments ≡ Some (Ok command)
+        → all_keep (words_keep name arguments) ≡ true }
+    ensures messages { (bug title message : List ℕ) → is_title_word title ≡ true
+        → is_message_word message ≡ true
+        → IsRead (command_of (codes "comment") (bug ∷ message ∷ []))
+        × IsRead (command_of (codes "new") (title ∷ message ∷ []))
+        × IsRead (command_of (codes "meta") (bug ∷ title ∷ message ∷ [])) }
+{}

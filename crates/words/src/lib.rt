@@ -1,0 +1,16 @@
+//! What arguments ask: a command in a folder, each argument read into its type.
+#![tactic(auto)]
+
+mod edit;
+mod laws;
+mod verb;
+mod words;
+
+pub use edit::Edit;
+pub use laws::{
+    commands_ask_for_what_they_name, edits_of_bugs_ask_for_what_they_name,
+    first_bad_words_are_told, names_are_those_of_verbs, only_these_are_commands,
+    requests_are_read_in_order,
+};
+pub use verb::{VERBS, Verb};
+pub use words::{Asked, BadWord, Command, Request, read_words};

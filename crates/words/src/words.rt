@@ -1,0 +1,391 @@
+//! What arguments ask, each read into its type.
+ghost use Rattle.std.specs.Prelude.{◌≡◌, ◌∷◌, IfOk, OnErr, IsSome, map, string_bytes};
+ghost use Rattle.gb_text.specs.Ruled.{message_of, title_of};
+ghost use Rattle.bug_edits.specs.declared.edit.BugEdit.TheVariants as kind;
+ghost use Rattle.words.specs.Words.{IsCommand, asked_of, at, by_verb, command_of, made, metadata, new_bug, of_bug, person, titles_from};
+ghost use Rattle.words.specs.declared.verb.Verb.TheVariants as verb;
+
+use crate::edit::Edit;
+use crate::verb::Verb;
+use bug_edits::BugEdit;
+use bug_ops::BugStatus;
+use gb_text::{Folder, FolderFault, Line, List, Memory, Message, Text, Title};
+use std::alloc::Global;
+
+/// A command, with its arguments.
+#[derive(Drop)]
+pub enum Command {
+    /// The people of the folder.
+    Users,
+    /// The bug with this id.
+    Show { bug: Text },
+    /// The log of the bug with this id.
+    Log { bug: Text },
+    /// An edit of the folder.
+    Edit(Edit),
+}
+
+/// A command, and the folder that it is for.
+#[derive(Drop)]
+pub struct Request {
+    pub folder: Folder,
+    pub command: Command,
+}
+
+/// Why arguments alone refuse a command.
+#[derive(Clone, Copy, Debug, PartialEq, Eq)]
+pub enum BadWord {
+    /// The first argument names no folder.
+    BadFolder,
+    /// The argument at this place after the command's name, counted from 1, breaks its rule.
+    BadText(u64),
+}
+
+/// What arguments ask.
+#[derive(Drop)]
+pub enum Asked {
+    /// They give no command.
+    Nothing,
+    /// They give a command that they alone refuse.
+    Refused(BadWord),
+    /// They ask for this.
+    Request(Request),
+}
+
+/// What arguments ask: a folder, the name of a command, and as many arguments as the command takes,
+/// each read into its type. A bad folder is refused first, and then the first argument that breaks
+/// its rule.
+pub fn read_words(alloc: Global, words: &[String]) -> Result<Asked, Memory>
+    ensures read { IfOk result (λ asked. asked ≡ asked_of (map string_bytes words.now)) }
+    ensures memory { OnErr result (IsCommand (asked_of (map string_bytes words.now))) }
+{
+    let [folder, name, arguments @ ..] = words else {
+        return Ok(Asked::Nothing);
+    };
+    let Some(command) = command_of(alloc, name.as_str(), arguments)? else {
+        return Ok(Asked::Nothing);
+    };
+    let folder = match Folder::read(alloc, folder.as_str()) {
+        Ok(folder) => folder,
+        Err(FolderFault::BadFolder) => return Ok(Asked::Refused(BadWord::BadFolder)),
+        Err(FolderFault::Memory) => return Err(Memory),
+    };
+    Ok(match command {
+        Ok(command) => Asked::Request(Request { folder, command }),
+        Err(place) => Asked::Refused(BadWord::BadText(place)),
+    })
+}
+
+// A command; or the place of the first argument that breaks its rule; or none, where the arguments
+// are not those of one.
+type Reading = Result<Option<Result<Command, u64>>, Memory>;
+
+// The command of this name that has these arguments.
+fn command_of(alloc: Global, name: &str, arguments: &[String]) -> Reading
+    ensures read { IfOk result (λ read. read
+        ≡ command_of name.now (map string_bytes arguments.now)) }
+    ensures memory { OnErr result (IsSome (command_of name.now (map string_bytes arguments.now))) }
+{
+    match Verb::read(name) {
+        Some(verb) => by_verb(alloc, verb, arguments),
+        None => Ok(None),
+    }
+}
+
+// This command, with these arguments.
+fn by_verb(alloc: Global, verb: Verb, arguments: &[String]) -> Reading
+    ensures read { IfOk result (λ read. read ≡ by_verb verb (map string_bytes arguments.now)) }
+    ensures memory { OnErr result (IsSome (by_verb verb (map string_bytes arguments.now))) }
+{
+    match verb {
+        Verb::UserNew => user_new(alloc, arguments),
+        Verb::UserEdit => user_edit(alloc, arguments),
+        Verb::UserSet => user_set(alloc, arguments),
+        Verb::Users => Ok(users(arguments)),
+        Verb::New => new(alloc, arguments),
+        Verb::Comment => comment(alloc, arguments),
+        Verb::Title => title(alloc, arguments),
+        Verb::Close => close(alloc, arguments),
+        Verb::Open => open(alloc, arguments),
+        Verb::LabelAdd => label_add(alloc, arguments),
+        Verb::LabelRm => label_rm(alloc, arguments),
+        Verb::Meta => meta(alloc, arguments),
+        Verb::Noop => noop(alloc, arguments),
+        Verb::Show => show(alloc, arguments),
+        Verb::Log => log(alloc, arguments),
+    }
+}
+
+// The list of people, which takes no argument.
+fn users(arguments: &[String]) -> Option<Result<Command, u64>>
+    ensures { result ≡ by_verb verb.Users (map string_bytes arguments.now) }
+{
+    match arguments {
+        [] => Some(Ok(Command::Users)),
+        _ => None,
+    }
+}
+
+// A new person, of a name and an email.
+fn user_new(alloc: Global, arguments: &[String]) -> Reading
+    ensures read { IfOk result (λ read. read
+        ≡ by_verb verb.UserNew (map string_bytes arguments.now)) }
+    ensures memory { OnErr result (IsSome (by_verb verb.UserNew (map string_bytes arguments.now))) }
+{
+    let [name, email] = arguments else {
+        return Ok(None);
+    };
+    match person(alloc, name.as_str(), email.as_str())? {
+        Ok((name, email)) => Ok(Some(Ok(Command::Edit(Edit::UserNew { name, email })))),
+        Err(place) => Ok(Some(Err(place))),
+    }
+}
+
+// A new version of the user, with a name and an email.
+fn user_edit(alloc: Global, arguments: &[String]) -> Reading
+    ensures read { IfOk result (λ read. read
+        ≡ by_verb verb.UserEdit (map string_bytes arguments.now)) }
+    ensures memory { OnErr result
+        (IsSome (by_verb verb.UserEdit (map string_bytes arguments.now))) }
+{
+    let [name, email] = arguments else {
+        return Ok(None);
+    };
+    match person(alloc, name.as_str(), email.as_str())? {
+        Ok((name, email)) => Ok(Some(Ok(Command::Edit(Edit::UserEdit { name, email })))),
+        Err(place) => Ok(Some(Err(place))),
+    }
+}
+
+// Another user.
+fn user_set(alloc: Global, arguments: &[String]) -> Reading
+    ensures read { IfOk result (λ read. read
+        ≡ by_verb verb.UserSet (map string_bytes arguments.now)) }
+    ensures memory { OnErr result (IsSome (by_verb verb.UserSet (map string_bytes arguments.now))) }
+{
+    let [id] = arguments else {
+        return Ok(None);
+    };
+    let id = Text::from_str(alloc, id.as_str())?;
+    Ok(Some(Ok(Command::Edit(Edit::UserSet { id }))))
+}
+
+// A new bug with a title and a message.
+fn new(alloc: Global, arguments: &[String]) -> Reading
+    ensures read { IfOk result (λ read. read ≡ by_verb verb.New (map string_bytes arguments.now)) }
+    ensures memory { OnErr result (IsSome (by_verb verb.New (map string_bytes arguments.now))) }
+{
+    let [title, message] = arguments else {
+        return Ok(None);
+    };
+    Ok(Some(new_bug(alloc, title.as_str(), message.as_str())?))
+}
+
+// A comment of a bug.
+fn comment(alloc: Global, arguments: &[String]) -> Reading
+    ensures read { IfOk result (λ read. read
+        ≡ by_verb verb.Comment (map string_bytes arguments.now)) }
+    ensures memory { OnErr result (IsSome (by_verb verb.Comment (map string_bytes arguments.now))) }
+{
+    let [bug, message] = arguments else {
+        return Ok(None);
+    };
+    match Message::read(alloc, message.as_str())? {
+        Some(message) => Ok(Some(Ok(of_bug(alloc, bug, BugEdit::Comment { message })?))),
+        None => Ok(Some(Err(2))),
+    }
+}
+
+// Another title of a bug.
+fn title(alloc: Global, arguments: &[String]) -> Reading
+    ensures read { IfOk result (λ read. read
+        ≡ by_verb verb.Title (map string_bytes arguments.now)) }
+    ensures memory { OnErr result (IsSome (by_verb verb.Title (map string_bytes arguments.now))) }
+{
+    let [bug, title] = arguments else {
+        return Ok(None);
+    };
+    match Title::read(alloc, title.as_str())? {
+        Some(title) => Ok(Some(Ok(of_bug(alloc, bug, BugEdit::Title { title })?))),
+        None => Ok(Some(Err(2))),
+    }
+}
+
+// A bug is closed.
+fn close(alloc: Global, arguments: &[String]) -> Reading
+    ensures read { IfOk result (λ read. read
+        ≡ by_verb verb.Close (map string_bytes arguments.now)) }
+    ensures memory { OnErr result (IsSome (by_verb verb.Close (map string_bytes arguments.now))) }
+{
+    let [bug] = arguments else {
+        return Ok(None);
+    };
+    let status = BugStatus::Closed;
+    Ok(Some(Ok(of_bug(alloc, bug, BugEdit::Status { status })?)))
+}
+
+// A bug is opened.
+fn open(alloc: Global, arguments: &[String]) -> Reading
+    ensures read { IfOk result (λ read. read ≡ by_verb verb.Open (map string_bytes arguments.now)) }
+    ensures memory { OnErr result (IsSome (by_verb verb.Open (map string_bytes arguments.now))) }
+{
+    let [bug] = arguments else {
+        return Ok(None);
+    };
+    let status = BugStatus::Opened;
+    Ok(Some(Ok(of_bug(alloc, bug, BugEdit::Status { status })?)))
+}
+
+// Labels that are put on.
+fn label_add(alloc: Global, arguments: &[String]) -> Reading
+    ensures read { IfOk result (λ read. read
+        ≡ by_verb verb.LabelAdd (map string_bytes arguments.now)) }
+    ensures memory { OnErr result
+        (IsSome (by_verb verb.LabelAdd (map string_bytes arguments.now))) }
+{
+    let [bug, label, labels @ ..] = arguments else {
+        return Ok(None);
+    };
+    match titles_from(alloc, label, labels)? {
+        Ok(labels) => Ok(Some(Ok(of_bug(alloc, bug, BugEdit::AddLabels { labels })?))),
+        Err(place) => Ok(Some(Err(place))),
+    }
+}
+
+// Labels that are taken off.
+fn label_rm(alloc: Global, arguments: &[String]) -> Reading
+    ensures read { IfOk result (λ read. read
+        ≡ by_verb verb.LabelRm (map string_bytes arguments.now)) }
+    ensures memory { OnErr result (IsSome (by_verb verb.LabelRm (map string_bytes arguments.now))) }
+{
+    let [bug, label, labels @ ..] = arguments else {
+        return Ok(None);
+    };
+    match titles_from(alloc, label, labels)? {
+        Ok(labels) => Ok(Some(Ok(of_bug(alloc, bug, BugEdit::RemoveLabels { labels })?))),
+        Err(place) => Ok(Some(Err(place))),
+    }
+}
+
+// A value under a key of a bug.
+fn meta(alloc: Global, arguments: &[String]) -> Reading
+    ensures read { IfOk result (λ read. read ≡ by_verb verb.Meta (map string_bytes arguments.now)) }
+    ensures memory { OnErr result (IsSome (by_verb verb.Meta (map string_bytes arguments.now))) }
+{
+    let [bug, key, value] = arguments else {
+        return Ok(None);
+    };
+    Ok(Some(metadata(alloc, bug, key.as_str(), value.as_str())?))
+}
+
+// An operation that changes nothing of a bug.
+fn noop(alloc: Global, arguments: &[String]) -> Reading
+    ensures read { IfOk result (λ read. read ≡ by_verb verb.Noop (map string_bytes arguments.now)) }
+    ensures memory { OnErr result (IsSome (by_verb verb.Noop (map string_bytes arguments.now))) }
+{
+    let [bug] = arguments else {
+        return Ok(None);
+    };
+    Ok(Some(Ok(of_bug(alloc, bug, BugEdit::Noop)?)))
+}
+
+// A bug as text.
+fn show(alloc: Global, arguments: &[String]) -> Reading
+    ensures read { IfOk result (λ read. read ≡ by_verb verb.Show (map string_bytes arguments.now)) }
+    ensures memory { OnErr result (IsSome (by_verb verb.Show (map string_bytes arguments.now))) }
+{
+    let [bug] = arguments else {
+        return Ok(None);
+    };
+    let bug = Text::from_str(alloc, bug.as_str())?;
+    Ok(Some(Ok(Command::Show { bug })))
+}
+
+// The log of a bug.
+fn log(alloc: Global, arguments: &[String]) -> Reading
+    ensures read { IfOk result (λ read. read ≡ by_verb verb.Log (map string_bytes arguments.now)) }
+    ensures memory { OnErr result (IsSome (by_verb verb.Log (map string_bytes arguments.now))) }
+{
+    let [bug] = arguments else {
+        return Ok(None);
+    };
+    let bug = Text::from_str(alloc, bug.as_str())?;
+    Ok(Some(Ok(Command::Log { bug })))
+}
+
+// An edit of the bug that an argument finds.
+fn of_bug(alloc: Global, bug: &String, edit: BugEdit) -> Result<Command, Memory>
+    ensures { IfOk result (λ command. command ≡ of_bug (string_bytes bug.now) edit) }
+{
+    Ok(Command::Edit(Edit::OfBug {
+        bug: Text::from_str(alloc, bug.as_str())?,
+        edit,
+    }))
+}
+
+// A person's name and email, or the place of the first of them that breaks its rule.
+fn person(alloc: Global, name: &str, email: &str) -> Result<Result<(Title, Line), u64>, Memory>
+    ensures { IfOk result (λ read. read ≡ person name.now email.now) }
+{
+    let name = Title::read(alloc, name)?;
+    let email = Line::read(alloc, email)?;
+    Ok(match (name, email) {
+        (Some(name), Some(email)) => Ok((name, email)),
+        (None, _) => Err(1),
+        (_, None) => Err(2),
+    })
+}
+
+// A new bug with this title and this message.
+fn new_bug(alloc: Global, title: &str, message: &str) -> Result<Result<Command, u64>, Memory>
+    ensures { IfOk result (λ read. read ≡ new_bug title.now message.now) }
+{
+    let title = Title::read(alloc, title)?;
+    let message = Message::read(alloc, message)?;
+    Ok(match (title, message) {
+        (Some(title), Some(message)) => Ok(Command::Edit(Edit::New { title, message })),
+        (None, _) => Err(1),
+        (_, None) => Err(2),
+    })
+}
+
+// A value under a key of a bug.
+fn metadata(
+    alloc: Global,
+    bug: &String,
+    key: &str,
+    value: &str,
+) -> Result<Result<Command, u64>, Memory>
+    ensures { IfOk result (λ read. read ≡ metadata (string_bytes bug.now) key.now value.now) }
+{
+    let key = Title::read(alloc, key)?;
+    let value = Message::read(alloc, value)?;
+    Ok(match (key, value) {
+        (Some(key), Some(value)) => Ok(of_bug(alloc, bug, BugEdit::Metadata { key, value })?),
+        (None, _) => Err(2),
+        (_, None) => Err(3),
+    })
+}
+
+// Titles, of which the first is the second argument; or the place of the first that is none.
+fn titles_from(
+    alloc: Global,
+    first: &String,
+    words: &[String],
+) -> Result<Result<List<Title>, u64>, Memory>
+    ensures { IfOk result (λ read. read
+        ≡ titles_from 2 (string_bytes first.now ∷ map string_bytes words.now)) }
+{
+    let mut titles = Vec::new(alloc);
+    let Some(title) = Title::read(alloc, first.as_str())? else {
+        return Ok(Err(2));
+    };
+    titles.push(title)?;
+    for (index, word) in words.iter().enumerate() {
+        let Some(title) = Title::read(alloc, word.as_str())? else {
+            return Ok(Err(index as u64 + 3));
+        };
+        titles.push(title)?;
+    }
+    Ok(Ok(List::from_vec(titles)))
+}
