@@ -13,5 +13,5 @@ pub use laws::{
     refs_leave_all_objects, refs_of_folders_apart,
 };
 pub use listing::{RefEntry, RefFound, list, place_of};
-pub use read::get;
+pub use read::{MOST_BYTES, get};
 pub use write::{set, write_of};

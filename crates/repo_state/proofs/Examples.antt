@@ -6,13 +6,13 @@ use Rattle.std.proofs.Common.{refl}
 use Rattle.hex.proofs.OnLiterals.{hex_on_literals}
 use Rattle.gb_text.specs.declared.id.Id.{Id}
 use Rattle.gb_store.specs.Files.{Files, Put}
+use Rattle.ref_store.specs.declared.read.TheConstants.{MOST_BYTES}
 use Rattle.repo_state.specs.Clocks.{clock_at, clock_write, see_writes}
 use Rattle.repo_state.specs.Finds.{Finds, Nothing, One}
 use Rattle.repo_state.specs.Sides.{ref_place}
 use Rattle.repo_state.specs.Users.{BadUser, NoUser, User, user_at, user_of, user_write}
 use Rattle.repo_state.specs.declared.clocks.ClockFile.TheVariants as file
 use Rattle.repo_state.specs.declared.side.Side.TheVariants as side
-use Rattle.repo_state.specs.declared.user_file.TheConstants.{MOST_BYTES}
 use Rattle.repo_state.proofs.FoundLemmas.{finds_no_digits, finds_no_ref, finds_one}
 
 abbrev id : Id

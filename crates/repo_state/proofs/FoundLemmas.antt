@@ -1,5 +1,5 @@
 -- What words and the user file find.
-use Rattle.std.proofs.Common.{◌≡◌, ◌↔◌, ℕ, Bool, true, false, IsTrue, cond, List, Option, Some, None, Ok, ◌⊎◌, inl, inr, refl, sym, ◌∙◌, ap, subst}
+use Rattle.std.proofs.Common.{◌≡◌, ◌↔◌, ℕ, Bool, true, false, IsTrue, cond, List, Option, Some, None, Ok, refl, sym, ◌∙◌, ap, subst}
 use Rattle.std.proofs.lemmas.Option.{same_Some}
 use Rattle.hex.specs.Hex.{encode_lower}
 use Rattle.gb_text.specs.Digits.{IsId, id_of}
@@ -13,15 +13,14 @@ use Rattle.ref_store.specs.Refs.{Ref, Absent, Head, Bad}
 use Rattle.repo_state.specs.Answers.{FindsRef, IsRefOf}
 use Rattle.repo_state.specs.Bugs.{IsLocal}
 use Rattle.repo_state.specs.Finds.{Finding, Finds, FindsEntity, FindsNoHead, FindsNoId, Fits, IsDetermined, Many, Nothing, One, head_finder, id_finder}
-use Rattle.repo_state.specs.Sides.{has_ref, head_at, is_there}
-use Rattle.repo_state.specs.Stops.{number_of}
-use Rattle.repo_state.specs.declared.refusal.Refusal.{Refusal}
-use Rattle.repo_state.specs.declared.refusal.Refusal.TheVariants as refusal
+use Rattle.repo_state.specs.Sides.{has_ref, head_at, is_there, ref_place}
 use Rattle.repo_state.specs.declared.refs.EntityRef.{EntityRef}
 use Rattle.repo_state.specs.declared.side.HeadEntry.{HeadEntry}
 use Rattle.repo_state.specs.Users.{BadUser, User, local_user, user_at, user_of, user_place}
 use Rattle.repo_state.specs.declared.side.Side.{Side}
 use Rattle.repo_state.specs.declared.side.Side.TheVariants as side
+use Rattle.repo_state.specs.declared.stop.Missed.{Missed}
+use Rattle.repo_state.specs.declared.stop.Missed.TheVariants as missed
 
 -- a ref that was read stands
 ref_stands : (ref : Ref) (head : Option Name) → IsRefOf ref head → IsTrue (is_there ref)
@@ -78,7 +77,7 @@ module _ {files : Files} {folder : List ℕ} {of : Side} {word : List ℕ} where
       λ i. record { id = ids i; name = names i }
 
   -- the ref of the id that a word is
-  pub finds_ref : (entity : EntityRef) → id_of word ≡ Some entity.id → IsRefOf (head_at files folder of entity.id) entity.head → FindsRef files folder of word (Ok entity)
+  pub finds_ref : (entity : EntityRef) → id_of word ≡ Some entity.id → IsRefOf (head_at files folder of entity.id) entity.head → FindsRef files folder of word (Ok (Some entity))
   finds_ref entity digits is = (finds_one entity.id digits (ref_stands (head_at files folder of entity.id) entity.head is), is)
 
   pub finds_no_entity : (id : Id) → id_of word ≡ Some id → head_at files folder of id ≡ Absent → Finds files folder of word Nothing
@@ -128,68 +127,41 @@ finds_nothing_by_digits files folder of word = (
 
 -- ---- finders
 
+-- a word is missed in one way, where it is not both found and not found, and of what is found one path is damaged
+pub one_missed : (Misses : Missed → Type 0) → ((path other : List ℕ) → Misses (missed.Damaged path) → Misses (missed.Damaged other) → path ≡ other)
+    → ((path : List ℕ) → Misses missed.NotFound → Misses (missed.Damaged path) → ⊥) → (one other : Missed) → Misses one → Misses other → one ≡ other
+one_missed Misses same apart missed.NotFound missed.NotFound first second = refl
+one_missed Misses same apart missed.NotFound (missed.Damaged path) none damaged = absurd (apart path none damaged)
+one_missed Misses same apart (missed.Damaged path) missed.NotFound damaged none = absurd (apart path none damaged)
+one_missed Misses same apart (missed.Damaged path) (missed.Damaged other) first second = ap missed.Damaged (same path other first second)
+
 module _ (of : Side) (files : Files) (folder word : List ℕ) where
-  pub no_id_is : (r : Refusal) → FindsNoId files folder of word r → Finds files folder of word Nothing × (r ≡ refusal.NotFound)
-  no_id_is refusal.NotFound none = (none, refl)
-  no_id_is (refusal.Damaged _) none = elim none [ ]
-  no_id_is refusal.NoUser none = elim none [ ]
-  no_id_is (refusal.BadText _) none = elim none [ ]
-  no_id_is refusal.NoLabelChange none = elim none [ ]
-  no_id_is refusal.SameStatus none = elim none [ ]
-  no_id_is (refusal.ClockFull _) none = elim none [ ]
-  no_id_is (refusal.EntityExists _) none = elim none [ ]
-  no_id_is (refusal.RepeatedOperation _) none = elim none [ ]
-  no_id_is (refusal.NameTaken _) none = elim none [ ]
-  no_id_is (refusal.TooLarge _) none = elim none [ ]
-  no_id_is (refusal.SomeRefused _) none = elim none [ ]
-  no_id_is refusal.BadFolder none = elim none [ ]
+  id_apart : (id : Id) (one : Missed) → Finds files folder of word (One id) → FindsNoId files folder of word one → ⊥
+  id_apart id missed.NotFound found none = finds_not_both id found none
+  id_apart id (missed.Damaged path) found none = none
 
   pub ids_are_determined : IsDetermined (id_finder of files folder word)
   ids_are_determined = record {
     one = finds_the_same;
-    apart = λ id r found fails. finds_not_both id found (no_id_is r fails).0;
-    number = λ r other first second. ap number_of ((no_id_is r first).1 ∙ sym (no_id_is other second).1);
+    apart = id_apart;
+    same = one_missed (FindsNoId files folder of word) (λ path other first second. absurd first) (λ path none damaged. damaged);
   }
 
-  -- a refusal with which no head is found, and why
-  abbrev no_head_for : Refusal → Type 0
-  no_head_for r =
-      (Finds files folder of word Nothing × (r ≡ refusal.NotFound))
-      ⊎ ((path : List ℕ) × (r ≡ refusal.Damaged path) × (id : Id) × Finds files folder of word (One id) × (head_at files folder of id ≡ Bad))
-
-  pub no_head_is : (r : Refusal) → FindsNoHead files folder of word r → no_head_for r
-  no_head_is refusal.NotFound none = inl (none, refl)
-  no_head_is (refusal.Damaged path) (id, found, bad) = inr (path, refl, id, found, bad.1)
-  no_head_is refusal.NoUser none = elim none [ ]
-  no_head_is (refusal.BadText _) none = elim none [ ]
-  no_head_is refusal.NoLabelChange none = elim none [ ]
-  no_head_is refusal.SameStatus none = elim none [ ]
-  no_head_is (refusal.ClockFull _) none = elim none [ ]
-  no_head_is (refusal.EntityExists _) none = elim none [ ]
-  no_head_is (refusal.RepeatedOperation _) none = elim none [ ]
-  no_head_is (refusal.NameTaken _) none = elim none [ ]
-  no_head_is (refusal.TooLarge _) none = elim none [ ]
-  no_head_is (refusal.SomeRefused _) none = elim none [ ]
-  no_head_is refusal.BadFolder none = elim none [ ]
-
-  no_head_with : (e : HeadEntry) (r : Refusal) → FindsEntity files folder of word e → no_head_for r → ⊥
-  no_head_with e r found (inl none) = finds_not_both e.id found.found none.0
-  no_head_with e r found (inr (path, told, id, is, bad)) =
-      let same : e.id ≡ id = finds_the_same e.id id found.found is in
-      let heads : Head e.name ≡ Bad = sym found.head ∙ ap (head_at files folder of) same ∙ bad in
+  head_apart : (e : HeadEntry) (one : Missed) → FindsEntity files folder of word e → FindsNoHead files folder of word one → ⊥
+  head_apart e missed.NotFound found none = finds_not_both e.id found.found none
+  head_apart e (missed.Damaged path) found (id, is, bad) =
+      let heads : Head e.name ≡ Bad = sym found.head ∙ ap (head_at files folder of) (finds_the_same e.id id found.found is) ∙ bad.1 in
       cc (heads)
 
-  no_heads_number : (r other : Refusal) → no_head_for r → no_head_for other → number_of r ≡ number_of other
-  no_heads_number r other (inl first) (inl second) = ap number_of (first.1 ∙ sym second.1)
-  no_heads_number r other (inl none) (inr (path, told, id, is, bad)) = absurd (finds_not_both id is none.0)
-  no_heads_number r other (inr (path, told, id, is, bad)) (inl none) = absurd (finds_not_both id is none.0)
-  no_heads_number r other (inr first) (inr second) = ap number_of first.1 ∙ sym (ap number_of second.1)
+  one_bad_ref : (path other : List ℕ) → FindsNoHead files folder of word (missed.Damaged path) → FindsNoHead files folder of word (missed.Damaged other) → path ≡ other
+  one_bad_ref path other (id, found, bad) (same, also, there) =
+      bad.0 ∙ ap (λ (one : Id). joined folder (ref_place of one)) (finds_the_same id same found also) ∙ sym there.0
 
   pub heads_are_determined : IsDetermined (head_finder of files folder word)
   heads_are_determined = record {
     one = finds_one_entity;
-    apart = λ e r found fails. no_head_with e r found (no_head_is r fails);
-    number = λ r other first second. no_heads_number r other (no_head_is r first) (no_head_is other second);
+    apart = head_apart;
+    same = one_missed (FindsNoHead files folder of word) one_bad_ref (λ path none damaged. finds_not_both damaged.0 damaged.1 none);
   }
 
 -- the user is a local identity

@@ -25,6 +25,7 @@ use Rattle.ref_store.specs.Refs.{Ref, Head, head_or_bad, ref_of}
 use Rattle.ref_store.specs.Setting.{ref_write}
 use Rattle.ref_store.proofs.MapLemmas.{joined-same, set_ref_reads, written-other, written-same}
 use Rattle.ref_store.proofs.RefLemmas.{line_of-more}
+use Rattle.ref_store.specs.declared.read.TheConstants.{MOST_BYTES}
 use Rattle.repo_state.specs.Clocks.{clock_at, clock_in, clock_place, clock_write, see_writes}
 use Rattle.repo_state.specs.Sides.{has_ref, head_at, is_there, ref_place}
 use Rattle.repo_state.specs.Sound.{IsNamedSide}
@@ -32,7 +33,6 @@ use Rattle.repo_state.specs.Users.{BadUser, User, id_line, local_user, user_at, 
 use Rattle.repo_state.specs.declared.clocks.ClockFile.{ClockFile}
 use Rattle.repo_state.specs.declared.side.Side.{Side}
 use Rattle.repo_state.specs.declared.side.Side.TheVariants as side
-use Rattle.repo_state.specs.declared.user_file.TheConstants.{MOST_BYTES}
 use Rattle.repo_state.proofs.PlaceLemmas.{clock-not_object, clock-not_user, clock-other, ref-not_clock, ref-not_object, ref-not_user, ref_place-same, ref_place-side, same_or_other, user-not_object}
 
 -- ---- objects

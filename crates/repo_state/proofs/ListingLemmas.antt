@@ -25,9 +25,8 @@ use Rattle.ref_store.specs.declared.listing.RefFound.{RefFound}
 use Rattle.ref_store.specs.declared.listing.RefFound.TheVariants as found
 use Rattle.repo_state.specs.Answers.{HasBadRef, HeadsOf, IsBehind, Reads, as_entry}
 use Rattle.repo_state.specs.Sides.{AreHeads, AreIds, IsBefore, IsFirst, dir_of, has_ref, head_at, is_there}
-use Rattle.repo_state.specs.declared.refusal.Refusal.TheVariants as refusal
-use Rattle.repo_state.specs.declared.refusal.Stop.{Stop}
-use Rattle.repo_state.specs.declared.refusal.Stop.TheVariants as stop
+use Rattle.repo_state.specs.declared.stop.ReadStop.{ReadStop}
+use Rattle.repo_state.specs.declared.stop.ReadStop.TheVariants as stop
 use Rattle.repo_state.specs.declared.side.HeadEntry.{HeadEntry}
 use Rattle.repo_state.specs.declared.side.Side.{Side}
 
@@ -213,14 +212,13 @@ module _ (files : Files) (folder : List ℕ) (of : Side) (entries : List RefEntr
             | inr later ↦ greater e later before
           ]
 
-  -- the refusal for the first that does not read
-  pub stops_at_bad_ref : (s : Stop) → HeadsOf folder of entries (Err s) → Reads {T = List HeadEntry} (AreHeads files folder of) (HasBadRef files folder of) (Err s)
+  -- `Damaged` for the first that does not read
+  pub stops_at_bad_ref : (s : ReadStop) → HeadsOf folder of entries (Err s) → Reads {T = List HeadEntry} (AreHeads files folder of) (HasBadRef files folder of) (Err s)
   stops_at_bad_ref stop.Memory h = h
   stops_at_bad_ref stop.Disk h = absurd h
-  stops_at_bad_ref (stop.Refused (refusal.Damaged path)) (id, heads, before, at) =
+  stops_at_bad_ref (stop.Damaged path) (id, heads, before, at) =
       let entry : RefEntry = record { id = id; found = found.Bad } in
       let stands : (one : Id) → head_at files folder of one ≡ Bad → IsTrue (has_ref files folder of one) = λ one bad. ap is_there bad in
       let none : (e : HeadEntry) → Contains heads e → head_at files folder of e.id ≡ Bad → ⊥ =
       λ e has bad. let both : Head e.name ≡ Bad = sym (sooner_reads heads entry before e has) ∙ bad in cc (both) in
       (id, first_of_refs (λ one. head_at files folder of one ≡ Bad) stands heads entry before (entry_is_bad heads entry before refl) none, at)
-  stops_at_bad_ref (stop.Refused _) h = h

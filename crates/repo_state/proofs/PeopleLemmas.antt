@@ -20,9 +20,8 @@ use Rattle.ref_store.specs.declared.listing.RefFound.TheVariants as found
 use Rattle.repo_state.specs.Answers.{ArePersons, HasBadPerson, HeadOf, HeadsOf, IsBadFound, IsBadPerson, IsBehind, PeopleOf, PersonAt, PersonOf, Reads, ReadsPeople, as_entry, head_shown}
 use Rattle.repo_state.specs.People.{AllShow, ArePeople}
 use Rattle.repo_state.specs.Sides.{dir_of, has_ref, is_there, ref_place}
-use Rattle.repo_state.specs.declared.refusal.Refusal.TheVariants as refusal
-use Rattle.repo_state.specs.declared.refusal.Stop.{Stop}
-use Rattle.repo_state.specs.declared.refusal.Stop.TheVariants as stop
+use Rattle.repo_state.specs.declared.stop.ReadStop.{ReadStop}
+use Rattle.repo_state.specs.declared.stop.ReadStop.TheVariants as stop
 use Rattle.repo_state.specs.declared.side.HeadEntry.{HeadEntry}
 use Rattle.repo_state.specs.declared.side.Side.{Side}
 use Rattle.repo_state.specs.declared.side.Side.TheVariants as side
@@ -55,24 +54,22 @@ ArePersons-more objects entries people k d person lt are is shows = record {
 }
 
 -- what is told of the head of a ref is told of the ref
-pub by_its_head : (files : Files) (folder : List ℕ) (head : HeadEntry) (entry : RefEntry) → as_entry head ≡ entry → (result : Result Person Stop)
+pub by_its_head : (files : Files) (folder : List ℕ) (head : HeadEntry) (entry : RefEntry) → as_entry head ≡ entry → (result : Result Person ReadStop)
     → PersonAt files folder head result → PersonOf files folder entry result
 by_its_head files folder head entry is (Ok person) shows =
     let same : head_shown person ≡ head = ap head_shown shows.is in
     (ap as_entry same ∙ is, subst (λ (e : HeadEntry). Shows (objects_in files folder) e.id e.name person) (sym same) shows)
 by_its_head files folder head entry is (Err stop.Memory) told = tt
 by_its_head files folder head entry is (Err stop.Disk) told = tt
-by_its_head files folder head entry is (Err (stop.Refused (refusal.Damaged path))) told =
+by_its_head files folder head entry is (Err (stop.Damaged path)) told =
     subst (λ (e : RefEntry). (path ≡ joined folder (ref_place side.Identities e.id)) × IsBadFound (objects_in files folder) e.found) is (told.0, (told.1, told.2))
-by_its_head files folder head entry is (Err (stop.Refused _)) told = absurd told
 
 -- a ref that is no ref text has no person
-pub no_head : (files : Files) (folder : List ℕ) (entry : RefEntry) (s : Stop) → HeadOf folder side.Identities entry (Err s) → PersonOf files folder entry (Err s)
+pub no_head : (files : Files) (folder : List ℕ) (entry : RefEntry) (s : ReadStop) → HeadOf folder side.Identities entry (Err s) → PersonOf files folder entry (Err s)
 no_head files folder entry stop.Memory told = tt
 no_head files folder entry stop.Disk told = absurd told
-no_head files folder entry (stop.Refused (refusal.Damaged path)) told =
+no_head files folder entry (stop.Damaged path) told =
     (told.1, subst (IsBadFound (objects_in files folder)) (sym told.0) tt)
-no_head files folder entry (stop.Refused _) told = absurd told
 
 -- the list up to a place, what stands there, and the rest
 split_at : {X : Type 0} (xs : List X) (k : ℕ) (d : X) → k < length xs → xs ≡ take k xs ++ get_or xs k d ∷ drop (k + 1) xs
@@ -80,10 +77,10 @@ split_at xs k d lt = sym (take-append-drop k xs) ∙ ap (λ (rest : List _). tak
 
 -- the heads of refs up to one that has none
 pub heads_stop : (folder : List ℕ) (of : Side) (entries : List RefEntry) (heads : List HeadEntry) (k : ℕ) (d : RefEntry) → k < length entries
-    → map as_entry heads ≡ take k entries → (s : Stop) → HeadOf folder of (get_or entries k d) (Err s) → HeadsOf folder of entries (Err s)
+    → map as_entry heads ≡ take k entries → (s : ReadStop) → HeadOf folder of (get_or entries k d) (Err s) → HeadsOf folder of entries (Err s)
 heads_stop folder of entries heads k d lt are stop.Memory told = tt
 heads_stop folder of entries heads k d lt are stop.Disk told = absurd told
-heads_stop folder of entries heads k d lt are (stop.Refused (refusal.Damaged path)) told =
+heads_stop folder of entries heads k d lt are (stop.Damaged path) told =
     let entry = get_or entries k d in
     let bad : entry ≡ record { id = entry.id; found = found.Bad } = λ i. record { id = entry.id; found = told.0 i } in (
       entry.id,
@@ -95,17 +92,15 @@ heads_stop folder of entries heads k d lt are (stop.Refused (refusal.Damaged pat
       ),
       told.1,
     )
-heads_stop folder of entries heads k d lt are (stop.Refused _) told = absurd told
 
 -- the people of refs up to one that has none
 pub people_stop : (files : Files) (folder : List ℕ) (entries : List RefEntry) (people : List Person) (k : ℕ) (d : RefEntry) → k < length entries
-    → ArePersons (objects_in files folder) (take k entries) people → (s : Stop) → PersonOf files folder (get_or entries k d) (Err s) → PeopleOf files folder entries (Err s)
+    → ArePersons (objects_in files folder) (take k entries) people → (s : ReadStop) → PersonOf files folder (get_or entries k d) (Err s) → PeopleOf files folder entries (Err s)
 people_stop files folder entries people k d lt are stop.Memory told = tt
 people_stop files folder entries people k d lt are stop.Disk told = tt
-people_stop files folder entries people k d lt are (stop.Refused (refusal.Damaged path)) told =
+people_stop files folder entries people k d lt are (stop.Damaged path) told =
     let entry = get_or entries k d in
     (people, entry, (drop (k + 1) entries, split_at entries k d lt ∙ ap (λ (es : List RefEntry). es ++ entry ∷ drop (k + 1) entries) (sym are.heads)), are.shown, told.0, told.1)
-people_stop files folder entries people k d lt are (stop.Refused _) told = absurd told
 
 -- ---- the first that has none
 
@@ -139,17 +134,16 @@ module _ (files : Files) (folder : List ℕ) (entries : List RefEntry) (are : Is
       let shows = shows_at (objects_in files folder) heads people e shown has in
       no_fault_at (objects_in files folder) e.name shows.1.version fault shows.1.has (subst (λ (name : Name). HasNoVersion (objects_in files folder) name fault) (sym same) wrong)
 
-  -- the refusal for the first that is damaged
-  pub stops_at_bad_person : (s : Stop) → PeopleOf files folder entries (Err s) → Reads {T = List Person} (ArePeople files folder) (HasBadPerson files folder) (Err s)
+  -- `Damaged` for the first that is damaged
+  pub stops_at_bad_person : (s : ReadStop) → PeopleOf files folder entries (Err s) → Reads {T = List Person} (ArePeople files folder) (HasBadPerson files folder) (Err s)
   stops_at_bad_person stop.Memory h = h
   stops_at_bad_person stop.Disk h = h
-  stops_at_bad_person (stop.Refused (refusal.Damaged path)) (people, entry, behind, shown, at, bad) = (
+  stops_at_bad_person (stop.Damaged path) (people, entry, behind, shown, at, bad) = (
     entry.id,
     first_of_refs files folder side.Identities entries are (IsBadPerson files folder) bad_stands (map head_shown people) entry behind
         (bad_entry (map head_shown people) entry behind entry.found refl bad) (none_sooner (map head_shown people) people entry behind shown),
     at,
   )
-  stops_at_bad_person (stop.Refused _) h = h
 
   -- the people of all
   pub people_of_refs : (people : List Person) → ArePersons (objects_in files folder) entries people → ArePeople files folder people

@@ -1,6 +1,6 @@
 -- What a user file names, and that it is no object.
 use Rattle.std.proofs.Common.{◌≡◌, ℕ, ◌+◌, ◌-◌, ◌*◌, ◌<◌, ◌==◌, Bool, true, false, List, [], ◌∷◌, ◌++◌, length, take, drop, Option, Some, None, IsTrue, refl, sym, ◌∙◌, ap, subst, append_assoc, arith, length-append, length-drop, eqb-true}
-use Rattle.std.specs.Prelude.{codes}
+use Rattle.std.specs.Prelude.{codes, IsErrOf, OnOk, Result, Ok, Err}
 use Rattle.std.proofs.Math.Seq.{drop-append_seam}
 use Rattle.std.proofs.lemmas.List.{take-append-drop}
 use Rattle.std.proofs.lemmas.List.Folds.{list_all-append}
@@ -15,12 +15,14 @@ use Rattle.gb_text.specs.declared.id.Id.{Id}
 use Rattle.gb_text.proofs.DigitLemmas.{id_of-is}
 use Rattle.gb_store.specs.Files.{Files, History, Put}
 use Rattle.gb_store.specs.Moments.{MaybeWrote, WroteIf}
+use Rattle.gb_store.specs.declared.fault.StoreFault.{StoreFault}
+use Rattle.gb_store.specs.declared.fault.StoreFault.TheVariants as store
 use Rattle.gb_store.specs.declared.store.Change.{Change}
 use Rattle.gb_store.proofs.MomentLemmas.{WroteIf_one}
 use Rattle.gb_store.specs.ObjectPath.{is_object_path, reads_after}
 use Rattle.gb_store.proofs.ObjectPathLemmas.{form_of_parts}
 use Rattle.ref_store.proofs.IdPathLemmas.{both}
-use Rattle.repo_state.specs.Answers.{PutsUser}
+use Rattle.repo_state.specs.Answers.{PutAnswers, PutsUser}
 use Rattle.repo_state.specs.Users.{BadUser, id_line, local_user, user_of, user_place, user_write}
 
 -- ---- a user file is short
@@ -76,6 +78,13 @@ pub reads_none : (folder path : List ℕ) (old new : ℕ) → path ≡ joined fo
 reads_none folder path old new at reads = reads ∙ rw (ap is_object_path at ∙ user_place_is_no_object folder) refl
 
 -- ---- the write of the user
+
+-- what a store answers to a put is the answer to that write
+pub put_answers : (change : Change) (old new : History) (result : Result Unit StoreFault) → OnOk result (new ≡ change ∷ old) → MaybeWrote change old new
+    → (IsErrOf result store.Memory → new ≡ old) → PutAnswers change old new result
+put_answers change old new (Ok done) made maybe none = made
+put_answers change old new (Err store.Memory) made maybe none = none refl
+put_answers change old new (Err store.Failed) made maybe none = maybe
 
 -- an id's line that is put at the user file is the write of that user
 pub user_write-is : (folder place line : List ℕ) (id : Id) → place ≡ joined folder user_place → line ≡ id_line id → Put place line ≡ user_write folder id

@@ -7,6 +7,8 @@ use Rattle.gb_text.specs.declared.id.Id.{Id}
 use Rattle.gb_text.specs.declared.id.Name.{Name}
 use Rattle.gb_store.specs.Files.{Files, History, files_of}
 use Rattle.gb_store.specs.Moments.{MaybeWrote, WroteSome}
+use Rattle.gb_store.specs.declared.fault.StoreFault.{StoreFault}
+use Rattle.gb_store.specs.declared.fault.StoreFault.TheVariants as store
 use Rattle.gb_store.specs.declared.store.Change.{Change}
 use Rattle.object_store.specs.Held.{Objects, objects_in}
 use Rattle.ref_store.specs.Refs.{Ref, Absent, Head, Bad}
@@ -23,53 +25,19 @@ use Rattle.repo_state.specs.Sides.{AreIds, IsBadRef, IsFirst, head_at, ref_place
 use Rattle.repo_state.specs.Users.{UserFound, NoUser, User, BadUser, user_at, user_place, user_write}
 use Rattle.repo_state.specs.People.{AllShow}
 use Rattle.repo_state.specs.declared.clocks.ClockFile.{ClockFile}
-use Rattle.repo_state.specs.declared.refusal.Refusal.TheVariants as refusal
-use Rattle.repo_state.specs.declared.refusal.Stop.{Stop}
-use Rattle.repo_state.specs.declared.refusal.Stop.TheVariants as stop
 use Rattle.repo_state.specs.declared.refs.EntityRef.{EntityRef}
 use Rattle.repo_state.specs.declared.side.HeadEntry.{HeadEntry}
 use Rattle.repo_state.specs.declared.side.Side.{Side}
 use Rattle.repo_state.specs.declared.side.Side.TheVariants as side
-
--- an answer that is no refusal
-abbrev pub NeverRefused : {T : Type 0} → Result T Stop → Type 0
-NeverRefused (Ok value) = ⊤
-NeverRefused (Err stop.Memory) = ⊤
-NeverRefused (Err stop.Disk) = ⊤
-NeverRefused (Err (stop.Refused r)) = ⊥
-
--- an answer that is no refusal, but for damage
-abbrev pub OnlyDamaged : {T : Type 0} → Result T Stop → Type 0
-OnlyDamaged (Ok value) = ⊤
-OnlyDamaged (Err stop.Memory) = ⊤
-OnlyDamaged (Err stop.Disk) = ⊤
-OnlyDamaged (Err (stop.Refused (refusal.Damaged path))) = ⊤
-OnlyDamaged (Err (stop.Refused _)) = ⊥
-
--- an answer that is no refusal, but that nothing was found
-abbrev pub OnlyNotFound : {T : Type 0} → Result T Stop → Type 0
-OnlyNotFound (Ok value) = ⊤
-OnlyNotFound (Err stop.Memory) = ⊤
-OnlyNotFound (Err stop.Disk) = ⊤
-OnlyNotFound (Err (stop.Refused refusal.NotFound)) = ⊤
-OnlyNotFound (Err (stop.Refused _)) = ⊥
-
--- or that a file is damaged
-abbrev pub OnlyMissed : {T : Type 0} → Result T Stop → Type 0
-OnlyMissed (Ok value) = ⊤
-OnlyMissed (Err stop.Memory) = ⊤
-OnlyMissed (Err stop.Disk) = ⊤
-OnlyMissed (Err (stop.Refused refusal.NotFound)) = ⊤
-OnlyMissed (Err (stop.Refused (refusal.Damaged path))) = ⊤
-OnlyMissed (Err (stop.Refused _)) = ⊥
+use Rattle.repo_state.specs.declared.stop.ReadStop.{ReadStop}
+use Rattle.repo_state.specs.declared.stop.ReadStop.TheVariants as stop
 
 -- a value that is so, or a file that is damaged so
-abbrev pub Reads : {T : Type 0} → (T → Type 0) → (List ℕ → Type 0) → Result T Stop → Type 0
+abbrev pub Reads : {T : Type 0} → (T → Type 0) → (List ℕ → Type 0) → Result T ReadStop → Type 0
 Reads Is IsDamaged (Ok value) = Is value
 Reads Is IsDamaged (Err stop.Memory) = ⊤
 Reads Is IsDamaged (Err stop.Disk) = ⊤
-Reads Is IsDamaged (Err (stop.Refused (refusal.Damaged path))) = IsDamaged path
-Reads Is IsDamaged (Err (stop.Refused _)) = ⊥
+Reads Is IsDamaged (Err (stop.Damaged path)) = IsDamaged path
 
 -- the head of a ref, or none where no ref stands
 abbrev pub IsHeadAt : Files → List ℕ → Side → Id → Option Name → Type 0
@@ -104,32 +72,28 @@ ReadsPeople files folder old new =
     (new ≡ old) ⊎ ((ids : List Id) × AreIds files folder side.Identities ids × (new ≤ old + 3 * length ids))
 
 -- the answer to a write, and whether it was made
-abbrev pub PutAnswers : Change → History → History → Result Unit Stop → Type 0
+abbrev pub PutAnswers : Change → History → History → Result Unit StoreFault → Type 0
 PutAnswers change old new (Ok done) = new ≡ change ∷ old
-PutAnswers change old new (Err stop.Memory) = new ≡ old
-PutAnswers change old new (Err stop.Disk) = MaybeWrote change old new
-PutAnswers change old new (Err (stop.Refused r)) = ⊥
+PutAnswers change old new (Err store.Memory) = new ≡ old
+PutAnswers change old new (Err store.Failed) = MaybeWrote change old new
 
 -- the answer to a clock that sees a number: its write was made where the clock changes, or was not
-abbrev pub SeeAnswers : List ℕ → ClockFile → ℕ → History → History → Result Unit Stop → Type 0
+abbrev pub SeeAnswers : List ℕ → ClockFile → ℕ → History → History → Result Unit StoreFault → Type 0
 SeeAnswers folder which number old new (Ok done) = new ≡ reverse (see_writes folder which (clock_at (files_of old) folder which) number) ++ old
-SeeAnswers folder which number old new (Err stop.Memory) = WroteSome (see_writes folder which (clock_at (files_of old) folder which) number) old new
-SeeAnswers folder which number old new (Err stop.Disk) = WroteSome (see_writes folder which (clock_at (files_of old) folder which) number) old new
-SeeAnswers folder which number old new (Err (stop.Refused r)) = ⊥
+SeeAnswers folder which number old new (Err fault) = WroteSome (see_writes folder which (clock_at (files_of old) folder which) number) old new
 
 -- a write of the user file, of this identity
 abbrev pub PutsUser : List ℕ → Id → Files → Change → Type 0
 PutsUser folder id files change = change ≡ user_write folder id
 
 -- the user with its head, or none where no user file stands; or the path of the user file or of the user's ref, which is damaged
-abbrev pub FindsUser : Files → List ℕ → Result (Option HeadEntry) Stop → Type 0
+abbrev pub FindsUser : Files → List ℕ → Result (Option HeadEntry) ReadStop → Type 0
 FindsUser files folder (Ok None) = user_at files folder ≡ NoUser
 FindsUser files folder (Ok (Some e)) = (user_at files folder ≡ User e.id) × (head_at files folder side.Identities e.id ≡ Head e.name)
 FindsUser files folder (Err stop.Memory) = ⊤
 FindsUser files folder (Err stop.Disk) = ⊤
-FindsUser files folder (Err (stop.Refused (refusal.Damaged path))) =
+FindsUser files folder (Err (stop.Damaged path)) =
     IsBadUser files folder path ⊎ ((id : Id) × (user_at files folder ≡ User id) × IsBadRef files folder side.Identities id path)
-FindsUser files folder (Err (stop.Refused _)) = ⊥
 
 -- ---- parts of the reads
 
@@ -139,65 +103,60 @@ IsRefOf ref None = ref ≡ Bad
 IsRefOf ref (Some name) = ref ≡ Head name
 
 -- the ref of an id, or that none stands
-abbrev pub EntityAnswers : Files → List ℕ → Side → Id → Result (Option EntityRef) Stop → Type 0
+abbrev pub EntityAnswers : Files → List ℕ → Side → Id → Result (Option EntityRef) StoreFault → Type 0
 EntityAnswers files folder of id (Ok None) = head_at files folder of id ≡ Absent
 EntityAnswers files folder of id (Ok (Some entity)) = (entity.id ≡ id) × IsRefOf (head_at files folder of id) entity.head
-EntityAnswers files folder of id (Err stop.Memory) = ⊤
-EntityAnswers files folder of id (Err stop.Disk) = ⊤
-EntityAnswers files folder of id (Err (stop.Refused r)) = ⊥
+EntityAnswers files folder of id (Err fault) = ⊤
 
 -- the ref that a word finds, or that it finds none
-abbrev pub FindsRef : Files → List ℕ → Side → List ℕ → Result EntityRef Stop → Type 0
-FindsRef files folder of word (Ok entity) = Finds files folder of word (One entity.id) × IsRefOf (head_at files folder of entity.id) entity.head
-FindsRef files folder of word (Err stop.Memory) = ⊤
-FindsRef files folder of word (Err stop.Disk) = ⊤
-FindsRef files folder of word (Err (stop.Refused refusal.NotFound)) = Finds files folder of word Nothing
-FindsRef files folder of word (Err (stop.Refused _)) = ⊥
+abbrev pub FindsRef : Files → List ℕ → Side → List ℕ → Result (Option EntityRef) StoreFault → Type 0
+FindsRef files folder of word (Ok None) = Finds files folder of word Nothing
+FindsRef files folder of word (Ok (Some entity)) = Finds files folder of word (One entity.id) × IsRefOf (head_at files folder of entity.id) entity.head
+FindsRef files folder of word (Err fault) = ⊤
 
--- the head of a ref that stands, or the refusal of one that is no ref text
-abbrev pub WholeAnswers : List ℕ → Side → EntityRef → Result HeadEntry Stop → Type 0
+-- the head of a ref that stands, or `Damaged` for one that is no ref text
+abbrev pub WholeAnswers : List ℕ → Side → EntityRef → Result HeadEntry ReadStop → Type 0
 WholeAnswers folder of entity (Ok e) = (e.id ≡ entity.id) × (entity.head ≡ Some e.name)
 WholeAnswers folder of entity (Err stop.Memory) = ⊤
-WholeAnswers folder of entity (Err (stop.Refused (refusal.Damaged path))) = (entity.head ≡ None) × (path ≡ joined folder (ref_place of entity.id))
-WholeAnswers folder of entity (Err _) = ⊥
+WholeAnswers folder of entity (Err stop.Disk) = ⊥
+WholeAnswers folder of entity (Err (stop.Damaged path)) = (entity.head ≡ None) × (path ≡ joined folder (ref_place of entity.id))
 
--- the refusal for the damaged ref of an id, unless memory ran out
-abbrev pub DamagedRef : List ℕ → Side → Id → Stop → Type 0
+-- `Damaged` with the path of an id's ref, unless memory ran out
+abbrev pub DamagedRef : List ℕ → Side → Id → ReadStop → Type 0
 DamagedRef folder of id stop.Memory = ⊤
-DamagedRef folder of id (stop.Refused (refusal.Damaged path)) = path ≡ joined folder (ref_place of id)
-DamagedRef folder of id _ = ⊥
+DamagedRef folder of id stop.Disk = ⊥
+DamagedRef folder of id (stop.Damaged path) = path ≡ joined folder (ref_place of id)
 
 -- the answer to a read of the user and its ref, by the user that a file at a path names
-abbrev pub UserAnswers : Files → List ℕ → List ℕ → UserFound → Result (Option EntityRef) Stop → Type 0
+abbrev pub UserAnswers : Files → List ℕ → List ℕ → UserFound → Result (Option EntityRef) ReadStop → Type 0
 UserAnswers files folder path user (Ok None) = user ≡ NoUser
 UserAnswers files folder path user (Ok (Some entity)) = (user ≡ User entity.id) × IsRefOf (head_at files folder side.Identities entity.id) entity.head
 UserAnswers files folder path user (Err stop.Memory) = ⊤
 UserAnswers files folder path user (Err stop.Disk) = ⊤
-UserAnswers files folder path user (Err (stop.Refused (refusal.Damaged at))) = (at ≡ path) × (user ≡ BadUser)
-UserAnswers files folder path user (Err (stop.Refused _)) = ⊥
+UserAnswers files folder path user (Err (stop.Damaged at)) = (at ≡ path) × (user ≡ BadUser)
 
 -- the head of an entry
 abbrev pub as_entry : HeadEntry → RefEntry
 as_entry e = record { id = e.id; found = found.Head e.name }
 
 -- the head of a ref, which reads; or the path of one that is no ref text
-abbrev pub HeadOf : List ℕ → Side → RefEntry → Result HeadEntry Stop → Type 0
+abbrev pub HeadOf : List ℕ → Side → RefEntry → Result HeadEntry ReadStop → Type 0
 HeadOf folder of entry (Ok head) = as_entry head ≡ entry
 HeadOf folder of entry (Err stop.Memory) = ⊤
-HeadOf folder of entry (Err (stop.Refused (refusal.Damaged path))) = (entry.found ≡ found.Bad) × (path ≡ joined folder (ref_place of entry.id))
-HeadOf folder of entry (Err _) = ⊥
+HeadOf folder of entry (Err stop.Disk) = ⊥
+HeadOf folder of entry (Err (stop.Damaged path)) = (entry.found ≡ found.Bad) × (path ≡ joined folder (ref_place of entry.id))
 
 -- refs that read, and behind them this one
 abbrev pub IsBehind : List RefEntry → List HeadEntry → RefEntry → Type 0
 IsBehind entries heads entry = (rest : List RefEntry) × (entries ≡ map as_entry heads ++ entry ∷ rest)
 
 -- the heads of these refs, all of which read; or the path of the first that is no ref text
-abbrev pub HeadsOf : List ℕ → Side → List RefEntry → Result (Vec HeadEntry Global) Stop → Type 0
+abbrev pub HeadsOf : List ℕ → Side → List RefEntry → Result (Vec HeadEntry Global) ReadStop → Type 0
 HeadsOf folder of entries (Ok heads) = map as_entry heads.items ≡ entries
 HeadsOf folder of entries (Err stop.Memory) = ⊤
-HeadsOf folder of entries (Err (stop.Refused (refusal.Damaged path))) =
+HeadsOf folder of entries (Err stop.Disk) = ⊥
+HeadsOf folder of entries (Err (stop.Damaged path)) =
     (id : Id) × (heads : List HeadEntry) × IsBehind entries heads (record { id = id; found = found.Bad }) × (path ≡ joined folder (ref_place of id))
-HeadsOf folder of entries (Err _) = ⊥
 
 -- the head that a person was read of
 abbrev pub head_shown : Person → HeadEntry
@@ -209,22 +168,20 @@ IsBadFound objects found.Bad = ⊤
 IsBadFound objects (found.Head name) = (fault : IdentityFault) × HasNoVersion objects name fault
 
 -- the person of an identity's head, or its ref's path where the head has no version
-abbrev pub PersonAt : Files → List ℕ → HeadEntry → Result Person Stop → Type 0
+abbrev pub PersonAt : Files → List ℕ → HeadEntry → Result Person ReadStop → Type 0
 PersonAt files folder e (Ok person) = Shows (objects_in files folder) e.id e.name person
 PersonAt files folder e (Err stop.Memory) = ⊤
 PersonAt files folder e (Err stop.Disk) = ⊤
-PersonAt files folder e (Err (stop.Refused (refusal.Damaged path))) =
+PersonAt files folder e (Err (stop.Damaged path)) =
     (path ≡ joined folder (ref_place side.Identities e.id)) × (fault : IdentityFault) × HasNoVersion (objects_in files folder) e.name fault
-PersonAt files folder e (Err _) = ⊥
 
 -- the person of an identity's ref, or the ref's path where it is no ref text or its head has no version
-abbrev pub PersonOf : Files → List ℕ → RefEntry → Result Person Stop → Type 0
+abbrev pub PersonOf : Files → List ℕ → RefEntry → Result Person ReadStop → Type 0
 PersonOf files folder entry (Ok person) = (as_entry (head_shown person) ≡ entry) × Shows (objects_in files folder) person.id person.head person
 PersonOf files folder entry (Err stop.Memory) = ⊤
 PersonOf files folder entry (Err stop.Disk) = ⊤
-PersonOf files folder entry (Err (stop.Refused (refusal.Damaged path))) =
+PersonOf files folder entry (Err (stop.Damaged path)) =
     (path ≡ joined folder (ref_place side.Identities entry.id)) × IsBadFound (objects_in files folder) entry.found
-PersonOf files folder entry (Err _) = ⊥
 
 -- people of the heads that they were read of, which are those of the first of some refs
 pub record ArePersons (objects : Objects) (entries : List RefEntry) (people : List Person) : Type 0 where
@@ -232,11 +189,10 @@ pub record ArePersons (objects : Objects) (entries : List RefEntry) (people : Li
   pub shown : AllShow objects (map head_shown people) people
 
 -- the people of these refs, or the path of the first that is damaged
-abbrev pub PeopleOf : Files → List ℕ → List RefEntry → Result (Vec Person Global) Stop → Type 0
+abbrev pub PeopleOf : Files → List ℕ → List RefEntry → Result (Vec Person Global) ReadStop → Type 0
 PeopleOf files folder entries (Ok people) = ArePersons (objects_in files folder) entries people.items
 PeopleOf files folder entries (Err stop.Memory) = ⊤
 PeopleOf files folder entries (Err stop.Disk) = ⊤
-PeopleOf files folder entries (Err (stop.Refused (refusal.Damaged path))) =
+PeopleOf files folder entries (Err (stop.Damaged path)) =
     (people : List Person) × (entry : RefEntry) × IsBehind entries (map head_shown people) entry × AllShow (objects_in files folder) (map head_shown people) people
     × (path ≡ joined folder (ref_place side.Identities entry.id)) × IsBadFound (objects_in files folder) entry.found
-PeopleOf files folder entries (Err _) = ⊥

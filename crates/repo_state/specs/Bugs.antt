@@ -1,5 +1,5 @@
 -- The bugs of a folder: the entity at a bug's head, what is wrong with one, and what a read of it answers.
-use Rattle.std.specs.Prelude.{◌≡◌, ◌⊎◌, ⊤, ℕ, List, [], ◌∷◌, Contains, IsTrue, Some, Result, Ok, Err}
+use Rattle.std.specs.Prelude.{◌≡◌, ◌⊎◌, ⊤, ℕ, List, [], ◌∷◌, Contains, IsTrue, Result, Ok, Err}
 use Rattle.gb_text.specs.Digits.{IsId}
 use Rattle.gb_text.specs.Folder.{joined}
 use Rattle.gb_text.specs.declared.id.Id.{Id}
@@ -17,11 +17,13 @@ use Rattle.dag_entity.specs.declared.fault.EntityFault.TheVariants as fault
 use Rattle.repo_state.specs.Answers.{DamagedRef}
 use Rattle.repo_state.specs.Finds.{FindsEntity}
 use Rattle.repo_state.specs.Sides.{AreIds, has_ref, head_at, ref_place}
-use Rattle.repo_state.specs.declared.refusal.Refusal.TheVariants as refusal
-use Rattle.repo_state.specs.declared.refusal.Stop.{Stop}
-use Rattle.repo_state.specs.declared.refusal.Stop.TheVariants as stop
 use Rattle.repo_state.specs.declared.side.HeadEntry.{HeadEntry}
 use Rattle.repo_state.specs.declared.side.Side.TheVariants as side
+use Rattle.repo_state.specs.declared.stop.FindStop.{FindStop}
+use Rattle.repo_state.specs.declared.stop.FindStop.TheVariants as find
+use Rattle.repo_state.specs.declared.stop.Missed.TheVariants as missed
+use Rattle.repo_state.specs.declared.stop.ReadStop.{ReadStop}
+use Rattle.repo_state.specs.declared.stop.ReadStop.TheVariants as stop
 
 -- ---- local identities, who are the authors of a folder's bugs
 
@@ -66,28 +68,26 @@ IsDamagedBug files folder id =
 -- ---- the answers
 
 -- why there is no entity of this bug
-abbrev pub BugRefused : Files → List ℕ → HeadEntry → Stop → Type 0
+abbrev pub BugRefused : Files → List ℕ → HeadEntry → ReadStop → Type 0
 BugRefused files folder bug stop.Memory = ⊤
 BugRefused files folder bug stop.Disk = ⊤
-BugRefused files folder bug (stop.Refused (refusal.Damaged path)) = (path ≡ joined folder (ref_place side.Bugs bug.id)) × HasBugFault files folder bug
-BugRefused files folder bug (stop.Refused _) = ⊥
+BugRefused files folder bug (stop.Damaged path) = (path ≡ joined folder (ref_place side.Bugs bug.id)) × HasBugFault files folder bug
 
 -- the entity of this bug, or why there is none
-abbrev pub BugAnswers : Files → List ℕ → HeadEntry → Result (Entity BugOp) Stop → Type 0
+abbrev pub BugAnswers : Files → List ℕ → HeadEntry → Result (Entity BugOp) ReadStop → Type 0
 BugAnswers files folder bug (Ok entity) = IsBug files folder bug entity
 BugAnswers files folder bug (Err s) = BugRefused files folder bug s
 
 -- the entity of the bug with this id at its head, or why there is none
-abbrev pub ReadsBug : Files → List ℕ → Id → Result (Entity BugOp) Stop → Type 0
+abbrev pub ReadsBug : Files → List ℕ → Id → Result (Entity BugOp) FindStop → Type 0
 ReadsBug files folder id (Ok entity) = (head : Name) × (head_at files folder side.Bugs id ≡ Head head) × IsBug files folder (record { id = id; name = head }) entity
-ReadsBug files folder id (Err stop.Memory) = ⊤
-ReadsBug files folder id (Err stop.Disk) = ⊤
-ReadsBug files folder id (Err (stop.Refused refusal.NotFound)) = head_at files folder side.Bugs id ≡ Absent
-ReadsBug files folder id (Err (stop.Refused (refusal.Damaged path))) = (path ≡ joined folder (ref_place side.Bugs id)) × IsDamagedBug files folder id
-ReadsBug files folder id (Err (stop.Refused _)) = ⊥
+ReadsBug files folder id (Err find.Memory) = ⊤
+ReadsBug files folder id (Err find.Disk) = ⊤
+ReadsBug files folder id (Err (find.Missed missed.NotFound)) = head_at files folder side.Bugs id ≡ Absent
+ReadsBug files folder id (Err (find.Missed (missed.Damaged path))) = (path ≡ joined folder (ref_place side.Bugs id)) × IsDamagedBug files folder id
 
--- what a fault of this bug's entity is to a command: damage of its ref, but for want of memory and faults of the disk
-abbrev pub StopOf : List ℕ → Id → EntityFault → Stop → Type 0
+-- what a fault of this bug's entity is to a read of it: damage of its ref, but for want of memory and faults of the disk
+abbrev pub StopOf : List ℕ → Id → EntityFault → ReadStop → Type 0
 StopOf folder id fault.Memory s = s ≡ stop.Memory
 StopOf folder id fault.Disk s = s ≡ stop.Disk
 StopOf folder id _ s = DamagedRef folder side.Bugs id s

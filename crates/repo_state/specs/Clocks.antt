@@ -4,9 +4,9 @@ use Rattle.gb_text.specs.Folder.{joined}
 use Rattle.gb_store.specs.Files.{Files, Put}
 use Rattle.gb_store.specs.declared.store.Change.{Change}
 use Rattle.lamport.specs.Clock.{clock_of, seen_by}
+use Rattle.ref_store.specs.declared.read.TheConstants.{MOST_BYTES}
 use Rattle.repo_state.specs.declared.clocks.ClockFile.{ClockFile}
 use Rattle.repo_state.specs.declared.clocks.ClockFile.TheVariants as file
-use Rattle.repo_state.specs.declared.user_file.TheConstants.{MOST_BYTES}
 
 -- where a clock file stands, below its folder
 abbrev pub clock_place : ClockFile → List ℕ

@@ -4,15 +4,14 @@ use Rattle.gb_text.specs.Digits.{id_of}
 use Rattle.gb_text.specs.declared.id.Id.{Id}
 use Rattle.gb_store.specs.Files.{Files}
 use Rattle.ref_store.specs.Refs.{Head}
-use Rattle.repo_state.specs.Stops.{number_of}
 use Rattle.repo_state.specs.Sides.{IsBadRef, IsFirst, has_ref, head_at}
-use Rattle.repo_state.specs.declared.refusal.Refusal.{Refusal}
-use Rattle.repo_state.specs.declared.refusal.Refusal.TheVariants as refusal
-use Rattle.repo_state.specs.declared.refusal.Stop.{Stop}
-use Rattle.repo_state.specs.declared.refusal.Stop.TheVariants as stop
 use Rattle.repo_state.specs.declared.side.HeadEntry.{HeadEntry}
 use Rattle.repo_state.specs.declared.side.Side.{Side}
 use Rattle.repo_state.specs.declared.side.Side.TheVariants as side
+use Rattle.repo_state.specs.declared.stop.FindStop.{FindStop}
+use Rattle.repo_state.specs.declared.stop.FindStop.TheVariants as stop
+use Rattle.repo_state.specs.declared.stop.Missed.{Missed}
+use Rattle.repo_state.specs.declared.stop.Missed.TheVariants as missed
 
 -- ---- what a word finds on a side
 
@@ -50,34 +49,33 @@ pub record FindsEntity (files : Files) (folder : List ℕ) (of : Side) (word : L
 
 -- ---- finders
 
--- what a word of a command may find, and the refusals with which it finds nothing
+-- what an argument of a command may find, and why it may find nothing
 pub record Finder (T : Type 0) : Type 1 where
   pub Found : T → Type 0
-  pub Fails : Refusal → Type 0
+  pub Fails : Missed → Type 0
 
--- a finder finds one value or fails, never both, and its refusals are of one number
+-- a finder finds one value, or fails in one way, and never both
 pub record IsDetermined {T : Type 0} (finder : Finder T) : Type 0 where
   pub one : (value other : T) → finder.Found value → finder.Found other → value ≡ other
-  pub apart : (value : T) (r : Refusal) → finder.Found value → finder.Fails r → ⊥
-  pub number : (r other : Refusal) → finder.Fails r → finder.Fails other → number_of r ≡ number_of other
+  pub apart : (value : T) (one : Missed) → finder.Found value → finder.Fails one → ⊥
+  pub same : (one other : Missed) → finder.Fails one → finder.Fails other → one ≡ other
 
 -- the answer of a call that finds
-abbrev pub FinderAnswers : {T : Type 0} → Finder T → Result T Stop → Type 0
+abbrev pub FinderAnswers : {T : Type 0} → Finder T → Result T FindStop → Type 0
 FinderAnswers finder (Ok value) = finder.Found value
 FinderAnswers finder (Err stop.Memory) = ⊤
 FinderAnswers finder (Err stop.Disk) = ⊤
-FinderAnswers finder (Err (stop.Refused r)) = finder.Fails r
+FinderAnswers finder (Err (stop.Missed why)) = finder.Fails why
 
 -- why no id is found: the word finds none
-abbrev pub FindsNoId : Files → List ℕ → Side → List ℕ → Refusal → Type 0
-FindsNoId files folder of word refusal.NotFound = Finds files folder of word Nothing
-FindsNoId files folder of word _ = ⊥
+abbrev pub FindsNoId : Files → List ℕ → Side → List ℕ → Missed → Type 0
+FindsNoId files folder of word missed.NotFound = Finds files folder of word Nothing
+FindsNoId files folder of word (missed.Damaged path) = ⊥
 
 -- why no head is found: the word finds no id, or the ref of the one that it finds, at this path, is no ref text
-abbrev pub FindsNoHead : Files → List ℕ → Side → List ℕ → Refusal → Type 0
-FindsNoHead files folder of word refusal.NotFound = Finds files folder of word Nothing
-FindsNoHead files folder of word (refusal.Damaged path) = (id : Id) × Finds files folder of word (One id) × IsBadRef files folder of id path
-FindsNoHead files folder of word _ = ⊥
+abbrev pub FindsNoHead : Files → List ℕ → Side → List ℕ → Missed → Type 0
+FindsNoHead files folder of word missed.NotFound = Finds files folder of word Nothing
+FindsNoHead files folder of word (missed.Damaged path) = (id : Id) × Finds files folder of word (One id) × IsBadRef files folder of id path
 
 -- an id of a side; what its ref holds is not judged
 abbrev pub id_finder : Side → Files → List ℕ → List ℕ → Finder Id

@@ -5,12 +5,11 @@ ghost use Rattle.bug_ops.specs.Kind.{bug_kind};
 ghost use Rattle.dag_entity.specs.Entities.{KeepsRules};
 ghost use Rattle.gb_store.specs.Faults.{KeepsFaults};
 ghost use Rattle.gb_store.specs.Files.{files_of};
-ghost use Rattle.repo_state.specs.Answers.{OnlyDamaged, OnlyMissed};
 ghost use Rattle.repo_state.specs.Bugs.{BugAnswers, ReadsAtHead, ReadsBelow, ReadsBug, StopOf};
 
 use crate::refs::{damaged, head, ids};
-use crate::refusal::{Refusal, Stop};
 use crate::side::{HeadEntry, Side};
+use crate::stop::{FindStop, Missed, ReadStop};
 use bug_ops::BugOp;
 use dag_entity::{Entity, EntityFault, read_entity};
 use gb_store::Store;
@@ -25,10 +24,9 @@ pub fn read_bug<S: Store>(
     disk: &mut S,
     folder: &Folder,
     id: &Id,
-) -> Result<Entity<BugOp>, Stop>
+) -> Result<Entity<BugOp>, FindStop>
     ensures answers { IsTrue S.tells
         → ReadsBug (files_of (S.history disk.old)) folder.now id.now result }
-    ensures only_missed { OnlyMissed result }
     ensures rules { IfOk result (λ entity. KeepsRules bug_kind entity.packs) }
     ensures unwritten { IsTrue S.tells → S.history disk.new ≡ S.history disk.old }
     ensures reads { IsTrue S.tells → ReadsAtHead (files_of (S.history disk.old)) folder.now id.now
@@ -36,13 +34,13 @@ pub fn read_bug<S: Store>(
     ensures once { IfOk result (λ entity. S.object_reads disk.new
         ≤ S.object_reads disk.old + 3 * length entity.packs) }
     ensures most { S.object_reads disk.new ≤ S.object_reads disk.old + 3 * (MOST_COMMITS + 1) }
-    ensures caused { KeepsFaults S.never_fails S.faults (IsErrOf result Stop.Disk)
+    ensures caused { KeepsFaults S.never_fails S.faults (IsErrOf result FindStop.Disk)
         disk.old disk.new }
 {
     let Some(name) = head(alloc, disk, folder, &Side::Bugs, id)? else {
-        return Err(Stop::Refused(Refusal::NotFound));
+        return Err(FindStop::Missed(Missed::NotFound));
     };
-    bug_at(alloc, disk, folder, &HeadEntry { id: *id, name })
+    Ok(bug_at(alloc, disk, folder, &HeadEntry { id: *id, name })?)
 }
 
 /// The entity of a bug at this head. Its authors are to be local identities. `Damaged`, with the path
@@ -52,10 +50,9 @@ pub fn bug_at<S: Store>(
     disk: &mut S,
     folder: &Folder,
     bug: &HeadEntry,
-) -> Result<Entity<BugOp>, Stop>
+) -> Result<Entity<BugOp>, ReadStop>
     ensures answers { IsTrue S.tells
         → BugAnswers (files_of (S.history disk.old)) folder.now bug.now result }
-    ensures only_damaged { OnlyDamaged result }
     ensures rules { IfOk result (λ entity. KeepsRules bug_kind entity.packs) }
     ensures unwritten { IsTrue S.tells → S.history disk.new ≡ S.history disk.old }
     ensures reads { IsTrue S.tells → ReadsBelow (files_of (S.history disk.old)) folder.now bug.now
@@ -63,7 +60,7 @@ pub fn bug_at<S: Store>(
     ensures once { IfOk result (λ entity. S.object_reads disk.new
         ≤ S.object_reads disk.old + 3 * length entity.packs) }
     ensures most { S.object_reads disk.new ≤ S.object_reads disk.old + 3 * (MOST_COMMITS + 1) }
-    ensures caused { KeepsFaults S.never_fails S.faults (IsErrOf result Stop.Disk)
+    ensures caused { KeepsFaults S.never_fails S.faults (IsErrOf result ReadStop.Disk)
         disk.old disk.new }
 {
     let authors = ids(alloc, disk, folder, &Side::Identities)?;
@@ -75,12 +72,12 @@ pub fn bug_at<S: Store>(
 }
 
 // What a fault of this bug's entity is to a command.
-fn stop_of(alloc: Global, folder: &Folder, bug: &HeadEntry, fault: EntityFault) -> Stop
+fn stop_of(alloc: Global, folder: &Folder, bug: &HeadEntry, fault: EntityFault) -> ReadStop
     ensures { StopOf folder.now bug.now.id fault result }
 {
     match fault {
-        EntityFault::Memory => Stop::Memory,
-        EntityFault::Disk => Stop::Disk,
+        EntityFault::Memory => ReadStop::Memory,
+        EntityFault::Disk => ReadStop::Disk,
         _ => damaged(alloc, folder, &Side::Bugs, &bug.id),
     }
 }

@@ -4,14 +4,13 @@ ghost use Rattle.gb_store.specs.Faults.{KeepsFaults};
 ghost use Rattle.gb_store.specs.Files.{files_of};
 ghost use Rattle.gb_store.specs.ObjectPath.{is_object_path};
 ghost use Rattle.gb_text.specs.Folder.{joined};
-ghost use Rattle.repo_state.specs.Answers.{NeverRefused, SeeAnswers};
+ghost use Rattle.repo_state.specs.Answers.{SeeAnswers};
 ghost use Rattle.repo_state.specs.Clocks.{clock_at, clock_place, clock_write, see_writes};
 
-use crate::refusal::Stop;
-use crate::user_file::MOST_BYTES;
-use gb_store::{Change, Content, Store, write_all};
+use gb_store::{Change, Content, Store, StoreFault, write_all};
 use gb_text::{Bytes, Folder, List, Memory, Text, push_number};
 use lamport::Clock;
+use ref_store::MOST_BYTES;
 use std::alloc::Global;
 
 /// The clock files of a folder.
@@ -29,13 +28,12 @@ pub fn clock<S: Store>(
     disk: &mut S,
     folder: &Folder,
     which: ClockFile,
-) -> Result<Clock, Stop>
+) -> Result<Clock, StoreFault>
     ensures answers { IsTrue S.tells → IfOk result
         (λ clock. clock ≡ clock_at (files_of (S.history disk.old)) folder.now which) }
-    ensures never_refused { NeverRefused result }
     ensures unwritten { IsTrue S.tells → S.history disk.new ≡ S.history disk.old }
     ensures reads { S.object_reads disk.new ≡ S.object_reads disk.old }
-    ensures caused { KeepsFaults S.never_fails S.faults (IsErrOf result Stop.Disk)
+    ensures caused { KeepsFaults S.never_fails S.faults (IsErrOf result StoreFault.Failed)
         disk.old disk.new }
 {
     let path = clock_path(alloc, folder, which)?;
@@ -53,18 +51,16 @@ pub fn see<S: Store>(
     folder: &Folder,
     which: ClockFile,
     number: u64,
-) -> Result<(), Stop>
+) -> Result<(), StoreFault>
     ensures answers { IsTrue S.tells
         → SeeAnswers folder.now which number (S.history disk.old) (S.history disk.new) result }
-    ensures never_refused { NeverRefused result }
     ensures reads { S.object_reads disk.new ≡ S.object_reads disk.old }
-    ensures caused { KeepsFaults S.never_fails S.faults (IsErrOf result Stop.Disk)
+    ensures caused { KeepsFaults S.never_fails S.faults (IsErrOf result StoreFault.Failed)
         disk.old disk.new }
 {
     let clock = clock(alloc, disk, folder, which)?;
     let changes = clock_changes(alloc, folder, which, clock, number)?;
-    write_all(alloc, disk, changes.as_slice())?;
-    Ok(())
+    write_all(alloc, disk, changes.as_slice())
 }
 
 /// The write of a clock that sees a number, where the clock changes: none or one.

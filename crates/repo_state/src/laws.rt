@@ -177,8 +177,8 @@ pub fn words_find_whole_ids()
         (first second : Id) → Finds files folder of word (Many first second) → ⊥ }
 {}
 
-/// A finder of ids, or of entities with their heads, finds one value, or fails with one number of
-/// refusal, and never both.
+/// A finder of ids, or of entities with their heads, finds one value, or fails in one way, and never
+/// both.
 pub fn finders_are_determined()
     ensures ids { (of : SideValue) (files : Files) (folder word : List ℕ)
         → IsDetermined (id_finder of files folder word) }

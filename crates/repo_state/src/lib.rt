@@ -3,19 +3,17 @@
 
 mod bugs;
 mod clocks;
-mod env;
 mod laws;
 mod listing;
 mod operations;
 mod people;
 mod refs;
-mod refusal;
 mod side;
+mod stop;
 mod user_file;
 
 pub use bugs::{bug_at, read_bug};
 pub use clocks::{ClockFile, clock, clock_changes, see};
-pub use env::Env;
 pub use laws::{
     an_empty_folder_is_sound, clocks_read_as_they_were_seen, finders_are_determined,
     heads_and_user_are_a_map, ids_are_those_of_the_heads, objects_and_state_are_apart,
@@ -29,6 +27,6 @@ pub use refs::{
     EntityRef, damaged, entity, find, find_head, head, head_change, heads, ids, set_head, stands,
     whole,
 };
-pub use refusal::{Refusal, Stop};
 pub use side::{HeadEntry, Side};
+pub use stop::{FindStop, Missed, ReadStop};
 pub use user_file::{set_user, user, user_change, user_head};

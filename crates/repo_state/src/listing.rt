@@ -2,13 +2,11 @@
 ghost use Rattle.std.specs.Prelude.{◌≡◌, IsTrue, IsErrOf, IfOk, map};
 ghost use Rattle.gb_store.specs.Faults.{KeepsFaults};
 ghost use Rattle.gb_store.specs.Files.{files_of};
-ghost use Rattle.repo_state.specs.Answers.{NeverRefused};
 ghost use Rattle.repo_state.specs.Listed.{AreRefs, head_in, ref_in};
 
 use crate::refs::{EntityRef, entries};
-use crate::refusal::Stop;
 use crate::side::Side;
-use gb_store::Store;
+use gb_store::{Store, StoreFault};
 use gb_text::{Folder, List, Memory, Name};
 use ref_store::{RefEntry, RefFound};
 use std::alloc::Global;
@@ -20,13 +18,12 @@ pub fn all_refs<S: Store>(
     disk: &mut S,
     folder: &Folder,
     side: &Side,
-) -> Result<List<EntityRef>, Stop>
+) -> Result<List<EntityRef>, StoreFault>
     ensures answers { IsTrue S.tells
         → IfOk result (AreRefs (files_of (S.history disk.old)) folder.now side.now) }
-    ensures never_refused { NeverRefused result }
     ensures unwritten { IsTrue S.tells → S.history disk.new ≡ S.history disk.old }
     ensures reads { S.object_reads disk.new ≡ S.object_reads disk.old }
-    ensures caused { KeepsFaults S.never_fails S.faults (IsErrOf result Stop.Disk)
+    ensures caused { KeepsFaults S.never_fails S.faults (IsErrOf result StoreFault.Failed)
         disk.old disk.new }
 {
     let entries = entries(alloc, disk, folder, side)?;

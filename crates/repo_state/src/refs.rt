@@ -1,5 +1,5 @@
 //! The refs of a folder, as maps from ids to heads.
-ghost use Rattle.std.specs.Prelude.{◌≡◌, ◌++◌, List as Items, ℕ, IsTrue, IsErrOf, IfOk, OnOk, codes, false, map};
+ghost use Rattle.std.specs.Prelude.{◌≡◌, ◌++◌, List as Items, ℕ, Err, IsTrue, IsErrOf, IfOk, OnOk, codes, false, map};
 ghost use Rattle.gb_store.specs.Faults.{KeepsFaults};
 ghost use Rattle.gb_store.specs.Files.{files_of};
 ghost use Rattle.gb_store.specs.Moments.{WroteIf};
@@ -8,14 +8,16 @@ ghost use Rattle.gb_text.specs.Folder.{joined};
 ghost use Rattle.ref_store.specs.Listing.{IsRefList};
 ghost use Rattle.ref_store.specs.Refs.{Answers, Head};
 ghost use Rattle.ref_store.specs.Setting.{PutsRef, ref_write};
-ghost use Rattle.repo_state.specs.Answers.{DamagedRef, EntityAnswers, FindsRef, HasBadRef, HeadOf, HeadsOf, IsHeadAt, NeverRefused, OnlyDamaged, OnlyMissed, OnlyNotFound, PutAnswers, Reads, WholeAnswers};
+ghost use Rattle.repo_state.specs.Answers.{DamagedRef, EntityAnswers, FindsRef, HasBadRef, HeadOf, HeadsOf, IsHeadAt, PutAnswers, Reads, WholeAnswers};
 ghost use Rattle.repo_state.specs.Finds.{FinderAnswers, head_finder, id_finder};
 ghost use Rattle.repo_state.specs.Sound.{IsNamedSide};
+ghost use Rattle.repo_state.specs.declared.stop.FindStop.TheVariants as stop;
+ghost use Rattle.repo_state.specs.declared.stop.Missed.TheVariants as missed;
 ghost use Rattle.repo_state.specs.Sides.{AreHeads, AreIds, IsBadRef, dir_of, has_ref, head_at, ref_place};
 
-use crate::refusal::{Refusal, Stop};
 use crate::side::{HeadEntry, Side};
-use gb_store::{Change, Store};
+use crate::stop::{FindStop, Missed, ReadStop};
+use gb_store::{Change, Store, StoreFault};
 use gb_text::{Folder, Id, List, Memory, Name, Text};
 use ref_store::{RefEntry, RefFault, RefFound, place_of};
 use std::alloc::Global;
@@ -26,13 +28,12 @@ pub fn ids<S: Store>(
     disk: &mut S,
     folder: &Folder,
     side: &Side,
-) -> Result<List<Id>, Stop>
+) -> Result<List<Id>, StoreFault>
     ensures answers { IsTrue S.tells
         → IfOk result (AreIds (files_of (S.history disk.old)) folder.now side.now) }
-    ensures never_refused { NeverRefused result }
     ensures unwritten { IsTrue S.tells → S.history disk.new ≡ S.history disk.old }
     ensures reads { S.object_reads disk.new ≡ S.object_reads disk.old }
-    ensures caused { KeepsFaults S.never_fails S.faults (IsErrOf result Stop.Disk)
+    ensures caused { KeepsFaults S.never_fails S.faults (IsErrOf result StoreFault.Failed)
         disk.old disk.new }
 {
     let entries = entries(alloc, disk, folder, side)?;
@@ -53,13 +54,12 @@ pub fn stands<S: Store>(
     folder: &Folder,
     side: &Side,
     id: &Id,
-) -> Result<bool, Stop>
+) -> Result<bool, StoreFault>
     ensures answers { IsTrue S.tells → IfOk result (λ stands. stands
         ≡ has_ref (files_of (S.history disk.old)) folder.now side.now id.now) }
-    ensures never_refused { NeverRefused result }
     ensures unwritten { IsTrue S.tells → S.history disk.new ≡ S.history disk.old }
     ensures reads { S.object_reads disk.new ≡ S.object_reads disk.old }
-    ensures caused { KeepsFaults S.never_fails S.faults (IsErrOf result Stop.Disk)
+    ensures caused { KeepsFaults S.never_fails S.faults (IsErrOf result StoreFault.Failed)
         disk.old disk.new }
 {
     Ok(entity(alloc, disk, folder, side, id)?.is_some())
@@ -73,16 +73,20 @@ pub fn find<S: Store>(
     folder: &Folder,
     side: &Side,
     word: &str,
-) -> Result<Id, Stop>
+) -> Result<Id, FindStop>
     ensures answers { IsTrue S.tells → FinderAnswers
         (id_finder side.now (files_of (S.history disk.old)) folder.now word.now) result }
-    ensures only_not_found { OnlyNotFound result }
+    ensures never_damaged { (path : Items ℕ)
+        → result ≡ Err (stop.Missed (missed.Damaged path)) → ⊥ }
     ensures unwritten { IsTrue S.tells → S.history disk.new ≡ S.history disk.old }
     ensures reads { S.object_reads disk.new ≡ S.object_reads disk.old }
-    ensures caused { KeepsFaults S.never_fails S.faults (IsErrOf result Stop.Disk)
+    ensures caused { KeepsFaults S.never_fails S.faults (IsErrOf result FindStop.Disk)
         disk.old disk.new }
 {
-    Ok(find_ref(alloc, disk, folder, side, word)?.id)
+    match find_ref(alloc, disk, folder, side, word)? {
+        Some(found) => Ok(found.id),
+        None => Err(FindStop::Missed(Missed::NotFound)),
+    }
 }
 
 /// The entity that a word finds on a side, with its head. `NotFound` where it finds none; `Damaged`,
@@ -93,20 +97,21 @@ pub fn find_head<S: Store>(
     folder: &Folder,
     side: &Side,
     word: &str,
-) -> Result<HeadEntry, Stop>
+) -> Result<HeadEntry, FindStop>
     ensures answers { IsTrue S.tells → FinderAnswers
         (head_finder side.now (files_of (S.history disk.old)) folder.now word.now) result }
-    ensures only_missed { OnlyMissed result }
     ensures unwritten { IsTrue S.tells → S.history disk.new ≡ S.history disk.old }
     ensures reads { S.object_reads disk.new ≡ S.object_reads disk.old }
-    ensures caused { KeepsFaults S.never_fails S.faults (IsErrOf result Stop.Disk)
+    ensures caused { KeepsFaults S.never_fails S.faults (IsErrOf result FindStop.Disk)
         disk.old disk.new }
 {
-    let found = find_ref(alloc, disk, folder, side, word)?;
-    whole(alloc, folder, side, &found)
+    match find_ref(alloc, disk, folder, side, word)? {
+        Some(found) => Ok(whole(alloc, folder, side, &found)?),
+        None => Err(FindStop::Missed(Missed::NotFound)),
+    }
 }
 
-// The ref that a word finds on a side. What words find is said here alone.
+// The ref that a word finds on a side, if it finds one. What words find is said here alone.
 #[tactic(auto, using(crate::proofs::FoundLemmas::finds_ref, crate::proofs::FoundLemmas::finds_no_digits, crate::proofs::FoundLemmas::finds_no_entity))]
 fn find_ref<S: Store>(
     alloc: Global,
@@ -114,20 +119,18 @@ fn find_ref<S: Store>(
     folder: &Folder,
     side: &Side,
     word: &str,
-) -> Result<EntityRef, Stop>
+) -> Result<Option<EntityRef>, StoreFault>
     ensures answers { IsTrue S.tells
         → FindsRef (files_of (S.history disk.old)) folder.now side.now word.now result }
-    ensures only_not_found { OnlyNotFound result }
     ensures unwritten { IsTrue S.tells → S.history disk.new ≡ S.history disk.old }
     ensures reads { S.object_reads disk.new ≡ S.object_reads disk.old }
-    ensures caused { KeepsFaults S.never_fails S.faults (IsErrOf result Stop.Disk)
+    ensures caused { KeepsFaults S.never_fails S.faults (IsErrOf result StoreFault.Failed)
         disk.old disk.new }
 {
-    let found = match Id::read(word.as_bytes()) {
-        Some(id) => entity(alloc, disk, folder, side, &id)?,
-        None => None,
-    };
-    found.ok_or(Stop::Refused(Refusal::NotFound))
+    match Id::read(word.as_bytes()) {
+        Some(id) => entity(alloc, disk, folder, side, &id),
+        None => Ok(None),
+    }
 }
 
 /// The ref of an id, if one stands.
@@ -137,13 +140,12 @@ pub fn entity<S: Store>(
     folder: &Folder,
     side: &Side,
     id: &Id,
-) -> Result<Option<EntityRef>, Stop>
+) -> Result<Option<EntityRef>, StoreFault>
     ensures answers { IsTrue S.tells
         → EntityAnswers (files_of (S.history disk.old)) folder.now side.now id.now result }
-    ensures never_refused { NeverRefused result }
     ensures unwritten { IsTrue S.tells → S.history disk.new ≡ S.history disk.old }
     ensures reads { S.object_reads disk.new ≡ S.object_reads disk.old }
-    ensures caused { KeepsFaults S.never_fails S.faults (IsErrOf result Stop.Disk)
+    ensures caused { KeepsFaults S.never_fails S.faults (IsErrOf result StoreFault.Failed)
         disk.old disk.new }
 {
     match read_ref(alloc, disk, folder, side, id) {
@@ -153,18 +155,18 @@ pub fn entity<S: Store>(
             id: *id,
             head: None,
         })),
-        Err(RefFault::Memory) => Err(Stop::Memory),
-        Err(RefFault::Disk) => Err(Stop::Disk),
+        Err(RefFault::Memory) => Err(StoreFault::Memory),
+        Err(RefFault::Disk) => Err(StoreFault::Failed),
     }
 }
 
-/// An entity with the head that its ref names, or the refusal where the ref is no ref text.
+/// An entity with the head that its ref names, or `Damaged` where the ref is no ref text.
 pub fn whole(
     alloc: Global,
     folder: &Folder,
     side: &Side,
     entity: &EntityRef,
-) -> Result<HeadEntry, Stop>
+) -> Result<HeadEntry, ReadStop>
     ensures { WholeAnswers folder.now side.now entity.now result }
 {
     match entity.head {
@@ -184,14 +186,13 @@ pub fn head<S: Store>(
     folder: &Folder,
     side: &Side,
     id: &Id,
-) -> Result<Option<Name>, Stop>
+) -> Result<Option<Name>, ReadStop>
     ensures answers { IsTrue S.tells
         → Reads (IsHeadAt (files_of (S.history disk.old)) folder.now side.now id.now)
         (IsBadRef (files_of (S.history disk.old)) folder.now side.now id.now) result }
-    ensures only_damaged { OnlyDamaged result }
     ensures unwritten { IsTrue S.tells → S.history disk.new ≡ S.history disk.old }
     ensures reads { S.object_reads disk.new ≡ S.object_reads disk.old }
-    ensures caused { KeepsFaults S.never_fails S.faults (IsErrOf result Stop.Disk)
+    ensures caused { KeepsFaults S.never_fails S.faults (IsErrOf result ReadStop.Disk)
         disk.old disk.new }
 {
     Ok(read_ref(alloc, disk, folder, side, id)?)
@@ -204,14 +205,13 @@ pub fn heads<S: Store>(
     disk: &mut S,
     folder: &Folder,
     side: &Side,
-) -> Result<List<HeadEntry>, Stop>
+) -> Result<List<HeadEntry>, ReadStop>
     ensures answers { IsTrue S.tells
         → Reads (AreHeads (files_of (S.history disk.old)) folder.now side.now)
         (HasBadRef (files_of (S.history disk.old)) folder.now side.now) result }
-    ensures only_damaged { OnlyDamaged result }
     ensures unwritten { IsTrue S.tells → S.history disk.new ≡ S.history disk.old }
     ensures reads { S.object_reads disk.new ≡ S.object_reads disk.old }
-    ensures caused { KeepsFaults S.never_fails S.faults (IsErrOf result Stop.Disk)
+    ensures caused { KeepsFaults S.never_fails S.faults (IsErrOf result ReadStop.Disk)
         disk.old disk.new }
 {
     let entries = entries(alloc, disk, folder, side)?;
@@ -242,25 +242,24 @@ pub fn set_head<S: Store>(
     side: &Side,
     id: &Id,
     name: &Name,
-) -> Result<(), Stop>
+) -> Result<(), StoreFault>
     requires { IsNamedSide side.now }
     ensures answers { IsTrue S.tells
         → PutAnswers (ref_write folder.now (ref_place side.now id.now) name.now)
         (S.history disk.old) (S.history disk.new) result }
-    ensures never_refused { NeverRefused result }
     ensures reads_back { IsTrue S.tells → OnOk result
         (head_at (files_of (S.history disk.new)) folder.now side.now id.now ≡ Head name.now) }
     ensures wrote { WroteIf S.tells (PutsRef folder.now (ref_place side.now id.now) name.now)
         (S.history disk.old) (S.history disk.new) }
     ensures reads { S.object_reads disk.new ≡ S.object_reads disk.old }
-    ensures caused { KeepsFaults S.never_fails S.faults (IsErrOf result Stop.Disk)
+    ensures caused { KeepsFaults S.never_fails S.faults (IsErrOf result StoreFault.Failed)
         disk.old disk.new }
 {
     let place = place(alloc, side, id)?;
     match ref_store::set(alloc, disk, folder, place.as_str(), name) {
         Ok(()) => Ok(()),
-        Err(RefFault::Disk) => Err(Stop::Disk),
-        Err(RefFault::Memory | RefFault::BadRef(_)) => Err(Stop::Memory),
+        Err(RefFault::Disk) => Err(StoreFault::Failed),
+        Err(RefFault::Memory | RefFault::BadRef(_)) => Err(StoreFault::Memory),
     }
 }
 
@@ -322,20 +321,19 @@ pub(crate) fn entries<S: Store>(
     disk: &mut S,
     folder: &Folder,
     side: &Side,
-) -> Result<List<RefEntry>, Stop>
+) -> Result<List<RefEntry>, StoreFault>
     ensures entries { IsTrue S.tells → IfOk result
         (IsRefList (files_of (S.history disk.old)) folder.now (dir_of side.now)) }
-    ensures never_refused { NeverRefused result }
     ensures unwritten { IsTrue S.tells → S.history disk.new ≡ S.history disk.old }
     ensures reads { S.object_reads disk.new ≡ S.object_reads disk.old }
-    ensures caused { KeepsFaults S.never_fails S.faults (IsErrOf result Stop.Disk)
+    ensures caused { KeepsFaults S.never_fails S.faults (IsErrOf result StoreFault.Failed)
         disk.old disk.new }
 {
     let dir = dir(alloc, side)?;
     match ref_store::list(alloc, disk, folder, dir.as_str()) {
         Ok(entries) => Ok(entries),
-        Err(RefFault::Disk) => Err(Stop::Disk),
-        Err(RefFault::Memory | RefFault::BadRef(_)) => Err(Stop::Memory),
+        Err(RefFault::Disk) => Err(StoreFault::Failed),
+        Err(RefFault::Memory | RefFault::BadRef(_)) => Err(StoreFault::Memory),
     }
 }
 
@@ -352,7 +350,7 @@ fn heads_of(
     folder: &Folder,
     side: &Side,
     entries: &[RefEntry],
-) -> Result<Vec<HeadEntry>, Stop>
+) -> Result<Vec<HeadEntry>, ReadStop>
     ensures { HeadsOf folder.now side.now entries.now result }
 {
     let mut heads = Vec::new(alloc);
@@ -368,7 +366,7 @@ pub(crate) fn head_of(
     folder: &Folder,
     side: &Side,
     entry: &RefEntry,
-) -> Result<HeadEntry, Stop>
+) -> Result<HeadEntry, ReadStop>
     ensures { HeadOf folder.now side.now entry.now result }
 {
     match entry.found {
@@ -377,13 +375,13 @@ pub(crate) fn head_of(
     }
 }
 
-/// The refusal for the ref of an id that is damaged, with its path.
-pub fn damaged(alloc: Global, folder: &Folder, side: &Side, id: &Id) -> Stop
+/// `Damaged`, with the path of an id's ref.
+pub fn damaged(alloc: Global, folder: &Folder, side: &Side, id: &Id) -> ReadStop
     ensures { DamagedRef folder.now side.now id.now result }
 {
     match damaged_path(alloc, folder, side, id) {
-        Ok(path) => Stop::Refused(Refusal::Damaged(path)),
-        Err(Memory) => Stop::Memory,
+        Ok(path) => ReadStop::Damaged(path),
+        Err(Memory) => ReadStop::Memory,
     }
 }
 

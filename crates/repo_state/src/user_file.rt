@@ -5,32 +5,29 @@ ghost use Rattle.gb_store.specs.Faults.{KeepsFaults};
 ghost use Rattle.gb_store.specs.Files.{files_of};
 ghost use Rattle.gb_store.specs.Moments.{WroteIf};
 ghost use Rattle.gb_store.specs.ObjectPath.{reads_after};
-ghost use Rattle.repo_state.specs.Answers.{FindsUser, IsBadUser, IsUser, NeverRefused, OnlyDamaged, PutAnswers, PutsUser, Reads, UserAnswers};
+ghost use Rattle.repo_state.specs.Answers.{FindsUser, IsBadUser, IsUser, PutAnswers, PutsUser, Reads, UserAnswers};
 ghost use Rattle.repo_state.specs.Users.{id_line, local_user, user_at, user_of, user_place, user_write};
 
 use crate::refs::{EntityRef, entity, whole};
-use crate::refusal::{Refusal, Stop};
 use crate::side::{HeadEntry, Side};
-use gb_store::{Change, Content, Store};
+use crate::stop::ReadStop;
+use gb_store::{Change, Content, Store, StoreFault};
 use gb_text::{Bytes, Folder, Id, Memory, Text, without_line_end};
+use ref_store::MOST_BYTES;
 use std::alloc::Global;
 
 /// Where the user file stands, below its folder.
 pub const USER_PLACE: &str = "git-bug/user";
 
-/// The most bytes that a user file may have. It has 64 or 65.
-pub const MOST_BYTES: u64 = 4096;
-
 /// The user of the folder: an identity whose ref stands. None exactly where no user file stands;
 /// `Damaged`, with the path of the user file, exactly where that file is no id with at most one line
 /// feed behind it, or no ref of the identity stands.
-pub fn user<S: Store>(alloc: Global, disk: &mut S, folder: &Folder) -> Result<Option<Id>, Stop>
+pub fn user<S: Store>(alloc: Global, disk: &mut S, folder: &Folder) -> Result<Option<Id>, ReadStop>
     ensures answers { IsTrue S.tells → Reads (IsUser (files_of (S.history disk.old)) folder.now)
         (IsBadUser (files_of (S.history disk.old)) folder.now) result }
-    ensures only_damaged { OnlyDamaged result }
     ensures unwritten { IsTrue S.tells → S.history disk.new ≡ S.history disk.old }
     ensures reads { S.object_reads disk.new ≡ S.object_reads disk.old }
-    ensures caused { KeepsFaults S.never_fails S.faults (IsErrOf result Stop.Disk)
+    ensures caused { KeepsFaults S.never_fails S.faults (IsErrOf result ReadStop.Disk)
         disk.old disk.new }
 {
     match user_ref(alloc, disk, folder)? {
@@ -45,13 +42,12 @@ pub fn user_head<S: Store>(
     alloc: Global,
     disk: &mut S,
     folder: &Folder,
-) -> Result<Option<HeadEntry>, Stop>
+) -> Result<Option<HeadEntry>, ReadStop>
     ensures answers { IsTrue S.tells
         → FindsUser (files_of (S.history disk.old)) folder.now result }
-    ensures only_damaged { OnlyDamaged result }
     ensures unwritten { IsTrue S.tells → S.history disk.new ≡ S.history disk.old }
     ensures reads { S.object_reads disk.new ≡ S.object_reads disk.old }
-    ensures caused { KeepsFaults S.never_fails S.faults (IsErrOf result Stop.Disk)
+    ensures caused { KeepsFaults S.never_fails S.faults (IsErrOf result ReadStop.Disk)
         disk.old disk.new }
 {
     match user_ref(alloc, disk, folder)? {
@@ -65,14 +61,13 @@ fn user_ref<S: Store>(
     alloc: Global,
     disk: &mut S,
     folder: &Folder,
-) -> Result<Option<EntityRef>, Stop>
+) -> Result<Option<EntityRef>, ReadStop>
     ensures answers { IsTrue S.tells
         → UserAnswers (files_of (S.history disk.old)) folder.now (joined folder.now user_place)
         (user_at (files_of (S.history disk.old)) folder.now) result }
-    ensures only_damaged { OnlyDamaged result }
     ensures unwritten { IsTrue S.tells → S.history disk.new ≡ S.history disk.old }
     ensures reads { S.object_reads disk.new ≡ S.object_reads disk.old }
-    ensures caused { KeepsFaults S.never_fails S.faults (IsErrOf result Stop.Disk)
+    ensures caused { KeepsFaults S.never_fails S.faults (IsErrOf result ReadStop.Disk)
         disk.old disk.new }
 {
     let path = folder.join(alloc, USER_PLACE)?;
@@ -86,23 +81,22 @@ fn user_in<S: Store>(
     disk: &mut S,
     folder: &Folder,
     path: Text,
-) -> Result<Option<EntityRef>, Stop>
+) -> Result<Option<EntityRef>, ReadStop>
     ensures answers { IsTrue S.tells
         → UserAnswers (files_of (S.history disk.old)) folder.now path
         (user_of (files_of (S.history disk.old)) folder.now (files_of (S.history disk.old) path))
         result }
-    ensures only_damaged { OnlyDamaged result }
     ensures unwritten { IsTrue S.tells → S.history disk.new ≡ S.history disk.old }
     ensures reads { S.object_reads disk.new ≡ reads_after path (S.object_reads disk.old) }
-    ensures caused { KeepsFaults S.never_fails S.faults (IsErrOf result Stop.Disk)
+    ensures caused { KeepsFaults S.never_fails S.faults (IsErrOf result ReadStop.Disk)
         disk.old disk.new }
 {
     match disk.read(alloc, path.as_str(), MOST_BYTES)? {
         Content::Absent => Ok(None),
-        Content::Long => Err(Stop::Refused(Refusal::Damaged(path))),
+        Content::Long => Err(ReadStop::Damaged(path)),
         Content::Whole(text) => match Id::read(without_line_end(text.as_slice())) {
             Some(id) => local_user(alloc, disk, folder, &id, path),
-            None => Err(Stop::Refused(Refusal::Damaged(path))),
+            None => Err(ReadStop::Damaged(path)),
         },
     }
 }
@@ -114,18 +108,17 @@ fn local_user<S: Store>(
     folder: &Folder,
     id: &Id,
     path: Text,
-) -> Result<Option<EntityRef>, Stop>
+) -> Result<Option<EntityRef>, ReadStop>
     ensures answers { IsTrue S.tells → UserAnswers (files_of (S.history disk.old)) folder.now path
         (local_user (files_of (S.history disk.old)) folder.now (Some id.now)) result }
-    ensures only_damaged { OnlyDamaged result }
     ensures unwritten { IsTrue S.tells → S.history disk.new ≡ S.history disk.old }
     ensures reads { S.object_reads disk.new ≡ S.object_reads disk.old }
-    ensures caused { KeepsFaults S.never_fails S.faults (IsErrOf result Stop.Disk)
+    ensures caused { KeepsFaults S.never_fails S.faults (IsErrOf result ReadStop.Disk)
         disk.old disk.new }
 {
     match entity(alloc, disk, folder, &Side::Identities, id)? {
         Some(user) => Ok(Some(user)),
-        None => Err(Stop::Refused(Refusal::Damaged(path))),
+        None => Err(ReadStop::Damaged(path)),
     }
 }
 
@@ -140,20 +133,23 @@ pub fn user_change(alloc: Global, folder: &Folder, id: &Id) -> Result<Change, Me
 }
 
 /// Makes an identity the user, by one write: its digits and a line feed.
-pub fn set_user<S: Store>(alloc: Global, disk: &mut S, folder: &Folder, id: &Id) -> Result<(), Stop>
+pub fn set_user<S: Store>(
+    alloc: Global,
+    disk: &mut S,
+    folder: &Folder,
+    id: &Id,
+) -> Result<(), StoreFault>
     ensures answers { IsTrue S.tells → PutAnswers (user_write folder.now id.now)
         (S.history disk.old) (S.history disk.new) result }
-    ensures never_refused { NeverRefused result }
     ensures wrote { WroteIf S.tells (PutsUser folder.now id.now)
         (S.history disk.old) (S.history disk.new) }
     ensures reads { S.object_reads disk.new ≡ S.object_reads disk.old }
-    ensures caused { KeepsFaults S.never_fails S.faults (IsErrOf result Stop.Disk)
+    ensures caused { KeepsFaults S.never_fails S.faults (IsErrOf result StoreFault.Failed)
         disk.old disk.new }
 {
     let path = folder.join(alloc, USER_PLACE)?;
     let line = id_line(alloc, id)?;
-    disk.put(alloc, path.as_str(), line.as_slice())?;
-    Ok(())
+    disk.put(alloc, path.as_str(), line.as_slice())
 }
 
 // The line of an id: its digits and a line feed.

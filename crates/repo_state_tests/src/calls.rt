@@ -2,9 +2,10 @@
 ghost use Rattle.repo_state.specs.Sound.{IsNamedSide};
 
 use fixtures::{Disk, id, name};
+use gb_store::StoreFault;
 use gb_text::{Id, List, Name};
 use identity::Person;
-use repo_state::{ClockFile, EntityRef, HeadEntry, Refusal, Side, Stop};
+use repo_state::{ClockFile, EntityRef, HeadEntry, ReadStop, Side};
 use std::test::Fail;
 
 /// The digits of an id and of a head.
@@ -29,56 +30,61 @@ pub fn the_name() -> Result<Name, Fail> {
 }
 
 /// Whether an answer is that the file at this path is damaged.
-pub fn is_damaged<T: Drop>(answer: Result<T, Stop>, path: &str) -> bool {
+pub fn is_damaged<T: Drop>(answer: Result<T, ReadStop>, path: &str) -> bool {
     match answer {
-        Err(Stop::Refused(Refusal::Damaged(at))) => at.as_str() == path,
+        Err(ReadStop::Damaged(at)) => at.as_str() == path,
         _ => false,
     }
 }
 
-/// Whether an answer is that the disk failed.
-pub fn is_disk<T: Drop>(answer: Result<T, Stop>) -> bool {
-    matches!(answer, Err(Stop::Disk))
+/// Whether a read answers that the disk failed.
+pub fn is_disk<T: Drop>(answer: Result<T, ReadStop>) -> bool {
+    matches!(answer, Err(ReadStop::Disk))
 }
 
-pub fn head(disk: &mut Disk, side: &Side, id: &Id) -> Result<Option<Name>, Stop> {
+/// Whether a call that has no damage to report answers that the disk failed.
+pub fn has_failed<T: Drop>(answer: Result<T, StoreFault>) -> bool {
+    matches!(answer, Err(StoreFault::Failed))
+}
+
+pub fn head(disk: &mut Disk, side: &Side, id: &Id) -> Result<Option<Name>, ReadStop> {
     repo_state::head(disk.alloc, &mut disk.store, &disk.folder, side, id)
 }
 
-pub fn heads(disk: &mut Disk, side: &Side) -> Result<List<HeadEntry>, Stop> {
+pub fn heads(disk: &mut Disk, side: &Side) -> Result<List<HeadEntry>, ReadStop> {
     repo_state::heads(disk.alloc, &mut disk.store, &disk.folder, side)
 }
 
-pub fn all_refs(disk: &mut Disk, side: &Side) -> Result<List<EntityRef>, Stop> {
+pub fn all_refs(disk: &mut Disk, side: &Side) -> Result<List<EntityRef>, StoreFault> {
     repo_state::all_refs(disk.alloc, &mut disk.store, &disk.folder, side)
 }
 
-pub fn ids(disk: &mut Disk, side: &Side) -> Result<List<Id>, Stop> {
+pub fn ids(disk: &mut Disk, side: &Side) -> Result<List<Id>, StoreFault> {
     repo_state::ids(disk.alloc, &mut disk.store, &disk.folder, side)
 }
 
-pub fn stands(disk: &mut Disk, side: &Side, id: &Id) -> Result<bool, Stop> {
+pub fn stands(disk: &mut Disk, side: &Side, id: &Id) -> Result<bool, StoreFault> {
     repo_state::stands(disk.alloc, &mut disk.store, &disk.folder, side, id)
 }
 
-pub fn set_head(disk: &mut Disk, side: &Side, id: &Id, head: &Name) -> Result<(), Stop>
+pub fn set_head(disk: &mut Disk, side: &Side, id: &Id, head: &Name) -> Result<(), StoreFault>
     requires { IsNamedSide side.now }
 {
     repo_state::set_head(disk.alloc, &mut disk.store, &disk.folder, side, id, head)
 }
 
-pub fn user(disk: &mut Disk) -> Result<Option<Id>, Stop> {
+pub fn user(disk: &mut Disk) -> Result<Option<Id>, ReadStop> {
     repo_state::user(disk.alloc, &mut disk.store, &disk.folder)
 }
 
-pub fn set_user(disk: &mut Disk, id: &Id) -> Result<(), Stop> {
+pub fn set_user(disk: &mut Disk, id: &Id) -> Result<(), StoreFault> {
     repo_state::set_user(disk.alloc, &mut disk.store, &disk.folder, id)
 }
 
-pub fn names(disk: &mut Disk) -> Result<List<Person>, Stop> {
+pub fn names(disk: &mut Disk) -> Result<List<Person>, ReadStop> {
     repo_state::names(disk.alloc, &mut disk.store, &disk.folder)
 }
 
-pub fn see(disk: &mut Disk, which: ClockFile, number: u64) -> Result<(), Stop> {
+pub fn see(disk: &mut Disk, which: ClockFile, number: u64) -> Result<(), StoreFault> {
     repo_state::see(disk.alloc, &mut disk.store, &disk.folder, which, number)
 }

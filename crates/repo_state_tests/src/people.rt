@@ -1,7 +1,7 @@
 //! The user and the people of a folder, damaged ones, and stores that fail.
 use crate::calls::{
-    ID, IDENTITY_PATH, USER_PATH, is_damaged, is_disk, names, set_head, set_user, the_id, the_name,
-    user,
+    ID, IDENTITY_PATH, USER_PATH, has_failed, is_damaged, is_disk, names, set_head, set_user,
+    the_id, the_name, user,
 };
 use fixtures::Disk;
 use gb_store::Store;
@@ -128,9 +128,9 @@ fn reads_of_people_that_fail_are_told(rt: HostRuntime) -> Result<(), Fail> {
 fn writes_to_a_store_that_fails_are_told(rt: HostRuntime) -> Result<(), Fail> {
     let mut disk = Disk::failing(rt.alloc(), &[(0, true), (1, true)])?;
     let (id, name) = (the_id()?, the_name()?);
-    assert!(rt; is_disk(set_head(&mut disk, &Side::Bugs, &id, &name)));
+    assert!(rt; has_failed(set_head(&mut disk, &Side::Bugs, &id, &name)));
     assert_eq!(rt; disk.store.writes(), 1);
-    assert!(rt; is_disk(set_user(&mut disk, &id)));
+    assert!(rt; has_failed(set_user(&mut disk, &id)));
     assert_eq!(rt; disk.store.writes(), 2);
     Ok(())
 }

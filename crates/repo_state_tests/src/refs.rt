@@ -2,7 +2,8 @@
 ghost use Rattle.repo_state.specs.Sound.{IsNamedSide};
 
 use crate::calls::{
-    BUG_PATH, all_refs, head, heads, ids, is_damaged, is_disk, set_head, stands, the_id, the_name,
+    BUG_PATH, all_refs, has_failed, head, heads, ids, is_damaged, is_disk, set_head, stands,
+    the_id, the_name,
 };
 use fixtures::{Disk, id};
 use gb_store::Store;
@@ -98,8 +99,8 @@ fn reads_of_refs_that_fail_are_told(rt: HostRuntime) -> Result<(), Fail> {
     let calls = [(0, true), (1, true), (2, true), (3, true)];
     let mut disk = Disk::failing(rt.alloc(), &calls)?;
     let id = the_id()?;
-    assert!(rt; is_disk(ids(&mut disk, &Side::Bugs)));
-    assert!(rt; is_disk(stands(&mut disk, &Side::Bugs, &id)));
+    assert!(rt; has_failed(ids(&mut disk, &Side::Bugs)));
+    assert!(rt; has_failed(stands(&mut disk, &Side::Bugs, &id)));
     assert!(rt; is_disk(head(&mut disk, &Side::Bugs, &id)));
     assert!(rt; is_disk(heads(&mut disk, &Side::Bugs)));
     Ok(())

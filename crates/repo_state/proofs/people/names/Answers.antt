@@ -5,7 +5,7 @@ use Rattle.object_store.specs.Held.{objects_in}
 use Rattle.ref_store.specs.declared.listing.RefEntry.{RefEntry}
 use Rattle.repo_state.specs.Answers.{ArePersons, HasBadPerson, PeopleOf, Reads}
 use Rattle.repo_state.specs.People.{ArePeople}
-use Rattle.repo_state.specs.declared.refusal.Stop.{Stop}
+use Rattle.repo_state.specs.declared.stop.ReadStop.{ReadStop}
 use Rattle.repo_state.proofs.PeopleLemmas.{people_of_refs, reads_people, stops_at_bad_person}
 use Rattle.repo_state.proofs.people.names.Goals as goal
 
@@ -17,7 +17,7 @@ returns-in_err-people-clause-answers g c = λ tells.
     let refused : PeopleOf files folder c.in_ok-entries.entries (Err c.in_err-people.field-0.0) =
     subst (λ (es : List RefEntry). PeopleOf files folder es (Err c.in_err-people.field-0.0)) c.as_slice.ensures
     (subst (λ (h : History). PeopleOf (files_of h) folder c.as_slice.result.now (Err c.in_err-people.field-0.0)) (c.in_ok-entries.ensures.unwritten tells) (c.in_err-people.ensures.answers tells)) in
-    subst (λ (r : Result (List Person) Stop). Reads (ArePeople files folder) (HasBadPerson files folder) r) (sym is)
+    subst (λ (r : Result (List Person) ReadStop). Reads (ArePeople files folder) (HasBadPerson files folder) r) (sym is)
     (stops_at_bad_person files folder c.in_ok-entries.entries (c.in_ok-entries.ensures.entries tells) c.in_err-people.field-0.0 refused)
 
 pub returns-in_err-people-clause-reads : goal.returns-in_err-people-clause-reads

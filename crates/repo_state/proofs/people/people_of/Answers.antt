@@ -8,7 +8,7 @@ use Rattle.identity.specs.declared.chain.Person.{Person}
 use Rattle.ref_store.specs.declared.listing.RefEntry.{RefEntry}
 use Rattle.ref_store.specs.declared.listing.RefFound.TheVariants as found
 use Rattle.repo_state.specs.Answers.{ArePersons, PeopleOf, PersonOf}
-use Rattle.repo_state.specs.declared.refusal.Stop.{Stop}
+use Rattle.repo_state.specs.declared.stop.ReadStop.{ReadStop}
 use Rattle.repo_state.proofs.PeopleLemmas.{ArePersons-more, people_stop}
 use Rattle.repo_state.proofs.people.people_of.Goals as goal
 
@@ -41,5 +41,5 @@ returns-in_err-person_of-clause-answers g c = λ tells.
     let is : c.from_residual.result ≡ Err c.in_err-person_of.field-0.0 = search rules in
     let told : PersonOf files c.args.folder.now entry (Err c.in_err-person_of.field-0.0) =
     subst (λ (h : History). PersonOf (files_of h) c.args.folder.now entry (Err c.in_err-person_of.field-0.0)) (c.loop-entry.invariant.unwritten tells) (c.in_err-person_of.ensures.answers tells) in
-    subst (λ (r : Result (Vec Person Global) Stop). PeopleOf files c.args.folder.now c.args.entries.now r) (sym is)
+    subst (λ (r : Result (Vec Person Global) ReadStop). PeopleOf files c.args.folder.now c.args.entries.now r) (sym is)
     (people_stop files c.args.folder.now c.args.entries.now c.loop-entry.people.items c.loop-entry.entry-index none c.loop-entry-test.true (c.loop-entry.invariant.are tells) c.in_err-person_of.field-0.0 told)

@@ -3,7 +3,7 @@ use Rattle.gb_store.specs.Files.{files_of}
 use Rattle.ref_store.specs.declared.listing.RefEntry.{RefEntry}
 use Rattle.repo_state.specs.Answers.{HasBadRef, HeadsOf, Reads, as_entry}
 use Rattle.repo_state.specs.Sides.{AreHeads}
-use Rattle.repo_state.specs.declared.refusal.Stop.{Stop}
+use Rattle.repo_state.specs.declared.stop.ReadStop.{ReadStop}
 use Rattle.repo_state.specs.declared.side.HeadEntry.{HeadEntry}
 use Rattle.repo_state.proofs.ListingLemmas.{heads_of_refs, stops_at_bad_ref}
 use Rattle.repo_state.proofs.refs.heads.Goals as goal
@@ -14,7 +14,7 @@ returns-in_err-heads_of-clause-answers g c = λ tells.
     let is : c.from_residual-in_err-heads_of.result ≡ Err c.in_err-heads_of.field-0.0 = search rules in
     let refused : HeadsOf c.args.folder.now c.args.side.now c.in_ok-entries.entries (Err c.in_err-heads_of.field-0.0) =
     subst (λ (es : List RefEntry). HeadsOf c.args.folder.now c.args.side.now es (Err c.in_err-heads_of.field-0.0)) c.as_slice.ensures c.in_err-heads_of.ensures in
-    subst (λ (r : Result (List HeadEntry) Stop). Reads (AreHeads files c.args.folder.now c.args.side.now) (HasBadRef files c.args.folder.now c.args.side.now) r) (sym is)
+    subst (λ (r : Result (List HeadEntry) ReadStop). Reads (AreHeads files c.args.folder.now c.args.side.now) (HasBadRef files c.args.folder.now c.args.side.now) r) (sym is)
     (stops_at_bad_ref files c.args.folder.now c.args.side.now c.in_ok-entries.entries (c.in_ok-entries.ensures.entries tells) c.in_err-heads_of.field-0.0 refused)
 
 pub returns-clause-answers : goal.returns-clause-answers
