@@ -1,30 +1,18 @@
--- The answers of parts, as answers of the log.
-use Rattle.std.proofs.Common.{inr, ℕ, List, Result, Ok, Err}
+-- What keeps a bug from being read, as an answer of the log; and what the log reads.
+use Rattle.std.proofs.Common.{◌≡◌, inr, ℕ, List, Err, subst}
 use Rattle.gb_store.specs.Files.{Files}
-use Rattle.repo_state.specs.declared.refusal.Refusal.TheVariants as refusal
-use Rattle.repo_state.specs.declared.refusal.Stop.{Stop}
-use Rattle.repo_state.specs.declared.refusal.Stop.TheVariants as stop
+use Rattle.repo_state.specs.Bugs.{BugRefused, FindsBug, ReadsBelow}
+use Rattle.repo_state.specs.Stops.{find_of_read}
 use Rattle.repo_state.specs.declared.side.HeadEntry.{HeadEntry}
-use Rattle.repo_state.specs.Bugs.{FindsBug}
-use Rattle.repo_view.specs.Log.{LogAnswers, LogOfBug}
+use Rattle.repo_state.specs.declared.stop.ReadStop.{ReadStop}
+use Rattle.repo_state.specs.declared.stop.ReadStop.TheVariants as read
+use Rattle.repo_view.specs.Log.{LogAnswers, ReadsLog}
 
--- the answer for a bug that a word finds is that for the word
-pub LogAnswers-of : (files : Files) (folder word : List ℕ) (bug : HeadEntry) (result : Result (List ℕ) Stop)
-    → FindsBug files folder word bug → LogOfBug files folder bug result → LogAnswers files folder word result
-LogAnswers-of files folder word bug (Ok text) finds told = (bug, finds, told)
-LogAnswers-of files folder word bug (Err stop.Memory) finds told = tt
-LogAnswers-of files folder word bug (Err stop.Disk) finds told = tt
-LogAnswers-of files folder word bug (Err (stop.Refused (refusal.Damaged path))) finds told =
-    (bug.id, finds.found, told.0, inr (bug.name, finds.head, told.1))
-LogAnswers-of files folder word bug (Err (stop.Refused refusal.NoUser)) finds told = absurd told
-LogAnswers-of files folder word bug (Err (stop.Refused refusal.NotFound)) finds told = absurd told
-LogAnswers-of files folder word bug (Err (stop.Refused (refusal.BadText place))) finds told = absurd told
-LogAnswers-of files folder word bug (Err (stop.Refused refusal.NoLabelChange)) finds told = absurd told
-LogAnswers-of files folder word bug (Err (stop.Refused refusal.SameStatus)) finds told = absurd told
-LogAnswers-of files folder word bug (Err (stop.Refused (refusal.ClockFull name))) finds told = absurd told
-LogAnswers-of files folder word bug (Err (stop.Refused (refusal.RepeatedOperation other))) finds told = absurd told
-LogAnswers-of files folder word bug (Err (stop.Refused (refusal.EntityExists other))) finds told = absurd told
-LogAnswers-of files folder word bug (Err (stop.Refused (refusal.NameTaken name))) finds told = absurd told
-LogAnswers-of files folder word bug (Err (stop.Refused (refusal.TooLarge count))) finds told = absurd told
-LogAnswers-of files folder word bug (Err (stop.Refused (refusal.SomeRefused count))) finds told = absurd told
-LogAnswers-of files folder word bug (Err (stop.Refused refusal.BadFolder)) finds told = absurd told
+module _ (files : Files) (folder word : List ℕ) (bug : HeadEntry) (finds : FindsBug files folder word bug) where
+  pub no_log : (s : ReadStop) → BugRefused files folder bug s → LogAnswers files folder word (Err (find_of_read s))
+  no_log read.Memory refused = tt
+  no_log read.Disk refused = tt
+  no_log (read.Damaged path) refused = (bug.id, finds.found, refused.0, inr (bug.name, finds.head, refused.1))
+
+  pub log_reads : (old found new : ℕ) → found ≡ old → ReadsBelow files folder bug found new → ReadsLog files folder word old new
+  log_reads old found new same reads = inr (bug, finds, subst (λ (n : ℕ). ReadsBelow files folder bug n new) same reads)

@@ -6,10 +6,10 @@ use Rattle.object_store.specs.Held.{objects_in}
 use Rattle.bug_ops.specs.Kind.{bug_kind}
 use Rattle.dag_entity.specs.Faults.{EntityFaultHolds}
 use Rattle.dag_entity.specs.declared.fault.EntityFault.{EntityFault}
-use Rattle.repo_state.specs.declared.refusal.Refusal.{Refusal}
-use Rattle.repo_state.specs.declared.refusal.Refusal.TheVariants as refusal
-use Rattle.repo_state.specs.declared.refusal.Stop.TheVariants as stop
 use Rattle.repo_state.specs.declared.side.HeadEntry.{HeadEntry}
+use Rattle.repo_state.specs.declared.stop.FindStop.TheVariants as stop
+use Rattle.repo_state.specs.declared.stop.Missed.{Missed}
+use Rattle.repo_state.specs.declared.stop.Missed.TheVariants as missed
 use Rattle.repo_state.specs.Bugs.{AreLocal, FindsBug}
 use Rattle.repo_state.proofs.BugLemmas.{bug_no_fault, bug_not_damaged, one_bug, one_order}
 use Rattle.render.specs.Log.{log_text_of}
@@ -33,22 +33,11 @@ no_fault files folder word text bug authors fault log finds locals holds =
     let is : IsLog files folder bug text = subst (λ (b : HeadEntry). IsLog files folder b text) (one_bug files folder word log.0 bug log.1 finds) log.2 in
     bug_no_fault files folder bug is.entity is.is (record { authors = authors; locals = locals; fault = fault; holds = holds })
 
--- in a sound folder no log is refused for damage
-pub log_not_damaged : (files : Files) (folder word path : List ℕ) → IsSound folder files → LogAnswers files folder word (Err (stop.Refused (refusal.Damaged path))) → ⊥
+-- in a sound folder no log is damaged
+pub log_not_damaged : (files : Files) (folder word path : List ℕ) → IsSound folder files → LogAnswers files folder word (Err (stop.Missed (missed.Damaged path))) → ⊥
 log_not_damaged files folder word path sound (id, found, at, wrong) = no_bad_found folder files sound word id found wrong
 
--- nor is it refused
-pub no_refusal : (files : Files) (folder word text : List ℕ) (refused : Refusal) → LogAnswers files folder word (Ok text) → LogAnswers files folder word (Err (stop.Refused refused)) → ⊥
-no_refusal files folder word text refusal.NotFound log h = finds_not_both (log.0).id log.1.found h
-no_refusal files folder word text (refusal.Damaged path) log h = bug_not_damaged files folder word log.0 log.2.entity h.0 log.1 log.2.is h.1 h.3
-no_refusal files folder word text refusal.NoUser log h = absurd h
-no_refusal files folder word text (refusal.BadText place) log h = absurd h
-no_refusal files folder word text refusal.NoLabelChange log h = absurd h
-no_refusal files folder word text refusal.SameStatus log h = absurd h
-no_refusal files folder word text (refusal.ClockFull name) log h = absurd h
-no_refusal files folder word text (refusal.RepeatedOperation other) log h = absurd h
-no_refusal files folder word text (refusal.EntityExists other) log h = absurd h
-no_refusal files folder word text (refusal.NameTaken name) log h = absurd h
-no_refusal files folder word text (refusal.TooLarge count) log h = absurd h
-no_refusal files folder word text (refusal.SomeRefused count) log h = absurd h
-no_refusal files folder word text refusal.BadFolder log h = absurd h
+-- a bug that has a log is not missed
+pub log_not_missed : (files : Files) (folder word text : List ℕ) (why : Missed) → LogAnswers files folder word (Ok text) → LogAnswers files folder word (Err (stop.Missed why)) → ⊥
+log_not_missed files folder word text missed.NotFound log h = finds_not_both (log.0).id log.1.found h
+log_not_missed files folder word text (missed.Damaged path) log h = bug_not_damaged files folder word log.0 log.2.entity h.0 log.1 log.2.is h.1 h.3

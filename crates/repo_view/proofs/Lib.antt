@@ -1,6 +1,6 @@
 pub mod AnswerLemmas
 pub mod LawLemmas
+pub mod MissedLemmas
 pub mod PeopleLemmas
-pub mod RefusalLemmas
 pub mod ShowLemmas
 pub mod ShownLemmas

@@ -13,21 +13,20 @@ use Rattle.render.specs.Show.{show_text_of}
 use Rattle.repo_state.specs.Answers.{HasBadPerson, Reads}
 use Rattle.repo_state.specs.Bugs.{FindsBug, IsBug}
 use Rattle.repo_state.specs.People.{ArePeople}
-use Rattle.repo_state.specs.declared.refusal.Refusal.TheVariants as refusal
-use Rattle.repo_state.specs.declared.refusal.Stop.{Stop}
-use Rattle.repo_state.specs.declared.refusal.Stop.TheVariants as stop
+use Rattle.repo_state.specs.Stops.{find_of_read}
 use Rattle.repo_state.specs.declared.side.HeadEntry.{HeadEntry}
+use Rattle.repo_state.specs.declared.stop.ReadStop.{ReadStop}
+use Rattle.repo_state.specs.declared.stop.ReadStop.TheVariants as read
 use Rattle.repo_view.specs.Shown.{ShowAnswers}
 use Rattle.repo_state.proofs.BugListLemmas.{entity_is_bug_list}
 
 module _ (files : Files) (folder word : List ℕ) where
   -- where the people are not told, a bug with which nothing is wrong isn't
-  pub no_people : (bug : HeadEntry) (entity : Entity BugOp) (s : Stop) → FindsBug files folder word bug → IsBug files folder bug entity
-      → Reads (ArePeople files folder) (HasBadPerson files folder) (Err s) → ShowAnswers files folder word (Err s)
-  no_people bug entity stop.Memory finds is told = tt
-  no_people bug entity stop.Disk finds is told = tt
-  no_people bug entity (stop.Refused (refusal.Damaged path)) finds is told = inr (bug, finds, entity, is, told)
-  no_people bug entity (stop.Refused _) finds is told = absurd told
+  pub no_people : (bug : HeadEntry) (entity : Entity BugOp) (s : ReadStop) → FindsBug files folder word bug → IsBug files folder bug entity
+      → Reads (ArePeople files folder) (HasBadPerson files folder) (Err s) → ShowAnswers files folder word (Err (find_of_read s))
+  no_people bug entity read.Memory finds is told = tt
+  no_people bug entity read.Disk finds is told = tt
+  no_people bug entity (read.Damaged path) finds is told = inr (bug, finds, entity, is, told)
 
   -- the text of the operations of a bug's packs is the bug as text
   pub bug_shown : (bug : HeadEntry) (entity : Entity BugOp) (people : List Person) (text : List ℕ) → FindsBug files folder word bug → IsBug files folder bug entity

@@ -2,7 +2,6 @@
 use Rattle.std.proofs.Common.{◌≡◌, ℕ, inl, inr, Bool, true, false, not, List, [], ◌∷◌, ◌++◌, map, filter, flat_map, filter_map, Some, None, Ok, Err, refl, sym, ◌∙◌, ap, subst, arith}
 use Rattle.std.specs.Prelude.{codes, if◌then◌else◌}
 use Rattle.std.specs.List.{AllByRecursion}
-use Rattle.std.proofs.lemmas.Option.{same_Some}
 use Rattle.gb_text.specs.Folder.{joined}
 use Rattle.gb_text.specs.declared.id.Id.{Id}
 use Rattle.gb_store.specs.Files.{Files}
@@ -28,16 +27,17 @@ use Rattle.repo_state.specs.Finds.{Finds, One}
 use Rattle.repo_state.specs.Sides.{ref_place}
 use Rattle.repo_state.specs.Sound.{IsSound, IsSoundIdentity}
 use Rattle.repo_state.specs.Sound as parts
-use Rattle.repo_state.specs.declared.refusal.Refusal.{Refusal}
-use Rattle.repo_state.specs.declared.refusal.Refusal.TheVariants as refusal
-use Rattle.repo_state.specs.declared.refusal.Stop.TheVariants as stop
 use Rattle.repo_state.specs.declared.side.HeadEntry.{HeadEntry}
 use Rattle.repo_state.specs.declared.side.Side.TheVariants as side
+use Rattle.repo_state.specs.declared.stop.FindStop.TheVariants as stop
+use Rattle.repo_state.specs.declared.stop.Missed.{Missed}
+use Rattle.repo_state.specs.declared.stop.Missed.TheVariants as missed
+use Rattle.repo_state.specs.declared.stop.ReadStop.TheVariants as read
 use Rattle.repo_state.proofs.BugLemmas.{bug_no_fault, bug_not_damaged, one_bug}
 use Rattle.repo_state.proofs.FoundLemmas.{finds_not_both, finds_the_same}
 use Rattle.repo_state.proofs.UndamagedLemmas.{no_bad_found}
 use Rattle.repo_view.specs.Shown.{AgreeOnAuthors, HaveSameCommits, IsShown, ShowAnswers, UsersAnswers}
-use Rattle.repo_view.proofs.PeopleLemmas.{no_bad_among, one_bad_person, one_people, one_user, user_not_bad}
+use Rattle.repo_view.proofs.PeopleLemmas.{no_bad_among, one_people, one_user, user_not_bad}
 
 -- ---- lists
 
@@ -145,39 +145,16 @@ shown_no_fault files folder word text bug authors fault shown finds locals holds
     let is : IsShown files folder bug text = subst (λ (b : HeadEntry). IsShown files folder b text) (one_bug files folder word shown.0 bug shown.1 finds) shown.2 in
     bug_no_fault files folder bug is.entity is.is_bug (record { authors = authors; locals = locals; fault = fault; holds = holds })
 
--- a bug that is shown is not refused
-pub show_not_refused : (files : Files) (folder word text : List ℕ) (refused : Refusal) → ShowAnswers files folder word (Ok text) → ShowAnswers files folder word (Err (stop.Refused refused)) → ⊥
-show_not_refused files folder word text refusal.NotFound shown h = finds_not_both (shown.0).id shown.1.found h
-show_not_refused files folder word text (refusal.Damaged path) shown (inl h) = bug_not_damaged files folder word shown.0 shown.2.entity h.0 shown.1 shown.2.is_bug h.1 h.3
-show_not_refused files folder word text (refusal.Damaged path) shown (inr (bug, finds, entity, is, bad)) = no_bad_among files folder path shown.2.people shown.2.are_people bad
-show_not_refused files folder word text refusal.NoUser shown h = absurd h
-show_not_refused files folder word text (refusal.BadText place) shown h = absurd h
-show_not_refused files folder word text refusal.NoLabelChange shown h = absurd h
-show_not_refused files folder word text refusal.SameStatus shown h = absurd h
-show_not_refused files folder word text (refusal.ClockFull name) shown h = absurd h
-show_not_refused files folder word text (refusal.RepeatedOperation other) shown h = absurd h
-show_not_refused files folder word text (refusal.EntityExists other) shown h = absurd h
-show_not_refused files folder word text (refusal.NameTaken name) shown h = absurd h
-show_not_refused files folder word text (refusal.TooLarge count) shown h = absurd h
-show_not_refused files folder word text (refusal.SomeRefused count) shown h = absurd h
-show_not_refused files folder word text refusal.BadFolder shown h = absurd h
+-- a bug that is shown is not missed
+pub show_not_missed : (files : Files) (folder word text : List ℕ) (why : Missed) → ShowAnswers files folder word (Ok text) → ShowAnswers files folder word (Err (stop.Missed why)) → ⊥
+show_not_missed files folder word text missed.NotFound shown h = finds_not_both (shown.0).id shown.1.found h
+show_not_missed files folder word text (missed.Damaged path) shown (inl h) = bug_not_damaged files folder word shown.0 shown.2.entity h.0 shown.1 shown.2.is_bug h.1 h.3
+show_not_missed files folder word text (missed.Damaged path) shown (inr (bug, finds, entity, is, bad)) = no_bad_among files folder path shown.2.people shown.2.are_people bad
 
--- nor are people that are shown
-pub users_not_refused : (files : Files) (folder text : List ℕ) (refused : Refusal) → UsersAnswers files folder (Ok text) → UsersAnswers files folder (Err (stop.Refused refused)) → ⊥
-users_not_refused files folder text (refusal.Damaged path) shown (inl bad) = no_bad_among files folder path shown.0 shown.1 bad
-users_not_refused files folder text (refusal.Damaged path) shown (inr (people, are, bad)) = user_not_bad files folder path shown.2 shown.3 bad
-users_not_refused files folder text refusal.NotFound shown h = absurd h
-users_not_refused files folder text refusal.NoUser shown h = absurd h
-users_not_refused files folder text (refusal.BadText place) shown h = absurd h
-users_not_refused files folder text refusal.NoLabelChange shown h = absurd h
-users_not_refused files folder text refusal.SameStatus shown h = absurd h
-users_not_refused files folder text (refusal.ClockFull name) shown h = absurd h
-users_not_refused files folder text (refusal.RepeatedOperation other) shown h = absurd h
-users_not_refused files folder text (refusal.EntityExists other) shown h = absurd h
-users_not_refused files folder text (refusal.NameTaken name) shown h = absurd h
-users_not_refused files folder text (refusal.TooLarge count) shown h = absurd h
-users_not_refused files folder text (refusal.SomeRefused count) shown h = absurd h
-users_not_refused files folder text refusal.BadFolder shown h = absurd h
+-- of people that are shown none is damaged, nor is the user file
+pub shown_not_damaged : (files : Files) (folder text path : List ℕ) → UsersAnswers files folder (Ok text) → UsersAnswers files folder (Err (read.Damaged path)) → ⊥
+shown_not_damaged files folder text path shown (inl bad) = no_bad_among files folder path shown.0 shown.1 bad
+shown_not_damaged files folder text path shown (inr (people, are, bad)) = user_not_bad files folder path shown.2 shown.3 bad
 
 -- a word has one text
 pub one_show : (files : Files) (folder word one two : List ℕ) → ShowAnswers files folder word (Ok one) → ShowAnswers files folder word (Ok two) → one ≡ two
@@ -214,12 +191,12 @@ no_bad_person files folder path sound (id, first, at) = not_bad first.is_so
         no_fault_at (objects_in files folder) head version.0 fault version.1 none
 
 -- so no bug is refused for damage
-pub show_not_damaged : (files : Files) (folder word path : List ℕ) → IsSound folder files → ShowAnswers files folder word (Err (stop.Refused (refusal.Damaged path))) → ⊥
+pub show_not_damaged : (files : Files) (folder word path : List ℕ) → IsSound folder files → ShowAnswers files folder word (Err (stop.Missed (missed.Damaged path))) → ⊥
 show_not_damaged files folder word path sound (inl (id, found, at, wrong)) = no_bad_found folder files sound word id found wrong
 show_not_damaged files folder word path sound (inr (bug, finds, entity, is, bad)) = no_bad_person files folder path sound bad
 
 -- nor are the people
-pub users_not_damaged : (files : Files) (folder path : List ℕ) → IsSound folder files → UsersAnswers files folder (Err (stop.Refused (refusal.Damaged path))) → ⊥
+pub users_not_damaged : (files : Files) (folder path : List ℕ) → IsSound folder files → UsersAnswers files folder (Err (read.Damaged path)) → ⊥
 users_not_damaged files folder path sound (inl bad) = no_bad_person files folder path sound bad
 users_not_damaged files folder path sound (inr (people, are, bad)) = sound parts.User bad.1
 
@@ -227,13 +204,13 @@ users_not_damaged files folder path sound (inr (people, are, bad)) = sound parts
 
 -- a bug with which something is wrong is told, and no person
 pub bug_told_first : (files : Files) (folder word path : List ℕ) (id : Id) → Finds files folder side.Bugs word (One id) → IsDamagedBug files folder id
-    → ShowAnswers files folder word (Err (stop.Refused (refusal.Damaged path))) → path ≡ joined folder (ref_place side.Bugs id)
+    → ShowAnswers files folder word (Err (stop.Missed (missed.Damaged path))) → path ≡ joined folder (ref_place side.Bugs id)
 bug_told_first files folder word path id found wrong (inl (other, has, at, damaged)) =
     at ∙ ap (λ (bug : Id). joined folder (ref_place side.Bugs bug)) (finds_the_same other id has found)
 bug_told_first files folder word path id found wrong (inr (bug, finds, entity, is, person)) = absurd (bug_not_damaged files folder word bug entity id finds is found wrong)
 
 -- where a person is damaged, one is told, and no user file
-pub person_told_first : (files : Files) (folder path other : List ℕ) → HasBadPerson files folder other → UsersAnswers files folder (Err (stop.Refused (refusal.Damaged path)))
+pub person_told_first : (files : Files) (folder path other : List ℕ) → HasBadPerson files folder other → UsersAnswers files folder (Err (read.Damaged path))
     → HasBadPerson files folder path
 person_told_first files folder path other bad (inl told) = told
 person_told_first files folder path other bad (inr (people, are, user)) = absurd (no_bad_among files folder other people are bad)

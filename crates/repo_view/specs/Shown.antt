@@ -20,11 +20,13 @@ use Rattle.repo_state.specs.Bugs.{FindsBug, IsBug, IsDamagedBug, ReadsBelow}
 use Rattle.repo_state.specs.People.{ArePeople}
 use Rattle.repo_state.specs.Finds.{Finds, Nothing, One}
 use Rattle.repo_state.specs.Sides.{ref_place}
-use Rattle.repo_state.specs.declared.refusal.Refusal.TheVariants as refusal
-use Rattle.repo_state.specs.declared.refusal.Stop.{Stop}
-use Rattle.repo_state.specs.declared.refusal.Stop.TheVariants as stop
 use Rattle.repo_state.specs.declared.side.HeadEntry.{HeadEntry}
 use Rattle.repo_state.specs.declared.side.Side.TheVariants as side
+use Rattle.repo_state.specs.declared.stop.FindStop.{FindStop}
+use Rattle.repo_state.specs.declared.stop.FindStop.TheVariants as stop
+use Rattle.repo_state.specs.declared.stop.Missed.TheVariants as missed
+use Rattle.repo_state.specs.declared.stop.ReadStop.{ReadStop}
+use Rattle.repo_state.specs.declared.stop.ReadStop.TheVariants as read
 
 -- ---- a bug
 
@@ -53,15 +55,14 @@ HaveSameCommits files folder bug others place top = (placed : Placed BugOp)
 
 -- the answer to `show`: the bug that the word finds as text; or why it is none: a person is told as damaged only where nothing is wrong with the bug. Want of
 -- memory and faults of the disk have no cause here
-abbrev pub ShowAnswers : Files → List ℕ → List ℕ → Result (List ℕ) Stop → Type 0
+abbrev pub ShowAnswers : Files → List ℕ → List ℕ → Result (List ℕ) FindStop → Type 0
 ShowAnswers files folder word (Ok text) = (bug : HeadEntry) × FindsBug files folder word bug × IsShown files folder bug text
 ShowAnswers files folder word (Err stop.Memory) = ⊤
 ShowAnswers files folder word (Err stop.Disk) = ⊤
-ShowAnswers files folder word (Err (stop.Refused refusal.NotFound)) = Finds files folder side.Bugs word Nothing
-ShowAnswers files folder word (Err (stop.Refused (refusal.Damaged path))) =
+ShowAnswers files folder word (Err (stop.Missed missed.NotFound)) = Finds files folder side.Bugs word Nothing
+ShowAnswers files folder word (Err (stop.Missed (missed.Damaged path))) =
     ((id : Id) × Finds files folder side.Bugs word (One id) × (path ≡ joined folder (ref_place side.Bugs id)) × IsDamagedBug files folder id)
     ⊎ ((bug : HeadEntry) × FindsBug files folder word bug × (entity : Entity BugOp) × IsBug files folder bug entity × HasBadPerson files folder path)
-ShowAnswers files folder word (Err (stop.Refused _)) = ⊥
 
 -- none was read; or at most three objects for each of some commits below the head of the bug that the word finds, and three for each person
 abbrev pub ReadsShow : Files → List ℕ → List ℕ → ℕ → ℕ → Type 0
@@ -72,10 +73,9 @@ ReadsShow files folder word before after =
 -- ---- the people
 
 -- the answer to `users`: the people of the folder and its user as text; or the path of a file that is damaged: that of the user only where no person is
-abbrev pub UsersAnswers : Files → List ℕ → Result (List ℕ) Stop → Type 0
+abbrev pub UsersAnswers : Files → List ℕ → Result (List ℕ) ReadStop → Type 0
 UsersAnswers files folder (Ok text) = (people : List Person) × ArePeople files folder people × (user : Option Id) × IsUser files folder user × (text ≡ users_text_of people user)
-UsersAnswers files folder (Err stop.Memory) = ⊤
-UsersAnswers files folder (Err stop.Disk) = ⊤
-UsersAnswers files folder (Err (stop.Refused (refusal.Damaged path))) =
+UsersAnswers files folder (Err read.Memory) = ⊤
+UsersAnswers files folder (Err read.Disk) = ⊤
+UsersAnswers files folder (Err (read.Damaged path)) =
     HasBadPerson files folder path ⊎ ((people : List Person) × ArePeople files folder people × IsBadUser files folder path)
-UsersAnswers files folder (Err (stop.Refused _)) = ⊥

@@ -5,7 +5,6 @@ ghost use Rattle.dag_entity.specs.Entities.{ops_in};
 ghost use Rattle.gb_store.specs.Faults.{KeepsFaults};
 ghost use Rattle.gb_store.specs.Files.{files_of};
 ghost use Rattle.render.specs.Show.{show_text_of};
-ghost use Rattle.repo_state.specs.Answers.{OnlyMissed};
 ghost use Rattle.repo_view.specs.Shown.{ReadsShow, ShowAnswers};
 ghost use Rattle.snapshot.specs.LastMention.{IsBugList, snapshot_of};
 
@@ -15,7 +14,7 @@ use gb_store::Store;
 use gb_text::{Folder, List, Memory, Text};
 use identity::Person;
 use render::show_text;
-use repo_state::{Side, Stop, bug_at, find_head, names, ops_of};
+use repo_state::{FindStop, Side, bug_at, find_head, names, ops_of};
 use snapshot::compile;
 use std::alloc::Global;
 
@@ -29,14 +28,13 @@ pub fn show<S: Store>(
     disk: &mut S,
     folder: &Folder,
     word: &str,
-) -> Result<Text, Stop>
+) -> Result<Text, FindStop>
     ensures answers { IsTrue S.tells
         → ShowAnswers (files_of (S.history disk.old)) folder.now word.now result }
-    ensures only_missed { OnlyMissed result }
     ensures unwritten { IsTrue S.tells → S.history disk.new ≡ S.history disk.old }
     ensures reads { IsTrue S.tells → ReadsShow (files_of (S.history disk.old)) folder.now word.now
         (S.object_reads disk.old) (S.object_reads disk.new) }
-    ensures caused { KeepsFaults S.never_fails S.faults (IsErrOf result Stop.Disk)
+    ensures caused { KeepsFaults S.never_fails S.faults (IsErrOf result FindStop.Disk)
         disk.old disk.new }
 {
     let bug = find_head(alloc, disk, folder, &Side::Bugs, word)?;

@@ -23,88 +23,88 @@ ghost use Rattle.repo_state.specs.People.{ArePeople};
 ghost use Rattle.repo_state.specs.Finds.{Finds, One};
 ghost use Rattle.repo_state.specs.Sides.{ref_place};
 ghost use Rattle.repo_state.specs.Sound.{IsSound};
-ghost use Rattle.repo_state.specs.declared.refusal.Refusal.{Refusal};
-ghost use Rattle.repo_state.specs.declared.refusal.Refusal.TheVariants as refusal;
-ghost use Rattle.repo_state.specs.declared.refusal.Stop.TheVariants as stop;
 ghost use Rattle.repo_state.specs.declared.side.HeadEntry.{HeadEntry};
 ghost use Rattle.repo_state.specs.declared.side.Side.TheVariants as side;
+ghost use Rattle.repo_state.specs.declared.stop.FindStop.TheVariants as stop;
+ghost use Rattle.repo_state.specs.declared.stop.Missed.{Missed};
+ghost use Rattle.repo_state.specs.declared.stop.Missed.TheVariants as missed;
+ghost use Rattle.repo_state.specs.declared.stop.ReadStop.TheVariants as read;
 ghost use Rattle.repo_view.specs.Log.{LogAnswers};
 ghost use Rattle.repo_view.specs.Shown.{AgreeOnAuthors, HaveSameCommits, ShowAnswers, UsersAnswers};
 
-/// If `log` may print a text, nothing is wrong with the bug's entity, and no refusal has a cause. So
-/// `log` answers a refusal exactly where its cause holds.
+/// If `log` may print a text, nothing is wrong with the bug's entity, and it is neither not found nor
+/// damaged. So `log` answers `NotFound` or `Damaged` exactly where its cause holds.
 pub fn a_log_has_no_fault()
     ensures fault { (files : Files) (folder word text : List ℕ) (bug : HeadEntry)
         (authors : List Id) (fault : EntityFault) → LogAnswers files folder word (Ok text)
         → FindsBug files folder word bug → AreLocal files folder authors
         → EntityFaultHolds bug_kind (objects_in files folder) bug.id (bug.name ∷ []) authors fault
         → ⊥ }
-    ensures refusal { (files : Files) (folder word text : List ℕ) (refusal : Refusal)
+    ensures missed { (files : Files) (folder word text : List ℕ) (why : Missed)
         → LogAnswers files folder word (Ok text)
-        → LogAnswers files folder word (Err (stop.Refused refusal)) → ⊥ }
+        → LogAnswers files folder word (Err (stop.Missed why)) → ⊥ }
 {}
 
-/// For the same files and arguments `log` has at most one text and one refusal.
+/// For the same files and arguments `log` has at most one text, and misses the bug in one way.
 pub fn logs_are_determined()
     ensures told { (files : Files) (folder word one two : List ℕ)
         → LogAnswers files folder word (Ok one) → LogAnswers files folder word (Ok two)
         → one ≡ two }
-    ensures refused { (files : Files) (folder word : List ℕ) (one two : Refusal)
-        → LogAnswers files folder word (Err (stop.Refused one))
-        → LogAnswers files folder word (Err (stop.Refused two)) → one ≡ two }
+    ensures missed { (files : Files) (folder word : List ℕ) (one two : Missed)
+        → LogAnswers files folder word (Err (stop.Missed one))
+        → LogAnswers files folder word (Err (stop.Missed two)) → one ≡ two }
 {}
 
-/// In a sound folder `log` is not refused for damage.
+/// In a sound folder `log` reports no damage.
 pub fn sound_folders_have_logs()
     ensures { (files : Files) (folder word path : List ℕ) → IsSound folder files
-        → LogAnswers files folder word (Err (stop.Refused (refusal.Damaged path))) → ⊥ }
+        → LogAnswers files folder word (Err (stop.Missed (missed.Damaged path))) → ⊥ }
 {}
 
-/// If `show` may print a text, nothing is wrong with the bug's entity, and no refusal has a cause. So
-/// `show` answers a refusal exactly where its cause holds.
+/// If `show` may print a text, nothing is wrong with the bug's entity, and neither it nor a person is
+/// damaged. So `show` answers `NotFound` or `Damaged` exactly where its cause holds.
 pub fn a_shown_bug_has_no_fault()
     ensures fault { (files : Files) (folder word text : List ℕ) (bug : HeadEntry)
         (authors : List Id) (fault : EntityFault) → ShowAnswers files folder word (Ok text)
         → FindsBug files folder word bug → AreLocal files folder authors
         → EntityFaultHolds bug_kind (objects_in files folder) bug.id (bug.name ∷ []) authors fault
         → ⊥ }
-    ensures refusal { (files : Files) (folder word text : List ℕ) (refusal : Refusal)
+    ensures missed { (files : Files) (folder word text : List ℕ) (why : Missed)
         → ShowAnswers files folder word (Ok text)
-        → ShowAnswers files folder word (Err (stop.Refused refusal)) → ⊥ }
+        → ShowAnswers files folder word (Err (stop.Missed why)) → ⊥ }
 {}
 
-/// If `users` may print a text, no refusal has a cause.
+/// If `users` may print a text, no person and no user file is damaged.
 pub fn shown_people_are_not_damaged()
-    ensures { (files : Files) (folder text : List ℕ) (refusal : Refusal)
-        → UsersAnswers files folder (Ok text)
-        → UsersAnswers files folder (Err (stop.Refused refusal)) → ⊥ }
+    ensures { (files : Files) (folder text path : List ℕ) → UsersAnswers files folder (Ok text)
+        → UsersAnswers files folder (Err (read.Damaged path)) → ⊥ }
 {}
 
 /// A damaged bug is reported before any damaged person, and a damaged person before the user file.
 pub fn the_first_damage_is_told()
     ensures show { (files : Files) (folder word path : List ℕ) (id : Id)
         → Finds files folder side.Bugs word (One id) → IsDamagedBug files folder id
-        → ShowAnswers files folder word (Err (stop.Refused (refusal.Damaged path)))
+        → ShowAnswers files folder word (Err (stop.Missed (missed.Damaged path)))
         → path ≡ joined folder (ref_place side.Bugs id) }
     ensures users { (files : Files) (folder path other : List ℕ) → HasBadPerson files folder other
-        → UsersAnswers files folder (Err (stop.Refused (refusal.Damaged path)))
+        → UsersAnswers files folder (Err (read.Damaged path))
         → HasBadPerson files folder path }
 {}
 
-/// For the same files and arguments `show` and `users` have at most one text and one refusal each.
-/// So of several damaged identities one is told.
+/// For the same files and arguments `show` and `users` have at most one text, `show` misses in one
+/// way, and `users` reports one path. So of several damaged identities one is reported.
 pub fn shown_texts_are_determined()
     ensures show { (files : Files) (folder word one two : List ℕ)
         → ShowAnswers files folder word (Ok one) → ShowAnswers files folder word (Ok two)
         → one ≡ two }
     ensures users { (files : Files) (folder one two : List ℕ)
         → UsersAnswers files folder (Ok one) → UsersAnswers files folder (Ok two) → one ≡ two }
-    ensures show_refused { (files : Files) (folder word : List ℕ) (one two : Refusal)
-        → ShowAnswers files folder word (Err (stop.Refused one))
-        → ShowAnswers files folder word (Err (stop.Refused two)) → one ≡ two }
-    ensures users_refused { (files : Files) (folder : List ℕ) (one two : Refusal)
-        → UsersAnswers files folder (Err (stop.Refused one))
-        → UsersAnswers files folder (Err (stop.Refused two)) → one ≡ two }
+    ensures show_missed { (files : Files) (folder word : List ℕ) (one two : Missed)
+        → ShowAnswers files folder word (Err (stop.Missed one))
+        → ShowAnswers files folder word (Err (stop.Missed two)) → one ≡ two }
+    ensures users_damaged { (files : Files) (folder one two : List ℕ)
+        → UsersAnswers files folder (Err (read.Damaged one))
+        → UsersAnswers files folder (Err (read.Damaged two)) → one ≡ two }
 {}
 
 /// Bugs with the same operation commits are shown as the same text, if both folders have the same
@@ -119,12 +119,12 @@ pub fn same_commits_are_shown_the_same()
         → one ≡ two }
 {}
 
-/// In a sound folder neither `show` nor `users` is refused for damage.
+/// In a sound folder neither `show` nor `users` reports damage.
 pub fn sound_folders_are_shown()
     ensures show { (files : Files) (folder word path : List ℕ) → IsSound folder files
-        → ShowAnswers files folder word (Err (stop.Refused (refusal.Damaged path))) → ⊥ }
+        → ShowAnswers files folder word (Err (stop.Missed (missed.Damaged path))) → ⊥ }
     ensures users { (files : Files) (folder path : List ℕ) → IsSound folder files
-        → UsersAnswers files folder (Err (stop.Refused (refusal.Damaged path))) → ⊥ }
+        → UsersAnswers files folder (Err (read.Damaged path)) → ⊥ }
 {}
 
 /// The texts of `log`, `show` and `users`, line by line. A log has a line for each commit of the

@@ -8,7 +8,8 @@ use Rattle.snapshot.specs.LastMention.{IsBugList, snapshot_of}
 use Rattle.repo_state.specs.Answers.{HasBadPerson, Reads, ReadsPeople}
 use Rattle.repo_state.specs.Bugs.{FindsBug, IsBug, ReadsBelow}
 use Rattle.repo_state.specs.People.{ArePeople}
-use Rattle.repo_state.specs.declared.refusal.Stop.{Stop}
+use Rattle.repo_state.specs.Stops.{find_of_read}
+use Rattle.repo_state.specs.declared.stop.FindStop.{FindStop}
 use Rattle.repo_view.specs.Shown.{ShowAnswers}
 use Rattle.repo_view.proofs.ShowLemmas.{bug_shown, no_people}
 use Rattle.repo_view.proofs.bug_text.show.Goals as goal
@@ -23,7 +24,7 @@ returns-in_err-people-clause-answers g c = λ tells.
     let same = c.in_ok-entity.ensures.unwritten tells ∙ first in
     let finds : FindsBug (files_of old) folder c.args.word.now bug = c.in_ok-bug.ensures.answers tells in
     let is_bug : IsBug (files_of old) folder bug entity = subst (λ (h : History). IsBug (files_of h) folder bug entity) first (c.in_ok-entity.ensures.answers tells) in
-    let answer : Result (List ℕ) Stop = Err c.in_err-people.field-0.0 in
+    let answer : Result (List ℕ) FindStop = Err (find_of_read c.in_err-people.field-0.0) in
     let is : c.from_residual-in_err-people.result ≡ answer = search rules in
     subst (ShowAnswers (files_of old) folder c.args.word.now) (sym is)
     (no_people (files_of old) folder c.args.word.now bug entity c.in_err-people.field-0.0 finds is_bug

@@ -1,5 +1,4 @@
 use Rattle.std.proofs.Common.{◌∙◌, ap}
-use Rattle.identity.specs.declared.chain.Person.{Person}
 use Rattle.render.specs.Show.{show_text_of}
 use Rattle.render.specs.Users.{users_text_of}
 use Rattle.snapshot.specs.LastMention.{snapshot_of}
