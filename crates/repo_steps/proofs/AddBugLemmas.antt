@@ -36,7 +36,7 @@ use Rattle.repo_state.specs.Bugs.{EachIsLocal, IsBug}
 use Rattle.repo_state.specs.Clocks.{clock_at, clock_in, clock_place, clock_write, see_writes}
 use Rattle.repo_state.specs.Sides.{head_at, ref_place}
 use Rattle.repo_state.specs.declared.clocks.ClockFile.{ClockFile}
-use Rattle.repo_state.specs.declared.env.Env.{Env}
+use Rattle.repo_steps.specs.declared.env.Env.{Env}
 use Rattle.repo_state.specs.declared.side.HeadEntry.{HeadEntry}
 use Rattle.repo_state.specs.declared.side.Side.{Side}
 use Rattle.repo_state.specs.declared.side.Side.TheVariants as side
@@ -46,7 +46,7 @@ use Rattle.repo_state.proofs.PlaceLemmas.{clock-not_object, ref-not_clock, ref-n
 use Rattle.repo_steps.specs.BugDoings.{addition_head, addition_objects}
 use Rattle.repo_writes.specs.Kinds.{IsClockOf, IsUnder, IsWrite, a_bug_head, a_clock, an_object, ref_to}
 use Rattle.repo_steps.specs.Steps.{OnlyChanges}
-use Rattle.repo_steps.specs.declared.edit.Addition.{Addition}
+use Rattle.repo_steps.specs.declared.plan.Addition.{Addition}
 use Rattle.repo_steps.proofs.OnlyLemmas.{AddsObject, OnlyChanges-objects, OnlyChanges-put, OnlyChanges-then, head_kept}
 
 -- a clock reads the same where only objects were added
@@ -106,20 +106,24 @@ module _ (folder : List ℕ) (which : ClockFile) (number : ℕ) (mid : History) 
 
 -- ---- the objects, and the head
 
-module _ (env : Env) (old : History) (a : Addition) (moment : env.now < 2 ^ 64) (may : MayBeAppended bug_kind a.pack) (can : CanBeRead bug_kind a.pack) (author : IsId a.pack.author)
-    (parents : AreHeld (objects_after old env.folder) a.parents) (free : MayBePut env.folder (addition_objects env.now (Some a)) old) where
+-- each moment is a number of 64 bits
+before_limit : (env : Env) → env.moment.now < 2 ^ 64
+before_limit env = omega (arith, env.moment.within)
+
+module _ (env : Env) (old : History) (a : Addition) (may : MayBeAppended bug_kind a.pack) (can : CanBeRead bug_kind a.pack) (author : IsId a.pack.author)
+    (parents : AreHeld (objects_after old env.folder) a.parents) (free : MayBePut env.folder (addition_objects env.moment.now (Some a)) old) where
   abbrev objects : List (List ℕ)
-  objects = addition_objects env.now (Some a)
+  objects = addition_objects env.moment.now (Some a)
 
   abbrev pub top : Name
-  top = addition_head env.now a
+  top = addition_head env.moment.now a
 
   abbrev pub node : Loaded BugOp
-  node = appended_node bug_kind a.parents a.pack env.now
+  node = appended_node bug_kind a.parents a.pack env.moment.now
 
   -- the objects stand
   abbrev pub put : History
-  put = after_append bug_kind env.folder a.parents a.pack env.now old
+  put = after_append bug_kind env.folder a.parents a.pack env.moment.now old
 
   abbrev write : Change
   write = ref_write env.folder (ref_place side.Bugs a.bug) top
@@ -133,14 +137,14 @@ module _ (env : Env) (old : History) (a : Addition) (moment : env.now < 2 ^ 64) 
 
   -- the commit holds its pack
   pub put_node : IsNode bug_kind (objects_in (files_of put) env.folder) node
-  put_node = node_stands bug_kind a.parents a.pack env.now may moment names (objects_after put env.folder) (batch_held env.folder objects old free) (pack_reads bug_kind a.pack bug_keeps_laws author can)
+  put_node = node_stands bug_kind a.parents a.pack env.moment.now may (before_limit env) names (objects_after put env.folder) (batch_held env.folder objects old free) (pack_reads bug_kind a.pack bug_keeps_laws author can)
 
   -- nothing that was held is lost
   pub put_grew : OnlyGrew (objects_in (files_of old) env.folder) (objects_in (files_of put) env.folder)
   put_grew = batch_grew env.folder objects old free
 
   put_wrote : Wrote (PutsAfterNeeds env.folder objects) old put
-  put_wrote = append_needed bug_kind a.parents a.pack env.now may moment names env.folder old parents free
+  put_wrote = append_needed bug_kind a.parents a.pack env.moment.now may (before_limit env) names env.folder old parents free
 
   put_only : OnlyChanges env.folder [] (files_of old) (files_of put)
   put_only = OnlyChanges-objects env.folder old put
@@ -151,7 +155,7 @@ module _ (env : Env) (old : History) (a : Addition) (moment : env.now < 2 ^ 64) 
   put_heads of id = head_kept env.folder (files_of old) (files_of put) put_only of id
 
   is_name : IsName top
-  is_name = IsName-object_name (commit_object bug_kind a.parents a.pack env.now)
+  is_name = IsName-object_name (commit_object bug_kind a.parents a.pack env.moment.now)
 
   pub set_objects : objects_in (files_of set) env.folder ≡ objects_in (files_of put) env.folder
   set_objects = objects-ref_write (files_of put) env.folder side.Bugs a.bug top

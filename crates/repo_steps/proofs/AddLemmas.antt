@@ -1,9 +1,12 @@
 -- A version that is added to an identity, by its writes alone.
-use Rattle.std.proofs.Common.{◌≡◌, ◌<◌, ℕ, List, [], ◌∷◌, ◌++◌, length, reverse, Option, Some, None, inr, refl, sym, ◌∙◌, ap, subst}
+use Rattle.std.proofs.Common.{◌≡◌, ◌<◌, ℕ, List, [], ◌∷◌, ◌++◌, length, reverse, Option, Some, None, inr, refl, sym, ◌∙◌, ap, subst, arith}
 use Rattle.std.proofs.lemmas.List.{reverse-append}
+use Rattle.std.proofs.lemmas.Str.{IsUtf8-from_is_utf8}
 use Rattle.hex.specs.Hex.{encode_lower}
 use Rattle.gb_text.specs.declared.id.Id.{Id}
 use Rattle.gb_text.specs.declared.id.Name.{Name}
+use Rattle.gb_text.specs.declared.ruled.Line.{Line}
+use Rattle.gb_text.specs.declared.ruled.Title.{Title}
 use Rattle.gb_store.specs.Files.{History, files_of}
 use Rattle.gb_store.specs.Moments.{Wrote}
 use Rattle.gb_store.specs.declared.store.Change.{Change}
@@ -18,16 +21,17 @@ use Rattle.ref_store.proofs.MapLemmas.{set_ref_reads}
 use Rattle.identity.specs.Extending.{Extends}
 use Rattle.identity.specs.Making.{HasParent, after_version, commit_object}
 use Rattle.identity.specs.Persons.{IsChain}
-use Rattle.identity.specs.Version.{version_id}
+use Rattle.identity.specs.Version.{MayBeWritten, version_id}
 use Rattle.identity.specs.declared.making.Made.{Made}
 use Rattle.identity.proofs.MadeLemmas.{head_held, made_below, made_extends, made_needed}
 use Rattle.repo_state.specs.Sides.{head_at, ref_place}
-use Rattle.repo_state.specs.declared.env.Env.{Env}
+use Rattle.repo_steps.specs.declared.env.Env.{Env}
 use Rattle.repo_state.specs.declared.side.Side.TheVariants as side
 use Rattle.repo_state.proofs.KindLemmas.{objects-ref_write}
 use Rattle.repo_state.proofs.PlaceLemmas.{ref-not_object}
-use Rattle.repo_steps.specs.Doing.{nonce_from}
-use Rattle.repo_steps.specs.PeopleDoings.{MayWrite, new_made, new_objects, new_text, version_writes}
+use Rattle.bug_edits.specs.NewOps.{nonce_from}
+use Rattle.bug_edits.proofs.RuleLemmas.{is_within}
+use Rattle.repo_steps.specs.PeopleDoings.{new_made, new_objects, new_text, version_writes}
 use Rattle.repo_writes.specs.Kinds.{IsBelow, IsWrite, an_identity_head, an_object, ref_to}
 use Rattle.repo_steps.specs.Steps.{OnlyChanges, new_version}
 use Rattle.repo_steps.proofs.OnlyLemmas.{AddsObject, OnlyChanges-objects, OnlyChanges-put, OnlyChanges-then, head_kept}
@@ -41,7 +45,21 @@ has_parent : (objects : Objects) (text : List ℕ) (id : Id) (parent : Option Na
 has_parent objects text id None may = tt
 has_parent objects text id (Some head) may = head_held objects id head may.0
 
-module _ (env : Env) (name email : List ℕ) (id : Id) (old : History) (may : MayWrite env name email) where
+-- the version of a title and a line may be written at each moment
+may_write : (env : Env) (name : Title) (email : Line) → MayBeWritten name.text email.text (nonce_from env.moment.seed) env.moment.now
+may_write env name email = record {
+  name_utf8 = IsUtf8-from_is_utf8 name.text name.utf8;
+  email_utf8 = IsUtf8-from_is_utf8 email.text email.utf8;
+  title = name.is_title;
+  line = email.is_line;
+  is_nonce = (is_within env.moment 0 (omega arith)).nonce;
+  moment = omega (arith, env.moment.within);
+}
+
+module _ (env : Env) (name : Title) (email : Line) (id : Id) (old : History) where
+  abbrev may : MayBeWritten name.text email.text (nonce_from env.moment.seed) env.moment.now
+  may = may_write env name email
+
   abbrev held : Objects
   held = objects_in (files_of old) env.folder
 
@@ -57,7 +75,7 @@ module _ (env : Env) (name email : List ℕ) (id : Id) (old : History) (may : Ma
 
     -- the objects stand
     abbrev mid : History
-    mid = after_version env.folder (new_text env name email) parent env.now old
+    mid = after_version env.folder (new_text env name email) parent env.moment.now old
 
     -- and the head is set
     abbrev pub after_add : History
@@ -67,10 +85,10 @@ module _ (env : Env) (name email : List ℕ) (id : Id) (old : History) (may : Ma
     has = has_parent held (new_text env name email) id parent extends
 
     needed : Wrote (PutsAfterNeeds env.folder objects) old mid
-    needed = made_needed env.folder name email (nonce_from env.seed) env.now parent old may has free
+    needed = made_needed env.folder name.text email.text (nonce_from env.moment.seed) env.moment.now parent old may has free
 
     mid_extends : Extends held (objects_in (files_of mid) env.folder) parent (new_version env name email) made
-    mid_extends = made_extends env.folder name email (nonce_from env.seed) env.now parent old may has free
+    mid_extends = made_extends env.folder name.text email.text (nonce_from env.moment.seed) env.moment.now parent old may has free
 
     mid_only : OnlyChanges env.folder [] (files_of old) (files_of mid)
     mid_only = OnlyChanges-objects env.folder old mid
@@ -81,7 +99,7 @@ module _ (env : Env) (name email : List ℕ) (id : Id) (old : History) (may : Ma
 
     -- the head reads
     pub added_head : head_at (files_of after_add) env.folder side.Identities id ≡ Head made.head
-    added_head = set_ref_reads (files_of mid) env.folder (ref_place side.Identities id) made.head (IsName-object_name (commit_object (new_text env name email) parent env.now))
+    added_head = set_ref_reads (files_of mid) env.folder (ref_place side.Identities id) made.head (IsName-object_name (commit_object (new_text env name email) parent env.moment.now))
 
     -- its chain is the old one and this version
     pub added_extends : Extends held (objects_in (files_of after_add) env.folder) parent (new_version env name email) made
@@ -114,7 +132,7 @@ module _ (env : Env) (name email : List ℕ) (id : Id) (old : History) (may : Ma
         (an_identity_head (record {
           id = id;
           head = made.head;
-          is_name = IsName-object_name (commit_object (new_text env name email) parent env.now);
+          is_name = IsName-object_name (commit_object (new_text env name email) parent env.moment.now);
           present = parent;
           is_present = head_kept env.folder (files_of old) (files_of mid) mid_only side.Identities id ∙ present;
           below = below;
@@ -124,5 +142,5 @@ module _ (env : Env) (name email : List ℕ) (id : Id) (old : History) (may : Ma
 
   -- the parent is below the head
   pub added_below : (head : Name) → MayBePut env.folder (new_objects env name email (Some head)) old → MayExtend held (new_text env name email) id (Some head)
-      → IsBelow (objects_in (files_of (after_version env.folder (new_text env name email) (Some head) env.now old)) env.folder) (Some head) (new_made env name email (Some head)).head
-  added_below head free extends = made_below env.folder name email (nonce_from env.seed) env.now head old may (head_held held id head extends.0) free
+      → IsBelow (objects_in (files_of (after_version env.folder (new_text env name email) (Some head) env.moment.now old)) env.folder) (Some head) (new_made env name email (Some head)).head
+  added_below head free extends = made_below env.folder name.text email.text (nonce_from env.moment.seed) env.moment.now head old may (head_held held id head extends.0) free

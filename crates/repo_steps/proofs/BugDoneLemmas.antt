@@ -50,19 +50,19 @@ use Rattle.repo_state.specs.Sides.{has_ref, head_at, ref_place}
 use Rattle.repo_state.specs.Users.{UserFound, BadUser, NoUser, User, user_at}
 use Rattle.repo_state.specs.declared.clocks.ClockFile.{ClockFile}
 use Rattle.repo_state.specs.declared.clocks.ClockFile.TheVariants as file
-use Rattle.repo_state.specs.declared.env.Env.{Env}
+use Rattle.repo_steps.specs.declared.env.Env.{Env}
 use Rattle.repo_state.specs.declared.side.HeadEntry.{HeadEntry}
 use Rattle.repo_state.specs.declared.side.Side.TheVariants as side
 use Rattle.repo_state.proofs.BugLemmas.{edit_within, head_edit}
 use Rattle.repo_state.proofs.BugSoundLemmas.{IsBug-over}
 use Rattle.repo_state.proofs.KindLemmas.{clock_at-capped}
-use Rattle.repo_steps.specs.BugDoings.{HasBug, addition_head, addition_objects, addition_writes, bug_says, clock_writes, later_addition, op_ids, root_addition}
-use Rattle.repo_steps.specs.BugEdits.{edit_op}
+use Rattle.repo_steps.specs.BugDoings.{HasBug, addition_head, addition_objects, addition_writes, bug_says, clock_writes, later_addition, one_op_pack, op_ids, root_addition}
+use Rattle.bug_edits.specs.EditTable.{edit_op}
+use Rattle.bug_edits.specs.NewOps.{op_id}
 use Rattle.repo_writes.specs.Kinds.{IsWrite}
-use Rattle.repo_steps.specs.NewOps.{MayWriteOp, one_op_pack, op_id}
 use Rattle.repo_steps.specs.Steps.{BugBegins, BugGrows, begun_entity}
-use Rattle.repo_steps.specs.declared.edit.Addition.{Addition}
-use Rattle.repo_steps.specs.declared.edit.BugEdit.{BugEdit}
+use Rattle.repo_steps.specs.declared.plan.Addition.{Addition}
+use Rattle.bug_edits.specs.declared.edit.BugEdit.{BugEdit}
 use Rattle.repo_steps.proofs.AddBugLemmas.{Seen, node, put, put_grew, put_node, see_made, set, set_bug, set_clock, set_head, set_only, set_wrote, set_writes}
 use Rattle.repo_steps.proofs.HeadLemmas.{head_at-absent}
 use Rattle.repo_steps.proofs.OnlyLemmas.{OnlyChanges-then}
@@ -82,7 +82,7 @@ fits p (NoOp c) = refl
 fits p (SetMetadata c target pairs) = refl
 
 -- a pack of one operation can be written, and read again
-module _ (author : Id) (edit : ℕ) (op : BugOp) (rules : MayWriteOp op) where
+module _ (author : Id) (edit : ℕ) (op : BugOp) (rules : bug_kind.KeepsRules op) where
   pub pack_reads_again : (create : Option ℕ) → CanBeRead bug_kind (one_op_pack author edit create op)
   pack_reads_again create = record {
     few = omega arith;
@@ -136,9 +136,9 @@ ids_of_packs (first ∷ rest) placed id has in_one = subst (λ ids. Contains ids
 
 -- the writes of a commit that is added are its objects and its head, and then the clocks
 added_writes : (env : Env) (files : Files) (a : Addition)
-    → (missing_writes env.folder (addition_objects env.now (Some a)) files ++ ref_write env.folder (ref_place side.Bugs a.bug) (addition_head env.now a) ∷ []) ++ clock_writes env.folder files a.pack
+    → (missing_writes env.folder (addition_objects env.moment.now (Some a)) files ++ ref_write env.folder (ref_place side.Bugs a.bug) (addition_head env.moment.now a) ∷ []) ++ clock_writes env.folder files a.pack
     ≡ addition_writes env files (Some a)
-added_writes env files a = append_assoc (missing_writes env.folder (addition_objects env.now (Some a)) files) (ref_write env.folder (ref_place side.Bugs a.bug) (addition_head env.now a) ∷ []) (clock_writes env.folder files a.pack)
+added_writes env files a = append_assoc (missing_writes env.folder (addition_objects env.moment.now (Some a)) files) (ref_write env.folder (ref_place side.Bugs a.bug) (addition_head env.moment.now a) ∷ []) (clock_writes env.folder files a.pack)
 
 -- all writes of a command on a bug, which are of their kinds, and make the step
 pub record MadeBug (env : Env) (old : History) (a : Addition) (Step : Files → Type 0) : Type 0 where
@@ -147,9 +147,9 @@ pub record MadeBug (env : Env) (old : History) (a : Addition) (Step : Files → 
 
 -- ---- a new bug
 
-module _ (env : Env) (old : History) (op : BugOp) (rules : MayWriteOp op) (moment : env.now < 2 ^ 64) (opens : bug_kind.is_opening op ≡ true)
+module _ (env : Env) (old : History) (op : BugOp) (rules : bug_kind.KeepsRules op) (opens : bug_kind.is_opening op ≡ true)
     (user : Id) (is_user : user_at (files_of old) env.folder ≡ User user) (local : IsLocal (files_of old) env.folder user)
-    (free : MayBePut env.folder (addition_objects env.now (Some (root_addition env.folder (files_of old) op user))) old)
+    (free : MayBePut env.folder (addition_objects env.moment.now (Some (root_addition env.folder (files_of old) op user))) old)
     (fresh : has_ref (files_of old) env.folder side.Bugs (op_id op) ≡ false) (is_id : IsId (op_id op)) where
   abbrev edit_was : ℕ
   edit_was = clock_at (files_of old) env.folder file.BugsEdit
@@ -172,51 +172,51 @@ module _ (env : Env) (old : History) (op : BugOp) (rules : MayWriteOp op) (momen
   parents = λ p c. absurd (Contains-nil p c)
 
   abbrev stood : History
-  stood = put env old a moment may can local.is_id parents free
+  stood = put env old a may can local.is_id parents free
 
   abbrev head_set : History
-  head_set = set env old a moment may can local.is_id parents free
+  head_set = set env old a may can local.is_id parents free
 
   abbrev root : Loaded BugOp
-  root = node env old a moment may can local.is_id parents free
+  root = node env old a may can local.is_id parents free
 
   abbrev bug : HeadEntry
-  bug = record { id = op_id op; name = addition_head env.now a }
+  bug = record { id = op_id op; name = addition_head env.moment.now a }
 
   begins : Begins bug_kind (objects_in (files_of stood) env.folder) (op_id op) (user ∷ []) root (root_time_of create_was)
   begins = record {
-    is = put_node env old a moment may can local.is_id parents free;
+    is = put_node env old a may can local.is_id parents free;
     root = refl;
     opens = record {
       says = refl;
-      first = bug_kind.placed (place [] user (root_time_of edit_was) (Some (root_time_of create_was)) op env.now) op;
+      first = bug_kind.placed (place [] user (root_time_of edit_was) (Some (root_time_of create_was)) op env.moment.now) op;
       rest = [];
       begins = refl;
-      opening = bug_keeps_laws.opens_anywhere (place [] user (root_time_of edit_was) (Some (root_time_of create_was)) op env.now) op ∙ opens;
-      id_is = id_again [] user (root_time_of edit_was) (Some (root_time_of create_was)) op env.now;
+      opening = bug_keeps_laws.opens_anywhere (place [] user (root_time_of edit_was) (Some (root_time_of create_was)) op env.moment.now) op ∙ opens;
+      id_is = id_again [] user (root_time_of edit_was) (Some (root_time_of create_was)) op env.moment.now;
     };
     follow = tt;
-    once = subst AreDistinct (sym (ids_again [] user (root_time_of edit_was) (Some (root_time_of create_was)) op env.now)) (AreDistinct-push [] (op_id op) AreDistinct-nil (Contains-nil (op_id op)));
+    once = subst AreDistinct (sym (ids_again [] user (root_time_of edit_was) (Some (root_time_of create_was)) op env.moment.now)) (AreDistinct-push [] (op_id op) AreDistinct-nil (Contains-nil (op_id op)));
     known = Contains-first user [];
   }
 
   abbrev entity : Entity BugOp
   entity = begun_entity env a (root_time_of create_was)
 
-  is_entity : IsEntity bug_kind (objects_in (files_of stood) env.folder) (op_id op) (addition_head env.now a ∷ []) (user ∷ []) entity
+  is_entity : IsEntity bug_kind (objects_in (files_of stood) env.folder) (op_id op) (addition_head env.moment.now a ∷ []) (user ∷ []) entity
   is_entity = first_valid bug_kind bug_keeps_laws (objects_in (files_of stood) env.folder) (op_id op) (user ∷ []) root (root_time_of create_was) begins
 
   locals : EachIsLocal (files_of old) env.folder (user ∷ [])
   locals = λ id c. subst (IsLocal (files_of old) env.folder) (Contains-one user id c) local
 
   bug_set : IsBug (files_of head_set) env.folder bug entity
-  bug_set = set_bug env old a moment may can local.is_id parents free entity (user ∷ []) locals is_id is_entity
+  bug_set = set_bug env old a may can local.is_id parents free entity (user ∷ []) locals is_id is_entity
 
   head_reads : head_at (files_of head_set) env.folder side.Bugs (op_id op) ≡ Head bug.name
-  head_reads = set_head env old a moment may can local.is_id parents free
+  head_reads = set_head env old a may can local.is_id parents free
 
   clocks_stay : (which : ClockFile) → clock_at (files_of head_set) env.folder which ≡ clock_at (files_of old) env.folder which
-  clocks_stay = set_clock env old a moment may can local.is_id parents free
+  clocks_stay = set_clock env old a may can local.is_id parents free
 
   -- then the create clock is seen
   abbrev created : History
@@ -237,7 +237,7 @@ module _ (env : Env) (old : History) (op : BugOp) (rules : MayWriteOp op) (momen
       (create_seen.other file.BugsEdit (λ e. cc e) ∙ clocks_stay file.BugsEdit)
 
   all : edited ≡ reverse (addition_writes env (files_of old) (Some a)) ++ old
-  all = all_both (missing_writes env.folder (addition_objects env.now (Some a)) (files_of old) ++ ref_write env.folder (ref_place side.Bugs (op_id op)) (addition_head env.now a) ∷ []) (clock_writes env.folder (files_of old) a.pack) old head_set edited (set_writes env old a moment may can local.is_id parents free)
+  all = all_both (missing_writes env.folder (addition_objects env.moment.now (Some a)) (files_of old) ++ ref_write env.folder (ref_place side.Bugs (op_id op)) (addition_head env.moment.now a) ∷ []) (clock_writes env.folder (files_of old) a.pack) old head_set edited (set_writes env old a may can local.is_id parents free)
       (all_both (see_writes env.folder file.BugsCreate create_was (root_time_of create_was)) (see_writes env.folder file.BugsEdit edit_was (root_time_of edit_was)) head_set created edited refl refl)
       ∙ ap (λ (ws : List Change). reverse ws ++ old) (added_writes env (files_of old) a)
 
@@ -258,13 +258,13 @@ module _ (env : Env) (old : History) (op : BugOp) (rules : MayWriteOp op) (momen
         ∙ root_seen create_was (clock_at-capped (files_of old) env.folder file.BugsCreate);
     only = OnlyChanges-then env.folder (ref_place side.Bugs (op_id op) ∷ clock_place file.BugsCreate ∷ []) (clock_place file.BugsEdit ∷ []) (files_of old) (files_of created) (files_of edited)
         (OnlyChanges-then env.folder (ref_place side.Bugs (op_id op) ∷ []) (clock_place file.BugsCreate ∷ []) (files_of old) (files_of head_set) (files_of created)
-        (set_only env old a moment may can local.is_id parents free) create_seen.only) edit_seen.only;
+        (set_only env old a may can local.is_id parents free) create_seen.only) edit_seen.only;
   }
 
   wrote : Wrote (IsWrite env.folder) old edited
   wrote = Wrote-then (IsWrite env.folder) old created edited
       (Wrote-then (IsWrite env.folder) old head_set created
-      (set_wrote env old a moment may can local.is_id parents free entity (user ∷ []) locals is_id is_entity None (head_at-absent (files_of old) env.folder side.Bugs (op_id op) fresh) tt) create_seen.wrote) edit_seen.wrote
+      (set_wrote env old a may can local.is_id parents free entity (user ∷ []) locals is_id is_entity None (head_at-absent (files_of old) env.folder side.Bugs (op_id op) fresh) tt) create_seen.wrote) edit_seen.wrote
 
   -- the bug begins
   pub bug_begun : MadeBug env old a (λ (new : Files). BugBegins env op (files_of old) new (op_id op))
@@ -275,11 +275,11 @@ module _ (env : Env) (old : History) (op : BugOp) (rules : MayWriteOp op) (momen
 
 -- ---- a bug with one operation more
 
-module _ (env : Env) (old : History) (edit : BugEdit) (word : List ℕ) (op : BugOp) (rules : MayWriteOp op) (moment : env.now < 2 ^ 64) (follows : bug_kind.is_following op ≡ true)
+module _ (env : Env) (old : History) (edit : BugEdit) (word : List ℕ) (op : BugOp) (rules : bug_kind.KeepsRules op) (follows : bug_kind.is_following op ≡ true)
     (user : Id) (is_user : user_at (files_of old) env.folder ≡ User user) (local : IsLocal (files_of old) env.folder user)
-    (found : HasBug env.folder (files_of old) word) (adds : edit_op env edit (bug_says found.entity) ≡ Ok op) (has_clock : found.entity.edit ≡ GREATEST_TIME → ⊥) (has_room : MOST_COMMITS ≤ length found.entity.packs → ⊥)
+    (found : HasBug env.folder (files_of old) word) (adds : edit_op env.moment edit (bug_says found.entity) ≡ Ok op) (has_clock : found.entity.edit ≡ GREATEST_TIME → ⊥) (has_room : MOST_COMMITS ≤ length found.entity.packs → ⊥)
     (is_new : Contains (op_ids (ops_in bug_kind found.entity.packs)) (op_id op) → ⊥)
-    (free : MayBePut env.folder (addition_objects env.now (Some (later_addition env.folder (files_of old) op user found.bug found.entity.edit))) old) (is_id : IsId found.bug.id) where
+    (free : MayBePut env.folder (addition_objects env.moment.now (Some (later_addition env.folder (files_of old) op user found.bug found.entity.edit))) old) (is_id : IsId found.bug.id) where
   abbrev edit_before : ℕ
   edit_before = clock_at (files_of old) env.folder file.BugsEdit
 
@@ -314,16 +314,16 @@ module _ (env : Env) (old : History) (edit : BugEdit) (word : List ℕ) (op : Bu
       subst (HoldsAs as_commit held) (Contains-one found.bug.name p c) (commit.0, commit.1)
 
   abbrev then_stood : History
-  then_stood = put env old added moment added_may added_can local.is_id added_parents free
+  then_stood = put env old added added_may added_can local.is_id added_parents free
 
   abbrev then_set : History
-  then_set = set env old added moment added_may added_can local.is_id added_parents free
+  then_set = set env old added added_may added_can local.is_id added_parents free
 
   abbrev later : Loaded BugOp
-  later = node env old added moment added_may added_can local.is_id added_parents free
+  later = node env old added added_may added_can local.is_id added_parents free
 
   abbrev later_bug : HeadEntry
-  later_bug = record { id = found.bug.id; name = addition_head env.now added }
+  later_bug = record { id = found.bug.id; name = addition_head env.moment.now added }
 
   abbrev authors : List Id
   authors = user ∷ found.is.authors
@@ -331,7 +331,7 @@ module _ (env : Env) (old : History) (edit : BugEdit) (word : List ℕ) (op : Bu
   -- the entity of before, in the objects that stand now
   was : IsEntity bug_kind (objects_in (files_of then_stood) env.folder) found.bug.id heads authors found.entity
   was =
-      let grew = put_grew env old added moment added_may added_can local.is_id added_parents free in
+      let grew = put_grew env old added added_may added_can local.is_id added_parents free in
       let with_user = more_authors_entity bug_kind found.bug.id heads held found.is.authors authors (λ author c. Contains-later user found.is.authors author c) found.entity found.is.is in
       entity_over bug_kind held (objects_in (files_of then_stood) env.folder) heads
       (valid_stays bug_kind found.bug.id heads held (objects_in (files_of then_stood) env.folder) authors grew with_user.valid) found.bug.id authors found.entity with_user
@@ -342,20 +342,20 @@ module _ (env : Env) (old : History) (edit : BugEdit) (word : List ℕ) (op : Bu
       (sym (head_edit (objects_in (files_of then_stood) env.folder) found.bug.name found.entity.edit was.edit) ∙ ap (edit_at (objects_in (files_of then_stood) env.folder)) same ∙ has)
 
   abbrev place_then : Place
-  place_then = place heads user edit_now None op env.now
+  place_then = place heads user edit_now None op env.moment.now
 
   extends : Extends bug_kind (objects_in (files_of then_stood) env.folder) heads authors found.entity.packs later
   extends = record {
-    is = put_node env old added moment added_may added_can local.is_id added_parents free;
+    is = put_node env old added added_may added_can local.is_id added_parents free;
     over = refl;
     above = λ name edit c has. let same = clock_of_head name edit (Contains-one found.bug.name name c) has in omega (arith, same, within, has_clock);
     near = λ name edit e has. let same = clock_of_head name edit (Contains-one found.bug.name name (subst (λ (l : List Name). Contains l name) (sym e) (Contains-first name []))) has in omega (arith, same);
     merge = λ two. absurd (omega (arith, two));
     follow = λ k d below. subst (λ (o : BugOp). bug_kind.is_following o ≡ true) (Contains-one (bug_kind.placed place_then op) _ (Contains-get_or (bug_kind.placed place_then op ∷ []) k d below))
         (bug_keeps_laws.follows_anywhere place_then op ∙ follows);
-    once = subst AreDistinct (sym (ids_again heads user edit_now None op env.now)) (AreDistinct-push [] (op_id op) AreDistinct-nil (Contains-nil (op_id op)));
+    once = subst AreDistinct (sym (ids_again heads user edit_now None op env.moment.now)) (AreDistinct-push [] (op_id op) AreDistinct-nil (Contains-nil (op_id op)));
     fresh = λ placed id c has new.
-        let same : op_id op ≡ id = Contains-one (op_id op) id (subst (λ (l : List Id). Contains l id) (ids_again heads user edit_now None op env.now) new) in
+        let same : op_id op ≡ id = Contains-one (op_id op) id (subst (λ (l : List Id). Contains l id) (ids_again heads user edit_now None op env.moment.now) new) in
         is_new (ids_of_packs found.entity.packs placed (op_id op) c (subst (Contains (ids_of bug_kind placed.pack)) (sym same) has));
     known = Contains-first user found.is.authors;
     few = omega (arith, has_room);
@@ -364,7 +364,7 @@ module _ (env : Env) (old : History) (edit : BugEdit) (word : List ℕ) (op : Bu
   abbrev longer : Entity BugOp
   longer = extended found.entity later
 
-  is_longer : IsEntity bug_kind (objects_in (files_of then_stood) env.folder) found.bug.id (addition_head env.now added ∷ []) authors longer
+  is_longer : IsEntity bug_kind (objects_in (files_of then_stood) env.folder) found.bug.id (addition_head env.moment.now added ∷ []) authors longer
   is_longer = is_extended bug_kind bug_keeps_laws (objects_in (files_of then_stood) env.folder) found.bug.id heads authors found.entity later was extends
 
   each_local : EachIsLocal (files_of old) env.folder authors
@@ -374,10 +374,10 @@ module _ (env : Env) (old : History) (edit : BugEdit) (word : List ℕ) (op : Bu
   ]
 
   longer_set : IsBug (files_of then_set) env.folder later_bug longer
-  longer_set = set_bug env old added moment added_may added_can local.is_id added_parents free longer authors each_local is_id is_longer
+  longer_set = set_bug env old added added_may added_can local.is_id added_parents free longer authors each_local is_id is_longer
 
   then_reads : head_at (files_of then_set) env.folder side.Bugs found.bug.id ≡ Head later_bug.name
-  then_reads = set_head env old added moment added_may added_can local.is_id added_parents free
+  then_reads = set_head env old added added_may added_can local.is_id added_parents free
 
   -- then the clock is seen
   abbrev then_edited : History
@@ -388,18 +388,18 @@ module _ (env : Env) (old : History) (edit : BugEdit) (word : List ℕ) (op : Bu
 
   then_seen : Seen env.folder file.BugsEdit edit_now then_set then_edited
   then_seen = see_made env.folder file.BugsEdit edit_now then_set later_bug is_id then_reads then_says edit_before
-      (set_clock env old added moment added_may added_can local.is_id added_parents free file.BugsEdit)
+      (set_clock env old added added_may added_can local.is_id added_parents free file.BugsEdit)
 
   then_all : then_edited ≡ reverse (addition_writes env (files_of old) (Some added)) ++ old
-  then_all = all_both (missing_writes env.folder (addition_objects env.now (Some added)) (files_of old) ++ ref_write env.folder (ref_place side.Bugs found.bug.id) (addition_head env.now added) ∷ [])
-      (clock_writes env.folder (files_of old) added.pack) old then_set then_edited (set_writes env old added moment added_may added_can local.is_id added_parents free) refl
+  then_all = all_both (missing_writes env.folder (addition_objects env.moment.now (Some added)) (files_of old) ++ ref_write env.folder (ref_place side.Bugs found.bug.id) (addition_head env.moment.now added) ∷ [])
+      (clock_writes env.folder (files_of old) added.pack) old then_set then_edited (set_writes env old added added_may added_can local.is_id added_parents free) refl
       ∙ ap (λ (ws : List Change). reverse ws ++ old) (added_writes env (files_of old) added)
 
   -- the old head lies below the new one
-  under : IsBelow (objects_in (files_of then_stood) env.folder) (addition_head env.now added ∷ []) found.bug.name
+  under : IsBelow (objects_in (files_of then_stood) env.folder) (addition_head env.moment.now added ∷ []) found.bug.name
   under =
-      let is = put_node env old added moment added_may added_can local.is_id added_parents free in
-      parent (head (Contains-first (addition_head env.now added) [])) (record { commit = is.commit; held = is.held; names = subst (λ (l : List Name). Contains l found.bug.name) is.parents (Contains-first found.bug.name []) })
+      let is = put_node env old added added_may added_can local.is_id added_parents free in
+      parent (head (Contains-first (addition_head env.moment.now added) [])) (record { commit = is.commit; held = is.held; names = subst (λ (l : List Name). Contains l found.bug.name) is.parents (Contains-first found.bug.name []) })
 
   grows : BugGrows env edit word (files_of old) (files_of then_edited) (op_id op)
   grows = record {
@@ -411,14 +411,14 @@ module _ (env : Env) (old : History) (edit : BugEdit) (word : List ℕ) (op : Bu
     is_told = refl;
     head = then_seen.heads side.Bugs found.bug.id ∙ then_reads;
     is = IsBug-over env.folder (files_of then_set) (files_of then_edited) (then_seen.heads side.Identities) then_seen.objects later_bug longer longer_set;
-    edit_clock = then_seen.clock ∙ ap (λ (c : ℕ). seen_by c edit_now) (set_clock env old added moment added_may added_can local.is_id added_parents free file.BugsEdit);
+    edit_clock = then_seen.clock ∙ ap (λ (c : ℕ). seen_by c edit_now) (set_clock env old added added_may added_can local.is_id added_parents free file.BugsEdit);
     only = OnlyChanges-then env.folder (ref_place side.Bugs found.bug.id ∷ []) (clock_place file.BugsEdit ∷ []) (files_of old) (files_of then_set) (files_of then_edited)
-        (set_only env old added moment added_may added_can local.is_id added_parents free) then_seen.only;
+        (set_only env old added added_may added_can local.is_id added_parents free) then_seen.only;
   }
 
   then_wrote : Wrote (IsWrite env.folder) old then_edited
   then_wrote = Wrote-then (IsWrite env.folder) old then_set then_edited
-      (set_wrote env old added moment added_may added_can local.is_id added_parents free longer authors each_local is_id is_longer (Some found.bug.name) found.finds.head under) then_seen.wrote
+      (set_wrote env old added added_may added_can local.is_id added_parents free longer authors each_local is_id is_longer (Some found.bug.name) found.finds.head under) then_seen.wrote
 
   -- the bug grows
   pub bug_grown : MadeBug env old added (λ (new : Files). BugGrows env edit word (files_of old) new (op_id op))

@@ -1,237 +1,194 @@
--- What is so where a command is refused for a user that is missing, an entity or an operation that exists, a name that is taken or an object that is too large.
-use Rattle.std.proofs.Common.{◌≡◌, ◌+◌, ℕ, Bool, true, false, IsTrue, List, Contains, None, inl, inr, refl, sym, ◌∙◌, ap, subst, arith}
+-- What is so where a command is refused for a user that is missing, an entity or an operation that exists, a name that is taken, an object
+-- that is too large, or a chain or a bug that is full.
+use Rattle.std.proofs.Common.{◌≡◌, ◌≤◌, ◌+◌, ◌^◌, ◌⊎◌, ℕ, IsTrue, inl, inr, List, length, Contains, Option, Some, None, refl, sym, ◌∙◌, ap, subst, arith}
+use Rattle.gb_text.specs.declared.decimal.TheConstants.{GREATEST_TIME}
 use Rattle.gb_text.specs.declared.id.Id.{Id}
 use Rattle.gb_text.specs.declared.id.Name.{Name}
+use Rattle.gb_text.specs.declared.ruled.Line.{Line}
+use Rattle.gb_text.specs.declared.ruled.Message.{Message}
+use Rattle.gb_text.specs.declared.ruled.Title.{Title}
 use Rattle.gb_store.specs.Files.{Files, History, files_of}
-use Rattle.object_batch.specs.Batches.{CannotHave, HasLong}
+use Rattle.object_store.specs.Held.{Objects, objects_in}
 use Rattle.object_store.specs.declared.read.TheConstants.{MOST_BYTES}
-use Rattle.bug_ops.specs.Kind.{bug_kind}
-use Rattle.bug_ops.specs.declared.op.BugOp.{BugOp}
+use Rattle.object_batch.specs.Batches.{CannotHave, HasLong}
+use Rattle.commit_walk.specs.declared.below.TheConstants.{MOST_COMMITS as MOST_VERSIONS}
 use Rattle.commit_walk.specs.declared.below.TheConstants.{MOST_COMMITS}
+use Rattle.bug_edits.specs.NewOps.{create_op, op_id}
+use Rattle.bug_edits.specs.declared.edit.BugEdit.{BugEdit}
+use Rattle.bug_ops.specs.Kind.{bug_kind}
 use Rattle.dag_entity.specs.Entities.{ops_in}
+use Rattle.dag_entity.specs.Nodes.{edit_at}
+use Rattle.repo_state.proofs.BugLemmas.{head_edit}
 use Rattle.repo_state.specs.Sides.{has_ref}
 use Rattle.repo_state.specs.Users.{NoUser, user_at}
-use Rattle.repo_state.specs.declared.env.Env.{Env}
-use Rattle.repo_state.specs.declared.refusal.Refusal.{Refusal}
-use Rattle.repo_state.specs.declared.refusal.Refusal.TheVariants as refusal
 use Rattle.repo_state.specs.declared.side.Side.TheVariants as side
-use Rattle.repo_steps.specs.BugDoings.{HasBug, bug_says, edit_adds, op_ids}
-use Rattle.repo_steps.specs.Doing.{names}
+use Rattle.repo_steps.specs.BugDoings.{HasBug, op_ids}
 use Rattle.repo_steps.specs.Checks.{FirstFails}
+use Rattle.repo_steps.specs.Doing.{names}
 use Rattle.repo_steps.specs.Doings.{Refused, doing_of}
-use Rattle.repo_steps.specs.Effects.{no_change}
-use Rattle.repo_steps.specs.NewOps.{create_op, op_id}
+use Rattle.repo_steps.specs.PeopleDoings.{HasUser, new_made}
 use Rattle.repo_steps.specs.Picked.{Picked}
-use Rattle.repo_steps.specs.PeopleDoings.{new_made}
-use Rattle.repo_steps.specs.declared.edit.BugEdit.{BugEdit}
-use Rattle.repo_steps.specs.declared.edit.BugEdit.TheVariants as kind
-use Rattle.repo_steps.specs.declared.edit.Edit.{Edit}
-use Rattle.repo_steps.specs.declared.edit.Edit.TheVariants as edit
-use Rattle.repo_steps.proofs.EffectLemmas.{refused_as}
+use Rattle.words.specs.declared.edit.Edit.{Edit}
+use Rattle.words.specs.declared.edit.Edit.TheVariants as edit
+use Rattle.repo_steps.specs.declared.env.Env.{Env}
+use Rattle.repo_steps.specs.declared.refusal.Refusal.{Refusal}
+use Rattle.repo_steps.specs.declared.refusal.Refusal.TheVariants as refusal
+use Rattle.repo_steps.proofs.RankLemmas.{FailsAt, places_of, told_by}
 
--- ---- what an edit that changes nothing is refused with
+-- what a refusal names
+same_id : (one other : Id) → refusal.EntityExists one ≡ refusal.EntityExists other → one ≡ other
+same_id one other is = cc is
 
-is_unchanged : Refusal → Bool
-is_unchanged refusal.NoLabelChange = true
-is_unchanged refusal.SameStatus = true
-is_unchanged _ = false
+same_operation : (one other : Id) → refusal.RepeatedOperation one ≡ refusal.RepeatedOperation other → one ≡ other
+same_operation one other is = cc is
 
-no_change_so : (e : BugEdit) → is_unchanged (no_change e) ≡ true
-unfolding is_unchanged
-no_change_so (kind.Comment message) = refl
-no_change_so kind.Noop = refl
-no_change_so (kind.Title title) = refl
-no_change_so (kind.Status status) = refl
-no_change_so (kind.AddLabels labels) = refl
-no_change_so (kind.RemoveLabels labels) = refl
-no_change_so (kind.Metadata key value) = refl
+same_name : (one other : Name) → refusal.NameTaken one ≡ refusal.NameTaken other → one ≡ other
+same_name one other is = cc is
 
-another : (e : BugEdit) (r : Refusal) → is_unchanged r ≡ false → r ≡ no_change e → ⊥
-another e r other is = let both : true ≡ false = sym (no_change_so e) ∙ ap is_unchanged (sym is) ∙ other in cc both
+same_count : (one other : ℕ) → refusal.TooLarge one ≡ refusal.TooLarge other → one ≡ other
+same_count one other is = cc is
 
 module _ (env : Env) (old : History) where
   abbrev files : Files
   files = files_of old
 
-  -- an edit is refused by what the bug says only where it changes nothing
-  unchanged : (e : BugEdit) (word : List ℕ) (op : BugOp) (r : Refusal) → is_unchanged r ≡ false → (edit_adds env files word e op).Fails r → ⊥
-  unchanged e word op r other f = another e r other (refused_as env e (bug_says f.0.entity) r f.1).1
+  abbrev held : Objects
+  held = objects_in files env.folder
+
+  -- the checks of a command that fail at a place with a refusal
+  abbrev At : ℕ → Edit → Picked → Refusal → Type 0
+  At n command picked r = FailsAt n (doing_of env command picked old).checks (places_of command) r
 
   -- ---- no user
 
   -- a command is refused for having no user where no user file exists
   pub no_user : (command : Edit) → Refused env command old refusal.NoUser → user_at files env.folder ≡ NoUser
-  unfolding is_unchanged
-  no_user (edit.UserNew name email) (picked, inl f) = absurd (cc (f.2))
-  no_user (edit.UserNew name email) (picked, inr (a, inl f)) = absurd (cc (f.1))
-  no_user (edit.UserNew name email) (picked, inr (a, inr (b, inl f))) = absurd (cc (f.1))
-  no_user (edit.UserNew name email) (picked, inr (a, inr (b, inr (c, inl f)))) = absurd (cc (f.1))
-  no_user (edit.UserNew name email) (picked, inr (a, inr (b, inr (c, inr (d, inl f))))) = absurd (cc (f.2))
-  no_user (edit.UserNew name email) (picked, inr (a, inr (b, inr (c, inr (d, inr (g, none)))))) = absurd none
-  no_user (edit.UserEdit name email) (picked, inl f) = absurd (cc (f.2))
-  no_user (edit.UserEdit name email) (picked, inr (a, inl f)) = absurd (cc (f.1))
-  no_user (edit.UserEdit name email) (picked, inr (a, inr (b, inl f))) = f.0
-  no_user (edit.UserEdit name email) (picked, inr (a, inr (b, inr (c, inl f)))) = absurd (cc (f.3))
-  no_user (edit.UserEdit name email) (picked, inr (a, inr (b, inr (c, inr (d, inl f))))) = absurd (cc (f.2))
-  no_user (edit.UserEdit name email) (picked, inr (a, inr (b, inr (c, inr (d, inr (g, inl f)))))) = absurd (cc (f.1))
-  no_user (edit.UserEdit name email) (picked, inr (a, inr (b, inr (c, inr (d, inr (g, inr (h, inl f))))))) = absurd (cc (f.2))
-  no_user (edit.UserEdit name email) (picked, inr (a, inr (b, inr (c, inr (d, inr (g, inr (h, inr (i, none)))))))) = absurd none
-  no_user (edit.UserSet word) (picked, inl f) = absurd f
-  no_user (edit.UserSet word) (picked, inr (a, none)) = absurd none
-  no_user (edit.New title message) (picked, inl f) = absurd (cc (f.2))
-  no_user (edit.New title message) (picked, inr (a, inl f)) = absurd (cc (f.1))
-  no_user (edit.New title message) (picked, inr (a, inr (b, inl f))) = f.0
-  no_user (edit.New title message) (picked, inr (a, inr (b, inr (c, inl f)))) = absurd (cc (f.1))
-  no_user (edit.New title message) (picked, inr (a, inr (b, inr (c, inr (d, inl f))))) = absurd (cc (f.1))
-  no_user (edit.New title message) (picked, inr (a, inr (b, inr (c, inr (d, inr (g, inl f)))))) = absurd (cc (f.2))
-  no_user (edit.New title message) (picked, inr (a, inr (b, inr (c, inr (d, inr (g, inr (h, none))))))) = absurd none
-  no_user (edit.OfBug word e) (picked, inl f) = absurd (cc (f.2))
-  no_user (edit.OfBug word e) (picked, inr (a, inl f)) = absurd (cc (f.1))
-  no_user (edit.OfBug word e) (picked, inr (a, inr (b, inl f))) = f.0
-  no_user (edit.OfBug word e) (picked, inr (a, inr (b, inr (c, inl f)))) = absurd f
-  no_user (edit.OfBug word e) (picked, inr (a, inr (b, inr (c, inr (d, inl f))))) = absurd (cc (f.1))
-  no_user (edit.OfBug word e) (picked, inr (a, inr (b, inr (c, inr (d, inr (g, inl f)))))) = absurd (unchanged e word picked.op refusal.NoUser refl f)
-  no_user (edit.OfBug word e) (picked, inr (a, inr (b, inr (c, inr (d, inr (g, inr (h, inl f))))))) = absurd (cc (f.2))
-  no_user (edit.OfBug word e) (picked, inr (a, inr (b, inr (c, inr (d, inr (g, inr (h, inr (i, inl f)))))))) = absurd (cc (f.2))
-  no_user (edit.OfBug word e) (picked, inr (a, inr (b, inr (c, inr (d, inr (g, inr (h, inr (i, inr (j, inl f))))))))) = absurd (cc (f.1))
-  no_user (edit.OfBug word e) (picked, inr (a, inr (b, inr (c, inr (d, inr (g, inr (h, inr (i, inr (j, inr (k, inl f)))))))))) = absurd (cc (f.2))
-  no_user (edit.OfBug word e) (picked, inr (a, inr (b, inr (c, inr (d, inr (g, inr (h, inr (i, inr (j, inr (k, inr (l, inl f))))))))))) = absurd (cc (f.2))
-  no_user (edit.OfBug word e) (picked, inr (a, inr (b, inr (c, inr (d, inr (g, inr (h, inr (i, inr (j, inr (k, inr (l, inr (m, none)))))))))))) = absurd none
+  no_user command (picked, fails) = each command (told_by env command picked old refusal.NoUser 3 refl fails)
+    where
+      each : (command : Edit) → At 3 command picked refusal.NoUser → user_at files env.folder ≡ NoUser
+      each (edit.UserNew name email) none = absurd none
+      each (edit.UserEdit name email) (inl f) = f.0
+      each (edit.UserEdit name email) (inr none) = absurd none
+      each (edit.UserSet word) none = absurd none
+      each (edit.New title message) (inl f) = f.0
+      each (edit.New title message) (inr none) = absurd none
+      each (edit.OfBug word e) (inl f) = f.0
+      each (edit.OfBug word e) (inr none) = absurd none
 
   -- ---- what exists
 
-  same_id : (one other : Id) → refusal.EntityExists one ≡ refusal.EntityExists other → one ≡ other
-  same_id one other is = cc is
-
-  same_operation : (one other : Id) → refusal.RepeatedOperation one ≡ refusal.RepeatedOperation other → one ≡ other
-  same_operation one other is = cc is
-
   -- a new person is refused as existing where a ref of its id exists
-  pub person_exists : (name email : List ℕ) (id : Id) → Refused env (edit.UserNew name email) old (refusal.EntityExists id)
+  pub person_exists : (name : Title) (email : Line) (id : Id) → Refused env (edit.UserNew name email) old (refusal.EntityExists id)
       → (id ≡ (new_made env name email None).id) × IsTrue (has_ref files env.folder side.Identities id)
-  person_exists name email id (picked, inl f) = absurd (cc (f.2))
-  person_exists name email id (picked, inr (a, inl f)) = absurd (cc (f.1))
-  person_exists name email id (picked, inr (a, inr (b, inl f))) = absurd (cc (f.1))
-  person_exists name email id (picked, inr (a, inr (b, inr (c, inl f)))) = let same = same_id id (new_made env name email None).id f.1 in (same, subst (λ (i : Id). IsTrue (has_ref files env.folder side.Identities i)) (sym same) f.0)
-  person_exists name email id (picked, inr (a, inr (b, inr (c, inr (d, inl f))))) = absurd (cc (f.2))
-  person_exists name email id (picked, inr (a, inr (b, inr (c, inr (d, inr (g, none)))))) = absurd none
+  person_exists name email id (picked, fails) = each (told_by env (edit.UserNew name email) picked old (refusal.EntityExists id) 8 refl fails)
+    where
+      each : At 8 (edit.UserNew name email) picked (refusal.EntityExists id) → (id ≡ (new_made env name email None).id) × IsTrue (has_ref files env.folder side.Identities id)
+      each (inl f) = let same = same_id id (new_made env name email None).id f.1 in (same, subst (λ (i : Id). IsTrue (has_ref files env.folder side.Identities i)) (sym same) f.0)
+      each (inr none) = absurd none
 
   -- and a new bug
-  pub bug_exists : (title message : List ℕ) (id : Id) → Refused env (edit.New title message) old (refusal.EntityExists id)
-      → (id ≡ op_id (create_op env title message)) × IsTrue (has_ref files env.folder side.Bugs id)
-  bug_exists title message id (picked, inl f) = absurd (cc (f.2))
-  bug_exists title message id (picked, inr (a, inl f)) = absurd (cc (f.1))
-  bug_exists title message id (picked, inr (a, inr (b, inl f))) = absurd (cc (f.1))
-  bug_exists title message id (picked, inr (a, inr (b, inr (c, inl f)))) = absurd (cc (f.1))
-  bug_exists title message id (picked, inr (a, inr (b, inr (c, inr (d, inl f))))) = let same = same_id id (op_id (create_op env title message)) f.1 in (same, subst (λ (i : Id). IsTrue (has_ref files env.folder side.Bugs i)) (sym same) f.0)
-  bug_exists title message id (picked, inr (a, inr (b, inr (c, inr (d, inr (g, inl f)))))) = absurd (cc (f.2))
-  bug_exists title message id (picked, inr (a, inr (b, inr (c, inr (d, inr (g, inr (h, none))))))) = absurd none
+  pub bug_exists : (title : Title) (message : Message) (id : Id) → Refused env (edit.New title message) old (refusal.EntityExists id)
+      → (id ≡ op_id (create_op env.moment title message)) × IsTrue (has_ref files env.folder side.Bugs id)
+  bug_exists title message id (picked, fails) = each (told_by env (edit.New title message) picked old (refusal.EntityExists id) 8 refl fails)
+    where
+      each : At 8 (edit.New title message) picked (refusal.EntityExists id) → (id ≡ op_id (create_op env.moment title message)) × IsTrue (has_ref files env.folder side.Bugs id)
+      each (inl f) = let same = same_id id (op_id (create_op env.moment title message)) f.1 in (same, subst (λ (i : Id). IsTrue (has_ref files env.folder side.Bugs i)) (sym same) f.0)
+      each (inr none) = absurd none
 
   -- an edit is refused as repeated where an operation of the bug has its id
   pub operation_exists : (e : BugEdit) (word : List ℕ) (id : Id) → Refused env (edit.OfBug word e) old (refusal.RepeatedOperation id)
       → (bug : HasBug env.folder files word) × Contains (op_ids (ops_in bug_kind bug.entity.packs)) id
-  unfolding is_unchanged
-  operation_exists e word id (picked, inl f) = absurd (cc (f.2))
-  operation_exists e word id (picked, inr (a, inl f)) = absurd (cc (f.1))
-  operation_exists e word id (picked, inr (a, inr (b, inl f))) = absurd (cc (f.1))
-  operation_exists e word id (picked, inr (a, inr (b, inr (c, inl f)))) = absurd f
-  operation_exists e word id (picked, inr (a, inr (b, inr (c, inr (d, inl f))))) = absurd (cc (f.1))
-  operation_exists e word id (picked, inr (a, inr (b, inr (c, inr (d, inr (g, inl f)))))) = absurd (unchanged e word picked.op (refusal.RepeatedOperation id) refl f)
-  operation_exists e word id (picked, inr (a, inr (b, inr (c, inr (d, inr (g, inr (h, inl f))))))) = absurd (cc (f.2))
-  operation_exists e word id (picked, inr (a, inr (b, inr (c, inr (d, inr (g, inr (h, inr (i, inl f)))))))) = absurd (cc (f.2))
-  operation_exists e word id (picked, inr (a, inr (b, inr (c, inr (d, inr (g, inr (h, inr (i, inr (j, inl f))))))))) = absurd (cc (f.1))
-  operation_exists e word id (picked, inr (a, inr (b, inr (c, inr (d, inr (g, inr (h, inr (i, inr (j, inr (k, inl f)))))))))) = (f.0, subst (Contains (op_ids (ops_in bug_kind f.0.entity.packs))) (sym (same_operation id (op_id picked.op) f.2)) f.1)
-  operation_exists e word id (picked, inr (a, inr (b, inr (c, inr (d, inr (g, inr (h, inr (i, inr (j, inr (k, inr (l, inl f))))))))))) = absurd (cc (f.2))
-  operation_exists e word id (picked, inr (a, inr (b, inr (c, inr (d, inr (g, inr (h, inr (i, inr (j, inr (k, inr (l, inr (m, none)))))))))))) = absurd none
+  operation_exists e word id (picked, fails) = each (told_by env (edit.OfBug word e) picked old (refusal.RepeatedOperation id) 8 refl fails)
+    where
+      each : At 8 (edit.OfBug word e) picked (refusal.RepeatedOperation id) → (bug : HasBug env.folder files word) × Contains (op_ids (ops_in bug_kind bug.entity.packs)) id
+      each (inl f) = (f.0, subst (Contains (op_ids (ops_in bug_kind f.0.entity.packs))) (sym (same_operation id (op_id picked.op) f.2)) f.1)
+      each (inr none) = absurd none
 
   -- ---- objects
-
-  same_name : (one other : Name) → refusal.NameTaken one ≡ refusal.NameTaken other → one ≡ other
-  same_name one other is = cc is
-
-  same_count : (one other : ℕ) → refusal.TooLarge one ≡ refusal.TooLarge other → one ≡ other
-  same_count one other is = cc is
-
-  -- what the last check reports is so of the objects that the command makes
-  taken_by : (texts : List (List ℕ)) (name : Name) → (names env.folder texts old).Fails (refusal.NameTaken name) → CannotHave env.folder texts old name
-  taken_by texts name f = subst (CannotHave env.folder texts old) (sym (same_name name f.0 f.2)) f.1
 
   -- a name is taken where an object that the command makes cannot have it
   pub name_taken : (command : Edit) (picked : Picked) (name : Name) → FirstFails (doing_of env command picked old).checks (refusal.NameTaken name)
       → CannotHave env.folder (doing_of env command picked old).objects old name
-  unfolding is_unchanged
-  name_taken (edit.UserNew name email) picked taken (inl f) = absurd (cc (f.2))
-  name_taken (edit.UserNew name email) picked taken (inr (a, inl f)) = absurd (cc (f.1))
-  name_taken (edit.UserNew name email) picked taken (inr (a, inr (b, inl f))) = absurd (cc (f.1))
-  name_taken (edit.UserNew name email) picked taken (inr (a, inr (b, inr (c, inl f)))) = absurd (cc (f.1))
-  name_taken (edit.UserNew name email) picked taken (inr (a, inr (b, inr (c, inr (d, inl f))))) = taken_by (doing_of env (edit.UserNew name email) picked old).objects taken f
-  name_taken (edit.UserNew name email) picked taken (inr (a, inr (b, inr (c, inr (d, inr (g, none)))))) = absurd none
-  name_taken (edit.UserEdit name email) picked taken (inl f) = absurd (cc (f.2))
-  name_taken (edit.UserEdit name email) picked taken (inr (a, inl f)) = absurd (cc (f.1))
-  name_taken (edit.UserEdit name email) picked taken (inr (a, inr (b, inl f))) = absurd (cc (f.1))
-  name_taken (edit.UserEdit name email) picked taken (inr (a, inr (b, inr (c, inl f)))) = absurd (cc (f.3))
-  name_taken (edit.UserEdit name email) picked taken (inr (a, inr (b, inr (c, inr (d, inl f))))) = absurd (cc (f.2))
-  name_taken (edit.UserEdit name email) picked taken (inr (a, inr (b, inr (c, inr (d, inr (g, inl f)))))) = absurd (cc (f.1))
-  name_taken (edit.UserEdit name email) picked taken (inr (a, inr (b, inr (c, inr (d, inr (g, inr (h, inl f))))))) = taken_by (doing_of env (edit.UserEdit name email) picked old).objects taken f
-  name_taken (edit.UserEdit name email) picked taken (inr (a, inr (b, inr (c, inr (d, inr (g, inr (h, inr (i, none)))))))) = absurd none
-  name_taken (edit.UserSet word) picked taken (inl f) = absurd f
-  name_taken (edit.UserSet word) picked taken (inr (a, none)) = absurd none
-  name_taken (edit.New title message) picked taken (inl f) = absurd (cc (f.2))
-  name_taken (edit.New title message) picked taken (inr (a, inl f)) = absurd (cc (f.1))
-  name_taken (edit.New title message) picked taken (inr (a, inr (b, inl f))) = absurd (cc (f.1))
-  name_taken (edit.New title message) picked taken (inr (a, inr (b, inr (c, inl f)))) = absurd (cc (f.1))
-  name_taken (edit.New title message) picked taken (inr (a, inr (b, inr (c, inr (d, inl f))))) = absurd (cc (f.1))
-  name_taken (edit.New title message) picked taken (inr (a, inr (b, inr (c, inr (d, inr (g, inl f)))))) = taken_by (doing_of env (edit.New title message) picked old).objects taken f
-  name_taken (edit.New title message) picked taken (inr (a, inr (b, inr (c, inr (d, inr (g, inr (h, none))))))) = absurd none
-  name_taken (edit.OfBug word e) picked taken (inl f) = absurd (cc (f.2))
-  name_taken (edit.OfBug word e) picked taken (inr (a, inl f)) = absurd (cc (f.1))
-  name_taken (edit.OfBug word e) picked taken (inr (a, inr (b, inl f))) = absurd (cc (f.1))
-  name_taken (edit.OfBug word e) picked taken (inr (a, inr (b, inr (c, inl f)))) = absurd f
-  name_taken (edit.OfBug word e) picked taken (inr (a, inr (b, inr (c, inr (d, inl f))))) = absurd (cc (f.1))
-  name_taken (edit.OfBug word e) picked taken (inr (a, inr (b, inr (c, inr (d, inr (g, inl f)))))) = absurd (unchanged e word picked.op (refusal.NameTaken taken) refl f)
-  name_taken (edit.OfBug word e) picked taken (inr (a, inr (b, inr (c, inr (d, inr (g, inr (h, inl f))))))) = absurd (cc (f.2))
-  name_taken (edit.OfBug word e) picked taken (inr (a, inr (b, inr (c, inr (d, inr (g, inr (h, inr (i, inl f)))))))) = absurd (cc (f.2))
-  name_taken (edit.OfBug word e) picked taken (inr (a, inr (b, inr (c, inr (d, inr (g, inr (h, inr (i, inr (j, inl f))))))))) = absurd (cc (f.1))
-  name_taken (edit.OfBug word e) picked taken (inr (a, inr (b, inr (c, inr (d, inr (g, inr (h, inr (i, inr (j, inr (k, inl f)))))))))) = absurd (cc (f.2))
-  name_taken (edit.OfBug word e) picked taken (inr (a, inr (b, inr (c, inr (d, inr (g, inr (h, inr (i, inr (j, inr (k, inr (l, inl f))))))))))) = taken_by (doing_of env (edit.OfBug word e) picked old).objects taken f
-  name_taken (edit.OfBug word e) picked taken (inr (a, inr (b, inr (c, inr (d, inr (g, inr (h, inr (i, inr (j, inr (k, inr (l, inr (m, none)))))))))))) = absurd none
+  name_taken command picked taken fails = each command (told_by env command picked old (refusal.NameTaken taken) 9 refl fails)
+    where
+      by : (texts : List (List ℕ)) → (names env.folder texts old).Fails (refusal.NameTaken taken) → CannotHave env.folder texts old taken
+      by texts f = subst (CannotHave env.folder texts old) (sym (same_name taken f.0 f.2)) f.1
+
+      each : (command : Edit) → At 9 command picked (refusal.NameTaken taken) → CannotHave env.folder (doing_of env command picked old).objects old taken
+      each (edit.UserNew name email) (inl f) = by (doing_of env (edit.UserNew name email) picked old).objects f
+      each (edit.UserNew name email) (inr none) = absurd none
+      each (edit.UserEdit name email) (inl f) = by (doing_of env (edit.UserEdit name email) picked old).objects f
+      each (edit.UserEdit name email) (inr none) = absurd none
+      each (edit.UserSet word) none = absurd none
+      each (edit.New title message) (inl f) = by (doing_of env (edit.New title message) picked old).objects f
+      each (edit.New title message) (inr none) = absurd none
+      each (edit.OfBug word e) (inl f) = by (doing_of env (edit.OfBug word e) picked old).objects f
+      each (edit.OfBug word e) (inr none) = absurd none
 
   -- an object is too large where one that the command makes is
   pub object_large : (command : Edit) (picked : Picked) → FirstFails (doing_of env command picked old).checks (refusal.TooLarge (MOST_BYTES + 1))
       → HasLong (doing_of env command picked old).objects
-  unfolding is_unchanged
-  object_large (edit.UserNew name email) picked (inl f) = absurd (cc (f.2))
-  object_large (edit.UserNew name email) picked (inr (a, inl f)) = absurd (cc (f.1))
-  object_large (edit.UserNew name email) picked (inr (a, inr (b, inl f))) = f.0
-  object_large (edit.UserNew name email) picked (inr (a, inr (b, inr (c, inl f)))) = absurd (cc (f.1))
-  object_large (edit.UserNew name email) picked (inr (a, inr (b, inr (c, inr (d, inl f))))) = absurd (cc (f.2))
-  object_large (edit.UserNew name email) picked (inr (a, inr (b, inr (c, inr (d, inr (g, none)))))) = absurd none
-  object_large (edit.UserEdit name email) picked (inl f) = absurd (cc (f.2))
-  object_large (edit.UserEdit name email) picked (inr (a, inl f)) = absurd (cc (f.1))
-  object_large (edit.UserEdit name email) picked (inr (a, inr (b, inl f))) = absurd (cc (f.1))
-  object_large (edit.UserEdit name email) picked (inr (a, inr (b, inr (c, inl f)))) = absurd (cc (f.3))
-  object_large (edit.UserEdit name email) picked (inr (a, inr (b, inr (c, inr (d, inl f))))) = absurd (omega (arith, same_count (MOST_BYTES + 1) (MOST_COMMITS + 1) f.2))
-  object_large (edit.UserEdit name email) picked (inr (a, inr (b, inr (c, inr (d, inr (g, inl f)))))) = f.0
-  object_large (edit.UserEdit name email) picked (inr (a, inr (b, inr (c, inr (d, inr (g, inr (h, inl f))))))) = absurd (cc (f.2))
-  object_large (edit.UserEdit name email) picked (inr (a, inr (b, inr (c, inr (d, inr (g, inr (h, inr (i, none)))))))) = absurd none
-  object_large (edit.UserSet word) picked (inl f) = absurd f
-  object_large (edit.UserSet word) picked (inr (a, none)) = absurd none
-  object_large (edit.New title message) picked (inl f) = absurd (cc (f.2))
-  object_large (edit.New title message) picked (inr (a, inl f)) = absurd (cc (f.1))
-  object_large (edit.New title message) picked (inr (a, inr (b, inl f))) = absurd (cc (f.1))
-  object_large (edit.New title message) picked (inr (a, inr (b, inr (c, inl f)))) = f.0
-  object_large (edit.New title message) picked (inr (a, inr (b, inr (c, inr (d, inl f))))) = absurd (cc (f.1))
-  object_large (edit.New title message) picked (inr (a, inr (b, inr (c, inr (d, inr (g, inl f)))))) = absurd (cc (f.2))
-  object_large (edit.New title message) picked (inr (a, inr (b, inr (c, inr (d, inr (g, inr (h, none))))))) = absurd none
-  object_large (edit.OfBug word e) picked (inl f) = absurd (cc (f.2))
-  object_large (edit.OfBug word e) picked (inr (a, inl f)) = absurd (cc (f.1))
-  object_large (edit.OfBug word e) picked (inr (a, inr (b, inl f))) = absurd (cc (f.1))
-  object_large (edit.OfBug word e) picked (inr (a, inr (b, inr (c, inl f)))) = absurd f
-  object_large (edit.OfBug word e) picked (inr (a, inr (b, inr (c, inr (d, inl f))))) = absurd (cc (f.1))
-  object_large (edit.OfBug word e) picked (inr (a, inr (b, inr (c, inr (d, inr (g, inl f)))))) = absurd (unchanged e word picked.op (refusal.TooLarge (MOST_BYTES + 1)) refl f)
-  object_large (edit.OfBug word e) picked (inr (a, inr (b, inr (c, inr (d, inr (g, inr (h, inl f))))))) = absurd (cc (f.2))
-  object_large (edit.OfBug word e) picked (inr (a, inr (b, inr (c, inr (d, inr (g, inr (h, inr (i, inl f)))))))) = absurd (omega (arith, same_count (MOST_BYTES + 1) (MOST_COMMITS + 1) f.2))
-  object_large (edit.OfBug word e) picked (inr (a, inr (b, inr (c, inr (d, inr (g, inr (h, inr (i, inr (j, inl f))))))))) = f.0
-  object_large (edit.OfBug word e) picked (inr (a, inr (b, inr (c, inr (d, inr (g, inr (h, inr (i, inr (j, inr (k, inl f)))))))))) = absurd (cc (f.2))
-  object_large (edit.OfBug word e) picked (inr (a, inr (b, inr (c, inr (d, inr (g, inr (h, inr (i, inr (j, inr (k, inr (l, inl f))))))))))) = absurd (cc (f.2))
-  object_large (edit.OfBug word e) picked (inr (a, inr (b, inr (c, inr (d, inr (g, inr (h, inr (i, inr (j, inr (k, inr (l, inr (m, none)))))))))))) = absurd none
+  object_large command picked fails = each command (told_by env command picked old (refusal.TooLarge (MOST_BYTES + 1)) 7 refl fails)
+    where
+      each : (command : Edit) → At 7 command picked (refusal.TooLarge (MOST_BYTES + 1)) → HasLong (doing_of env command picked old).objects
+      each (edit.UserNew name email) (inl f) = f.0
+      each (edit.UserNew name email) (inr none) = absurd none
+      each (edit.UserEdit name email) (inl full) = absurd (let is = same_count (MOST_BYTES + 1) (MOST_VERSIONS + 1) full.2 in omega (arith, is))
+      each (edit.UserEdit name email) (inr (inl f)) = f.0
+      each (edit.UserEdit name email) (inr (inr none)) = absurd none
+      each (edit.UserSet word) none = absurd none
+      each (edit.New title message) (inl f) = f.0
+      each (edit.New title message) (inr none) = absurd none
+      each (edit.OfBug word e) (inl full) = absurd (let is = same_count (MOST_BYTES + 1) (MOST_COMMITS + 1) full.2 in omega (arith, is))
+      each (edit.OfBug word e) (inr (inl f)) = f.0
+      each (edit.OfBug word e) (inr (inr none)) = absurd none
+
+  -- ---- a full chain
+
+  module _ (name : Title) (email : Line) where
+    -- what is told as too large is the chain, by its number and one, or an object
+    large : (count : ℕ) → Refused env (edit.UserEdit name email) old (refusal.TooLarge count)
+        → ((user : HasUser env.folder files) × (length user.chain.walk ≡ 2 ^ 16) × (count ≡ 2 ^ 16 + 1)) ⊎ (count ≡ 2 ^ 22 + 1)
+    large count (picked, fails) = each (told_by env (edit.UserEdit name email) picked old (refusal.TooLarge count) 7 refl fails)
+      where
+        each : At 7 (edit.UserEdit name email) picked (refusal.TooLarge count) → ((user : HasUser env.folder files) × (length user.chain.walk ≡ 2 ^ 16) × (count ≡ 2 ^ 16 + 1)) ⊎ (count ≡ 2 ^ 22 + 1)
+        each (inl full) = inl (full.0, full.1, (let is = same_count count (MOST_VERSIONS + 1) full.2 in omega (arith, is)))
+        each (inr (inl long)) = inr (let is = same_count count (MOST_BYTES + 1) long.1 in omega (arith, is))
+        each (inr (inr none)) = absurd none
+
+    pub only_full : Refused env (edit.UserEdit name email) old (refusal.TooLarge (2 ^ 16 + 1)) → (user : HasUser env.folder files) × (length user.chain.walk ≡ 2 ^ 16)
+    only_full refused = elim (large (2 ^ 16 + 1) refused) [
+      | inl full ↦ (full.0, full.1)
+      | inr other ↦ absurd (omega (arith, other))
+    ]
+
+    pub full_told : (count : ℕ) → Refused env (edit.UserEdit name email) old (refusal.TooLarge count) → (count ≡ 2 ^ 16 + 1) ⊎ (count ≡ 2 ^ 22 + 1)
+    full_told count refused = elim (large count refused) [
+      | inl full ↦ inl full.2
+      | inr other ↦ inr other
+    ]
+
+  -- ---- a full bug
+
+  -- the edit clock of the bug's head
+  pub at_limit : {word : List ℕ} (bug : HasBug env.folder files word) → bug.entity.edit ≡ GREATEST_TIME → edit_at held bug.bug.name ≡ Some GREATEST_TIME
+  at_limit bug full = head_edit held bug.bug.name bug.entity.edit bug.is.is.edit ∙ ap (λ (n : ℕ). Some n) full
+
+  module _ (e : BugEdit) (word : List ℕ) where
+    -- a clock is told as full where it is the last that is written
+    pub only_full_clocks : (name : Name) → Refused env (edit.OfBug word e) old (refusal.ClockFull name)
+        → (bug : HasBug env.folder files word) × (name ≡ bug.bug.name) × (edit_at held bug.bug.name ≡ Some GREATEST_TIME)
+    only_full_clocks name (picked, fails) = each (told_by env (edit.OfBug word e) picked old (refusal.ClockFull name) 6 refl fails)
+      where
+        each : At 6 (edit.OfBug word e) picked (refusal.ClockFull name) → (bug : HasBug env.folder files word) × (name ≡ bug.bug.name) × (edit_at held bug.bug.name ≡ Some GREATEST_TIME)
+        each (inl f) = let same : name ≡ f.0.bug.name = let is = f.2 in cc in (f.0, same, at_limit f.0 f.1)
+        each (inr none) = absurd none
+
+    -- commits are told as too many where there are the most that are read
+    pub only_many_commits : Refused env (edit.OfBug word e) old (refusal.TooLarge (MOST_COMMITS + 1)) → (bug : HasBug env.folder files word) × (MOST_COMMITS ≤ length bug.entity.packs)
+    only_many_commits (picked, fails) = each (told_by env (edit.OfBug word e) picked old (refusal.TooLarge (MOST_COMMITS + 1)) 7 refl fails)
+      where
+        each : At 7 (edit.OfBug word e) picked (refusal.TooLarge (MOST_COMMITS + 1)) → (bug : HasBug env.folder files word) × (MOST_COMMITS ≤ length bug.entity.packs)
+        each (inl f) = (f.0, f.1)
+        each (inr (inl long)) = absurd (let is = same_count (MOST_COMMITS + 1) (MOST_BYTES + 1) long.1 in omega (arith, is))
+        each (inr (inr none)) = absurd none

@@ -5,6 +5,8 @@ use Rattle.std.specs.Prelude.{option_and_then}
 use Rattle.gb_text.specs.declared.decimal.TheConstants.{GREATEST_TIME}
 use Rattle.gb_text.specs.declared.id.Id.{Id}
 use Rattle.gb_text.specs.declared.id.Name.{Name}
+use Rattle.gb_text.specs.declared.ruled.Line.{Line}
+use Rattle.gb_text.specs.declared.ruled.Title.{Title}
 use Rattle.gb_store.specs.Files.{Files, History, files_of}
 use Rattle.object_store.specs.Held.{objects_in}
 use Rattle.object_store.specs.Texts.{IsShort}
@@ -21,27 +23,30 @@ use Rattle.identity.proofs.NoFaultLemmas.{no_fault}
 use Rattle.repo_state.specs.Bugs.{IsBug}
 use Rattle.repo_state.specs.Finds.{Finder, IsDetermined, bug_finder, person_finder}
 use Rattle.repo_state.specs.Sides.{head_at}
-use Rattle.repo_state.specs.Stops.{number_of}
+use Rattle.repo_steps.specs.Stops.{number_of}
 use Rattle.repo_state.specs.Users.{User, user_at, user_entry}
-use Rattle.repo_state.specs.declared.env.Env.{Env}
-use Rattle.repo_state.specs.declared.refusal.Refusal.{Refusal}
-use Rattle.repo_state.specs.declared.refusal.Refusal.TheVariants as refusal
+use Rattle.repo_steps.specs.declared.env.Env.{Env}
+use Rattle.repo_steps.specs.declared.refusal.Refusal.{Refusal}
+use Rattle.repo_steps.specs.declared.refusal.Refusal.TheVariants as refusal
 use Rattle.repo_state.specs.declared.side.HeadEntry.{HeadEntry}
 use Rattle.repo_state.specs.declared.side.Side.{Side}
 use Rattle.repo_state.specs.declared.side.Side.TheVariants as side
+use Rattle.repo_state.specs.declared.stop.Missed.{Missed}
 use Rattle.repo_steps.specs.Checks.{AllPass, AreClear, Check, FirstFails, IsClear}
-use Rattle.repo_steps.specs.BugDoings.{HasBug, addition_objects, bad_bug, begun_bug, bug_check, bug_reads, bug_says, clock_room, commit_room, edit_adds, later_by, longer_bug, new_bug, new_operation, op_ids, root_addition, some_id}
-use Rattle.repo_steps.specs.BugEdits.{bad_edit, edit_op}
-use Rattle.repo_steps.specs.Doing.{found, fresh, names, sizes, some_user, user_file, words}
+use Rattle.repo_steps.specs.BugDoings.{HasBug, addition_objects, begun_bug, bug_check, bug_reads, bug_says, clock_room, commit_room, edit_adds, later_by, longer_bug, new_bug, new_operation, op_ids, root_addition, some_id}
+use Rattle.bug_edits.specs.EditTable.{edit_op}
+use Rattle.bug_edits.specs.NewOps.{create_op, op_id}
+use Rattle.bug_edits.specs.declared.edit.NoChange.{NoChange}
+use Rattle.repo_steps.specs.Doing.{found, fresh, names, sizes, some_user, user_file}
 use Rattle.repo_steps.specs.Doings.{MayStep, Refused, doing_of}
-use Rattle.repo_steps.specs.NewOps.{MayWriteOp, create_op, op_id}
+use Rattle.repo_steps.specs.Stops.{of_missed, of_no_change}
 use Rattle.repo_steps.specs.Picked.{Picked}
-use Rattle.repo_steps.specs.PeopleDoings.{HasBadChain, HasUser, MayWrite, bad_person, edited_user, new_made, new_objects, new_user, set_user, user_chain, user_room}
+use Rattle.repo_steps.specs.PeopleDoings.{HasBadChain, HasUser, edited_user, new_made, new_objects, new_user, set_user, user_chain, user_room}
 use Rattle.repo_state.proofs.BugLemmas.{bug_no_fault, one_bug, one_entity}
 use Rattle.repo_state.proofs.FoundLemmas.{heads_are_determined, ids_are_determined}
-use Rattle.repo_steps.specs.declared.edit.BugEdit.{BugEdit}
-use Rattle.repo_steps.specs.declared.edit.Edit.{Edit}
-use Rattle.repo_steps.specs.declared.edit.Edit.TheVariants as edit
+use Rattle.bug_edits.specs.declared.edit.BugEdit.{BugEdit}
+use Rattle.words.specs.declared.edit.Edit.{Edit}
+use Rattle.words.specs.declared.edit.Edit.TheVariants as edit
 
 -- ---- clear checks
 
@@ -114,9 +119,6 @@ module _ (folder : List ℕ) (files : Files) where
 both : (n : ℕ) (r s : Refusal) → number_of r ≡ n → number_of s ≡ n → number_of r ≡ number_of s
 both n r s one two = one ∙ sym two
 
-words_clear : (bad : Option ℕ) (Known : Type 0) → IsClear (words bad Known)
-words_clear bad Known = record { apart = λ r fails passes. cc (sym passes.0 ∙ fails.1); one = λ r s one two. both 4 r s (ap number_of one.2) (ap number_of two.2) }
-
 module _ (folder : List ℕ) (files : Files) where
   user_file_clear : IsClear (user_file folder files)
   user_file_clear = record { apart = λ r fails passes. passes fails.0; one = λ r s one two. both 14 r s (ap number_of one.1) (ap number_of two.1) }
@@ -146,8 +148,12 @@ module _ (folder : List ℕ) (files : Files) where
   person_finds : (word : List ℕ) → IsDetermined (person_finder files folder word)
   person_finds word = ids_are_determined side.Identities files folder word
 
+-- a word that finds nothing is refused in one way
+found_one : {T : Type 0} → (finder : Finder T) → IsDetermined finder → (r s : Refusal) → (why : Missed) × finder.Fails why × (r ≡ of_missed why) → (why : Missed) × finder.Fails why × (s ≡ of_missed why) → r ≡ s
+found_one finder is r s one two = one.2 ∙ ap of_missed (is.same one.0 two.0 one.1 two.1) ∙ sym two.2
+
 found_clear : {T : Type 0} → (finder : Finder T) → IsDetermined finder → (value : T) → IsClear (found finder value)
-found_clear finder is value = record { apart = λ r fails passes. is.apart value r passes fails; one = is.number }
+found_clear finder is value = record { apart = λ r fails passes. is.apart value fails.0 passes fails.1; one = λ r s one two. ap number_of (found_one finder is r s one two) }
 
 sizes_clear : (texts : List (List ℕ)) → IsClear (sizes texts)
 sizes_clear texts = record {
@@ -195,52 +201,42 @@ module _ (folder : List ℕ) (files : Files) (word : List ℕ) where
 -- ---- each command
 
 -- the checks of a command that begins a bug are clear
-begun_clear : (env : Env) (bad : Option ℕ) (op : BugOp) (old : History) → AreClear (begun_bug env bad op old).checks
-begun_clear env bad op old =
+begun_clear : (env : Env) (op : BugOp) (old : History) → AreClear (begun_bug env op old).checks
+begun_clear env op old =
     let files = files_of old in
-    let objects = addition_objects env.now (option_map (root_addition env.folder files op) (some_id (user_at files env.folder))) in (
-      words_clear bad (MayWriteOp op),
-      (
-        user_file_clear env.folder files,
-        (
-          some_user_clear env.folder files,
-          (sizes_clear objects, (fresh_clear env.folder files side.Bugs (op_id op), (names_clear env.folder objects old, tt))),
-        ),
-      ),
-    )
+    let objects = addition_objects env.moment.now (option_map (root_addition env.folder files op) (some_id (user_at files env.folder))) in
+    (user_file_clear env.folder files, (some_user_clear env.folder files, (sizes_clear objects, (fresh_clear env.folder files side.Bugs (op_id op), (names_clear env.folder objects old, tt)))))
 
 -- what an edit adds to a bug that a word finds is one operation, or one refusal
 module _ (env : Env) (files : Files) (word : List ℕ) (e : BugEdit) where
-  abbrev left : BugOp → Result BugOp Refusal
+  abbrev left : BugOp → Result BugOp NoChange
   left op = Ok op
 
-  abbrev right : Refusal → Result BugOp Refusal
-  right r = Err r
+  abbrev right : NoChange → Result BugOp NoChange
+  right why = Err why
 
-  pub says_one : (one two : HasBug env.folder files word) → edit_op env e (bug_says one.entity) ≡ edit_op env e (bug_says two.entity)
-  says_one one two = ap (λ (entity : Entity BugOp). edit_op env e (bug_says entity)) (bug_one env.folder files word one two).1
+  pub says_one : (one two : HasBug env.folder files word) → edit_op env.moment e (bug_says one.entity) ≡ edit_op env.moment e (bug_says two.entity)
+  says_one one two = ap (λ (entity : Entity BugOp). edit_op env.moment e (bug_says entity)) (bug_one env.folder files word one two).1
 
-  pub adds_one : (op other : BugOp) (one two : HasBug env.folder files word) → edit_op env e (bug_says one.entity) ≡ Ok op → edit_op env e (bug_says two.entity) ≡ Ok other → op ≡ other
+  pub adds_one : (op other : BugOp) (one two : HasBug env.folder files word) → edit_op env.moment e (bug_says one.entity) ≡ Ok op → edit_op env.moment e (bug_says two.entity) ≡ Ok other → op ≡ other
   adds_one op other one two first second =
       let both : left op ≡ left other = sym first ∙ says_one one two ∙ second in
       cc
 
-  refuses_one : (r s : Refusal) (one two : HasBug env.folder files word) → edit_op env e (bug_says one.entity) ≡ Err r → edit_op env e (bug_says two.entity) ≡ Err s → r ≡ s
-  refuses_one r s one two first second =
-      let both : right r ≡ right s = sym first ∙ says_one one two ∙ second in
-      cc
+  refuses_one : (r s : Refusal) (op other : BugOp) → (edit_adds env files word e op).Fails r → (edit_adds env files word e other).Fails s → number_of r ≡ number_of s
+  refuses_one r s op other one two =
+      let both : right one.1 ≡ right two.1 = sym one.2 ∙ says_one one.0 two.0 ∙ two.2 in
+      let same : one.1 ≡ two.1 = cc in
+      ap number_of (one.3 ∙ ap of_no_change same ∙ sym two.3)
 
-  never_adds : (op : BugOp) (r : Refusal) (one two : HasBug env.folder files word) → edit_op env e (bug_says one.entity) ≡ Ok op → edit_op env e (bug_says two.entity) ≡ Err r → ⊥
-  never_adds op r one two first second =
-      let both : left op ≡ right r = sym first ∙ says_one one two ∙ second in
+  never_adds : (op other : BugOp) (r : Refusal) → (edit_adds env files word e op).Passes → (edit_adds env files word e other).Fails r → ⊥
+  never_adds op other r passes fails =
+      let both : left op ≡ right fails.1 = sym passes.1 ∙ says_one passes.0 fails.0 ∙ fails.2 in
       cc both
 
   -- so with one operation the check is clear
   edit_adds_clear : (op : BugOp) → IsClear (edit_adds env files word e op)
-  edit_adds_clear op = record {
-    apart = λ r fails passes. never_adds op r passes.0 fails.0 passes.1 fails.1;
-    one = λ r s one two. ap number_of (refuses_one r s one.0 two.0 one.1 two.1);
-  }
+  edit_adds_clear op = record { apart = λ r fails passes. never_adds op op r passes fails; one = λ r s one two. refuses_one r s op op one two }
 
 -- ---- an edit of a bug that stands
 
@@ -251,12 +247,11 @@ module _ (env : Env) (word : List ℕ) (e : BugEdit) (old : History) where
   -- what is checked before the bug is sought
   abbrev first_checks : List Check
   first_checks =
-      words (bad_edit e) (env.now ≤ GREATEST_TIME) ∷
       user_file env.folder before ∷
       some_user env.folder before ∷ []
 
   first_clear : AreClear first_checks
-  first_clear = (words_clear (bad_edit e) (env.now ≤ GREATEST_TIME), (user_file_clear env.folder before, (some_user_clear env.folder before, tt)))
+  first_clear = (user_file_clear env.folder before, (some_user_clear env.folder before, tt))
 
   finds : IsDetermined (bug_finder before env.folder word)
   finds = bug_finds env.folder before word
@@ -271,7 +266,7 @@ module _ (env : Env) (word : List ℕ) (e : BugEdit) (old : History) where
   -- and once the operation is known
   abbrev then_checks : HeadEntry → BugOp → List Check
   then_checks bug op =
-      let objects = addition_objects env.now (option_and_then (later_by env.folder before bug op) (some_id (user_at before env.folder))) in
+      let objects = addition_objects env.moment.now (option_and_then (later_by env.folder before bug op) (some_id (user_at before env.folder))) in
       clock_room env.folder before word ∷
       commit_room env.folder before word ∷
       sizes objects ∷
@@ -280,7 +275,7 @@ module _ (env : Env) (word : List ℕ) (e : BugEdit) (old : History) where
 
   then_clear : (bug : HeadEntry) (op : BugOp) → AreClear (then_checks bug op)
   then_clear bug op =
-      let objects = addition_objects env.now (option_and_then (later_by env.folder before bug op) (some_id (user_at before env.folder))) in
+      let objects = addition_objects env.moment.now (option_and_then (later_by env.folder before bug op) (some_id (user_at before env.folder))) in
       (clock_room_clear env.folder before word, (commit_room_clear env.folder before word, (sizes_clear objects, (new_operation_clear env.folder before word op, (names_clear env.folder objects old, tt)))))
 
   -- with one bug and one operation all of them are clear
@@ -297,29 +292,29 @@ module _ (env : Env) (word : List ℕ) (e : BugEdit) (old : History) where
 
   -- of two operations of one bug
   rest_never : (bug : HeadEntry) (op other : BugOp) (r : Refusal) → FirstFails (op_checks bug op) r → AllPass (op_checks bug other) → ⊥
-  rest_never bug op other r (inl fails) passes = never_adds env before word e other r passes.0.0 fails.0 passes.0.1 fails.1
+  rest_never bug op other r (inl fails) passes = never_adds env before word e other op r passes.0 fails
   rest_never bug op other r (inr later) passes =
       never_both (then_checks bug op) r (then_clear bug op) (subst (λ (o : BugOp). AllPass (then_checks bug o)) (adds_one env before word e other op passes.0.0 later.0.0 passes.0.1 later.0.1) passes.1) later.1
 
   rest_one : (bug : HeadEntry) (op other : BugOp) (r s : Refusal) → FirstFails (op_checks bug op) r → FirstFails (op_checks bug other) s → number_of r ≡ number_of s
-  rest_one bug op other r s (inl one) (inl two) = ap number_of (refuses_one env before word e r s one.0 two.0 one.1 two.1)
-  rest_one bug op other r s (inl one) (inr two) = absurd (never_adds env before word e other r two.0.0 one.0 two.0.1 one.1)
-  rest_one bug op other r s (inr one) (inl two) = absurd (never_adds env before word e op s one.0.0 two.0 one.0.1 two.1)
+  rest_one bug op other r s (inl one) (inl two) = refuses_one env before word e r s op other one two
+  rest_one bug op other r s (inl one) (inr two) = absurd (never_adds env before word e other op r two.0 one)
+  rest_one bug op other r s (inr one) (inl two) = absurd (never_adds env before word e op other s one.0 two)
   rest_one bug op other r s (inr one) (inr two) =
       one_number (then_checks bug op) r s (then_clear bug op) one.1
       (subst (λ (o : BugOp). FirstFails (then_checks bug o) s) (adds_one env before word e other op two.0.0 one.0.0 two.0.1 one.0.1) two.1)
 
   -- of two bugs that the word finds, which are one
   bugs_never : (bug top : HeadEntry) (op other : BugOp) (r : Refusal) → FirstFails (bug_checks bug op) r → AllPass (bug_checks top other) → ⊥
-  bugs_never bug top op other r (inl fails) passes = finds.apart top r passes.0 fails
+  bugs_never bug top op other r (inl fails) passes = finds.apart top fails.0 passes.0 fails.1
   bugs_never bug top op other r (inr later) passes =
       never_over (found_checks bug) (op_checks bug op) (op_checks bug other) (found_checks_clear bug) (rest_never bug op other) r later.1
       (subst (λ (head : HeadEntry). AllPass (found_checks head ++ op_checks head other)) (finds.one top bug passes.0 later.0) passes.1)
 
   bugs_one : (bug top : HeadEntry) (op other : BugOp) (r s : Refusal) → FirstFails (bug_checks bug op) r → FirstFails (bug_checks top other) s → number_of r ≡ number_of s
-  bugs_one bug top op other r s (inl one) (inl two) = finds.number r s one two
-  bugs_one bug top op other r s (inl one) (inr two) = absurd (finds.apart top r two.0 one)
-  bugs_one bug top op other r s (inr one) (inl two) = absurd (finds.apart bug s one.0 two)
+  bugs_one bug top op other r s (inl one) (inl two) = ap number_of (found_one (bug_finder before env.folder word) finds r s one two)
+  bugs_one bug top op other r s (inl one) (inr two) = absurd (finds.apart top one.0 two.0 one.1)
+  bugs_one bug top op other r s (inr one) (inl two) = absurd (finds.apart bug two.0 one.0 two.1)
   bugs_one bug top op other r s (inr one) (inr two) =
       one_over (found_checks bug) (op_checks bug op) (op_checks bug other) (found_checks_clear bug) (rest_one bug op other) r s one.1
       (subst (λ (head : HeadEntry). FirstFails (found_checks head ++ op_checks head other) s) (finds.one top bug two.0 one.0) two.1)
@@ -337,44 +332,27 @@ module _ (env : Env) (word : List ℕ) (old : History) where
   person_is = person_finds env.folder (files_of old) word
 
   set_never : (person other : Id) (r : Refusal) → FirstFails (set_user env word person old).checks r → AllPass (set_user env word other old).checks → ⊥
-  set_never person other r (inl fails) passes = person_is.apart other r passes.0 fails
+  set_never person other r (inl fails) passes = person_is.apart other fails.0 passes.0 fails.1
   set_never person other r (inr later) passes = later.1
 
   set_one : (person other : Id) (r s : Refusal) → FirstFails (set_user env word person old).checks r → FirstFails (set_user env word other old).checks s → number_of r ≡ number_of s
-  set_one person other r s (inl one) (inl two) = person_is.number r s one two
+  set_one person other r s (inl one) (inl two) = ap number_of (found_one (person_finder (files_of old) env.folder word) person_is r s one two)
   set_one person other r s (inr later) two = absurd later.1
   set_one person other r s one (inr later) = absurd later.1
 
 -- ---- each command
 
 -- the checks of a command on people are clear
-user_new_clear : (env : Env) (name email : List ℕ) (old : History) → AreClear (new_user env name email old).checks
-user_new_clear env name email old = (
-  words_clear (bad_person name email) (MayWrite env name email),
-  (
-    user_file_clear env.folder (files_of old),
-    (
-      sizes_clear (new_objects env name email None),
-      (fresh_clear env.folder (files_of old) side.Identities (new_made env name email None).id, (names_clear env.folder (new_objects env name email None) old, tt)),
-    ),
-  ),
-)
+user_new_clear : (env : Env) (name : Title) (email : Line) (old : History) → AreClear (new_user env name email old).checks
+user_new_clear env name email old =
+    let objects = new_objects env name email None in
+    (user_file_clear env.folder (files_of old), (sizes_clear objects, (fresh_clear env.folder (files_of old) side.Identities (new_made env name email None).id, (names_clear env.folder objects old, tt))))
 
-user_edit_clear : (env : Env) (name email : List ℕ) (old : History) → AreClear (edited_user env name email old).checks
+user_edit_clear : (env : Env) (name : Title) (email : Line) (old : History) → AreClear (edited_user env name email old).checks
 user_edit_clear env name email old =
-    let objects = new_objects env name email (option_map (λ (e : HeadEntry). e.name) (user_entry (files_of old) env.folder)) in (
-      words_clear (bad_person name email) (MayWrite env name email),
-      (
-        user_file_clear env.folder (files_of old),
-        (
-          some_user_clear env.folder (files_of old),
-          (
-            user_chain_clear env.folder (files_of old),
-            (user_room_clear env.folder (files_of old), (sizes_clear objects, (names_clear env.folder objects old, tt))),
-          ),
-        ),
-      ),
-    )
+    let files = files_of old in
+    let objects = new_objects env name email (option_map (λ (e : HeadEntry). e.name) (user_entry files env.folder)) in
+    (user_file_clear env.folder files, (some_user_clear env.folder files, (user_chain_clear env.folder files, (user_room_clear env.folder files, (sizes_clear objects, (names_clear env.folder objects old, tt))))))
 
 user_set_clear : (env : Env) (word : List ℕ) (person : Id) (old : History) → AreClear (set_user env word person old).checks
 user_set_clear env word person old = (found_clear (person_finder (files_of old) env.folder word) (person_is env word old) person, tt)
@@ -384,7 +362,7 @@ pub checks_clear : (env : Env) (command : Edit) (picked : Picked) (old : History
 checks_clear env (edit.UserNew name email) picked old = user_new_clear env name email old
 checks_clear env (edit.UserEdit name email) picked old = user_edit_clear env name email old
 checks_clear env (edit.UserSet word) picked old = user_set_clear env word picked.person old
-checks_clear env (edit.New title message) picked old = begun_clear env (bad_bug title message) (create_op env title message) old
+checks_clear env (edit.New title message) picked old = begun_clear env (create_op env.moment title message) old
 checks_clear env (edit.OfBug word e) picked old = longer_clear env word e old picked.bug picked.op
 
 -- no command both may be done and is refused
@@ -392,7 +370,7 @@ pub never_refused : (env : Env) (command : Edit) (old : History) (r : Refusal) �
 never_refused env (edit.UserNew name email) old r passes fails = never_both (new_user env name email old).checks r (user_new_clear env name email old) passes.1 fails.1
 never_refused env (edit.UserEdit name email) old r passes fails = never_both (edited_user env name email old).checks r (user_edit_clear env name email old) passes.1 fails.1
 never_refused env (edit.UserSet word) old r passes fails = set_never env word old (fails.0).person (passes.0).person r fails.1 passes.1
-never_refused env (edit.New title message) old r passes fails = never_both (new_bug env title message old).checks r (begun_clear env (bad_bug title message) (create_op env title message) old) passes.1 fails.1
+never_refused env (edit.New title message) old r passes fails = never_both (new_bug env title message old).checks r (begun_clear env (create_op env.moment title message) old) passes.1 fails.1
 never_refused env (edit.OfBug word e) old r passes fails = longer_never env word e old (fails.0).bug (passes.0).bug (fails.0).op (passes.0).op r fails.1 passes.1
 
 -- and one number is told of its refusals
@@ -400,5 +378,5 @@ pub one_refused : (env : Env) (command : Edit) (old : History) (r s : Refusal) �
 one_refused env (edit.UserNew name email) old r s one two = one_number (new_user env name email old).checks r s (user_new_clear env name email old) one.1 two.1
 one_refused env (edit.UserEdit name email) old r s one two = one_number (edited_user env name email old).checks r s (user_edit_clear env name email old) one.1 two.1
 one_refused env (edit.UserSet word) old r s one two = set_one env word old (one.0).person (two.0).person r s one.1 two.1
-one_refused env (edit.New title message) old r s one two = one_number (new_bug env title message old).checks r s (begun_clear env (bad_bug title message) (create_op env title message) old) one.1 two.1
+one_refused env (edit.New title message) old r s one two = one_number (new_bug env title message old).checks r s (begun_clear env (create_op env.moment title message) old) one.1 two.1
 one_refused env (edit.OfBug word e) old r s one two = longer_one env word e old (one.0).bug (two.0).bug (one.0).op (two.0).op r s one.1 two.1

@@ -16,10 +16,10 @@ use Rattle.repo_state.specs.Sides.{ref_place}
 use Rattle.repo_state.specs.Users.{UserFound, User}
 use Rattle.repo_state.specs.declared.clocks.ClockFile.{ClockFile}
 use Rattle.repo_state.specs.declared.clocks.ClockFile.TheVariants as file
-use Rattle.repo_state.specs.declared.env.Env.{Env}
+use Rattle.repo_steps.specs.declared.env.Env.{Env}
 use Rattle.repo_state.specs.declared.side.Side.TheVariants as side
 use Rattle.repo_steps.specs.BugDoings.{addition_head, addition_objects, addition_writes, root_addition, some_id}
-use Rattle.repo_steps.specs.declared.edit.Addition.{Addition}
+use Rattle.repo_steps.specs.declared.plan.Addition.{Addition}
 
 -- a clock below the cap that sees the clock of a new root is written one further
 one_further : (folder : List ℕ) (which : ClockFile) (clock : ℕ) → clock < CAP → see_writes folder which clock (root_time_of clock) ≡ clock_write folder which (clock + 1) ∷ []
@@ -52,11 +52,11 @@ module _ (env : Env) (files : Files) (op : BugOp) (user : Id) where
   a = root_addition env.folder files op user
 
   abbrev before : List Change
-  before = missing_writes env.folder (addition_objects env.now (Some a)) files ++ ref_write env.folder (ref_place side.Bugs a.bug) (addition_head env.now a) ∷ []
+  before = missing_writes env.folder (addition_objects env.moment.now (Some a)) files ++ ref_write env.folder (ref_place side.Bugs a.bug) (addition_head env.moment.now a) ∷ []
 
   -- what begins a bug ends with the clock of creations, and then that of edits
   ends : create < CAP → edit < CAP → added (User user) ≡ before ++ clock_write env.folder file.BugsCreate (create + 1) ∷ clock_write env.folder file.BugsEdit (edit + 1) ∷ []
-  ends one other = two_behind (missing_writes env.folder (addition_objects env.now (Some a)) files) (ref_write env.folder (ref_place side.Bugs a.bug) (addition_head env.now a))
+  ends one other = two_behind (missing_writes env.folder (addition_objects env.moment.now (Some a)) files) (ref_write env.folder (ref_place side.Bugs a.bug) (addition_head env.moment.now a))
       (clock_write env.folder file.BugsCreate (create + 1)) (clock_write env.folder file.BugsEdit (edit + 1))
       (see_writes env.folder file.BugsCreate create (root_time_of create)) (see_writes env.folder file.BugsEdit edit (root_time_of edit))
       (one_further env.folder file.BugsCreate create one) (one_further env.folder file.BugsEdit edit other)

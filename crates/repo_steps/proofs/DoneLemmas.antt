@@ -6,6 +6,9 @@ use Rattle.gb_text.specs.Digits.{IsId}
 use Rattle.gb_text.specs.Folder.{joined}
 use Rattle.gb_text.specs.declared.id.Id.{Id}
 use Rattle.gb_text.specs.declared.id.Name.{Name}
+use Rattle.gb_text.specs.declared.ruled.Line.{Line}
+use Rattle.gb_text.specs.declared.ruled.Message.{Message}
+use Rattle.gb_text.specs.declared.ruled.Title.{Title}
 use Rattle.gb_store.specs.Files.{Files, History, files_of}
 use Rattle.gb_store.specs.Moments.{Wrote, WroteSome, at_moment}
 use Rattle.gb_store.specs.declared.store.Change.{Change}
@@ -18,7 +21,6 @@ use Rattle.identity.specs.Extending.{IsLonger}
 use Rattle.gb_text.specs.declared.decimal.TheConstants.{GREATEST_TIME}
 use Rattle.bug_ops.specs.Kind.{bug_kind}
 use Rattle.bug_ops.specs.declared.op.BugOp.{BugOp}
-use Rattle.bug_ops.specs.declared.snapshot.Snapshot.{Snapshot}
 use Rattle.commit_walk.specs.declared.below.TheConstants.{MOST_COMMITS}
 use Rattle.dag_entity.specs.Entities.{ops_in}
 use Rattle.dag_entity.specs.declared.entity.Entity.{Entity}
@@ -26,10 +28,10 @@ use Rattle.repo_state.specs.Bugs.{IsLocal}
 use Rattle.repo_state.proofs.BugLemmas.{head_edit}
 use Rattle.repo_state.specs.Sides.{has_ref, head_at, is_there, ref_place}
 use Rattle.repo_state.specs.Users.{UserFound, BadUser, NoUser, User, entry_by, entry_of_user, id_line, user_at, user_entry, user_place, user_write}
-use Rattle.repo_state.specs.declared.env.Env.{Env}
-use Rattle.repo_state.specs.declared.refusal.Refusal.{Refusal}
-use Rattle.repo_state.specs.declared.refusal.Stop.{Stop}
-use Rattle.repo_state.specs.declared.refusal.Stop.TheVariants as stop
+use Rattle.repo_steps.specs.declared.env.Env.{Env}
+use Rattle.repo_steps.specs.declared.refusal.Refusal.{Refusal}
+use Rattle.repo_steps.specs.declared.refusal.Stop.{Stop}
+use Rattle.repo_steps.specs.declared.refusal.Stop.TheVariants as stop
 use Rattle.repo_state.specs.declared.side.HeadEntry.{HeadEntry}
 use Rattle.repo_state.specs.declared.side.Side.TheVariants as side
 use Rattle.identity.proofs.IdLemmas.{IsId-version_id}
@@ -37,26 +39,27 @@ use Rattle.repo_state.proofs.KindLemmas.{head_at-user_write, objects-user_write,
 use Rattle.repo_state.proofs.PlaceLemmas.{ref-not_user, same_or_other, user-not_object}
 use Rattle.repo_steps.specs.Answers.{DoingAnswers, IsStopped}
 use Rattle.repo_steps.specs.BugDoings.{HasBug, addition_objects, addition_writes, bug_says, later_addition, later_by, longer_bug, new_bug, op_ids, root_addition, some_id}
-use Rattle.repo_steps.specs.BugEdits.{comment_op, edit_op, labels_op, metadata_op, named_off, named_on, noop_op, same_status, status_op, title_op, unless_same, with_change}
+use Rattle.bug_edits.specs.EditTable.{edit_op}
+use Rattle.bug_edits.specs.NewOps.{create_op, op_id}
+use Rattle.bug_edits.proofs.EditLemmas.{begun_keeps, may_follow}
 use Rattle.repo_steps.specs.Checks.{AllPass}
 use Rattle.repo_steps.specs.Doing.{Doing}
 use Rattle.repo_steps.specs.Doings.{Done, EditAnswers, doing_of}
-use Rattle.repo_steps.specs.NewOps.{create_op, op_id}
 use Rattle.repo_steps.specs.Picked.{Picked}
-use Rattle.repo_steps.specs.PeopleDoings.{HasUser, MayWrite, edited_user, first_user_write, new_made, new_objects, new_text, new_user, set_user, user_writes, version_writes}
+use Rattle.repo_steps.specs.PeopleDoings.{HasUser, edited_user, first_user_write, new_made, new_objects, new_text, new_user, set_user, user_writes, version_writes}
 use Rattle.repo_writes.specs.Kinds.{IsWrite, a_user}
 use Rattle.repo_steps.specs.Steps.{BugBegins, BugGrows, OnlyChanges, Steps, first_user, first_user_place, new_version}
-use Rattle.repo_steps.specs.declared.edit.Addition.{Addition}
-use Rattle.repo_steps.specs.declared.edit.BugEdit.{BugEdit}
-use Rattle.repo_steps.specs.declared.edit.BugEdit.TheVariants as kind
-use Rattle.repo_steps.specs.declared.edit.Edit.{Edit}
-use Rattle.repo_steps.specs.declared.edit.Edit.TheVariants as edit
+use Rattle.repo_steps.specs.declared.plan.Addition.{Addition}
+use Rattle.bug_edits.specs.declared.edit.BugEdit.{BugEdit}
+use Rattle.words.specs.declared.edit.Edit.{Edit}
+use Rattle.words.specs.declared.edit.Edit.TheVariants as edit
 use Rattle.repo_steps.proofs.AddLemmas.{MayExtend, added_below, added_extends, added_head, added_only, added_wrote, added_writes, after_add}
 use Rattle.repo_steps.proofs.BugDoneLemmas.{IsId-op_id, MadeBug, bug_begun, bug_grown, some_user_is}
 use Rattle.repo_steps.proofs.ClearLemmas.{bug_one, says_one}
 use Rattle.repo_steps.proofs.HeadLemmas.{head_at-absent}
 use Rattle.repo_state.proofs.FoundLemmas.{IsLocal-user, finds_an_id, found_is}
 use Rattle.repo_steps.proofs.OnlyLemmas.{OnlyChanges-none, OnlyChanges-put, OnlyChanges-then, ref_left, user_left}
+use Rattle.repo_steps.proofs.RuleLemmas.{adds_keep}
 use Rattle.repo_steps.proofs.WriteLemmas.{all_both}
 
 -- what stands after all writes of a command
@@ -134,15 +137,15 @@ first_made folder BadUser id mid is_id is sound stands = absurd (sound refl)
 -- ---- each command
 
 -- a new identity
-new_made_so : (env : Env) (name email : List ℕ) (old : History) → AllPass (new_user env name email old).checks → IsMade env (edit.UserNew name email) (new_user env name email old) old
+new_made_so : (env : Env) (name : Title) (email : Line) (old : History) → AllPass (new_user env name email old).checks → IsMade env (edit.UserNew name email) (new_user env name email old) old
 new_made_so env name email old passes = record {
   told = id;
   is_told = refl;
-  wrote = subst (Wrote (IsWrite env.folder) old) all (Wrote-then (IsWrite env.folder) old mid new (added_wrote env name email id old may None free refl absent tt) first.wrote);
+  wrote = subst (Wrote (IsWrite env.folder) old) all (Wrote-then (IsWrite env.folder) old mid new (added_wrote env name email id old None free refl absent tt) first.wrote);
   steps = subst (λ (h : History). Steps env (edit.UserNew name email) (files_of old) (files_of h) id) all (record {
     fresh = fresh;
     head = first.head ∙ head;
-    chain = subst (λ (held : Objects). IsLonger held id [] (new_made env name email None).head (new_version env name email)) (sym first.objects) (added_extends env name email id old may None free refl);
+    chain = subst (λ (held : Objects). IsLonger held id [] (new_made env name email None).head (new_version env name email)) (sym first.objects) (added_extends env name email id old None free refl);
     user = first.user;
     only = OnlyChanges-then env.folder (ref_place side.Identities id ∷ []) (first_user_place found) (files_of old) (files_of mid) (files_of new) only first.only;
     is_told = refl;
@@ -155,73 +158,67 @@ new_made_so env name email old passes = record {
     found : UserFound
     found = user_at (files_of old) env.folder
 
-    may : MayWrite env name email
-    may = passes.0.1
-
     fresh : has_ref (files_of old) env.folder side.Identities id ≡ false
-    fresh = passes.1.1.1.0
+    fresh = passes.1.1.0
 
     free : MayBePut env.folder (new_objects env name email None) old
-    free = passes.1.1.1.1.0
+    free = passes.1.1.1.0
 
     absent : head_at (files_of old) env.folder side.Identities id ≡ Absent
     absent = head_at-absent (files_of old) env.folder side.Identities id fresh
 
     mid : History
-    mid = after_add env name email id old may None free refl
+    mid = after_add env name email id old None free refl
 
     head : head_at (files_of mid) env.folder side.Identities id ≡ Head (new_made env name email None).head
-    head = added_head env name email id old may None free refl
+    head = added_head env name email id old None free refl
 
     only : OnlyChanges env.folder (ref_place side.Identities id ∷ []) (files_of old) (files_of mid)
-    only = added_only env name email id old may None free refl
+    only = added_only env name email id old None free refl
 
     new : History
     new = reverse (first_user_write env.folder found id) ++ mid
 
     first : IsFirst env.folder found id mid new
     first = first_made env.folder found id mid (IsId-version_id (new_text env name email))
-        (user_stays env.folder id (new_made env name email None).head (files_of old) (files_of mid) only head passes.1.0) passes.1.0 (ap is_there head)
+        (user_stays env.folder id (new_made env name email None).head (files_of old) (files_of mid) only head passes.0) passes.0 (ap is_there head)
 
     all : new ≡ after (new_user env name email old) old
-    all = all_both (version_writes env name email id None (files_of old)) (first_user_write env.folder found id) old mid new (added_writes env name email id old may None free refl) refl
+    all = all_both (version_writes env name email id None (files_of old)) (first_user_write env.folder found id) old mid new (added_writes env name email id old None free refl) refl
 
 -- a new version of the user
-edited_made_so : (env : Env) (name email : List ℕ) (old : History) → AllPass (edited_user env name email old).checks → IsMade env (edit.UserEdit name email) (edited_user env name email old) old
+edited_made_so : (env : Env) (name : Title) (email : Line) (old : History) → AllPass (edited_user env name email old).checks → IsMade env (edit.UserEdit name email) (edited_user env name email old) old
 edited_made_so env name email old passes = record {
   told = user.id;
   is_told = ap (option_map (λ (e : HeadEntry). e.id)) entry;
   wrote = subst (Wrote (IsWrite env.folder) old) all
-      (added_wrote env name email user.id old may (Some user.head) free extends user.has_head (added_below env name email user.id old may user.head free extends));
+      (added_wrote env name email user.id old (Some user.head) free extends user.has_head (added_below env name email user.id old user.head free extends));
   steps = subst (λ (h : History). Steps env (edit.UserEdit name email) (files_of old) (files_of h) user.id) all (record {
     user = user;
-    head = added_head env name email user.id old may (Some user.head) free extends;
-    chain = added_extends env name email user.id old may (Some user.head) free extends user.id user.chain room;
-    only = added_only env name email user.id old may (Some user.head) free extends;
+    head = added_head env name email user.id old (Some user.head) free extends;
+    chain = added_extends env name email user.id old (Some user.head) free extends user.id user.chain room;
+    only = added_only env name email user.id old (Some user.head) free extends;
     is_told = refl;
   });
 }
   where
-    may : MayWrite env name email
-    may = passes.0.1
-
     user : HasUser env.folder (files_of old)
-    user = passes.1.1.1.1.0.0
+    user = passes.1.1.1.0.0
 
     room : length user.chain.walk < 65536
-    room = passes.1.1.1.1.0.1
+    room = passes.1.1.1.0.1
 
     entry : user_entry (files_of old) env.folder ≡ Some (record { id = user.id; name = user.head })
     entry = entry_is env.folder (files_of old) user
 
     free : MayBePut env.folder (new_objects env name email (Some user.head)) old
-    free = subst (λ (o : Option HeadEntry). MayBePut env.folder (new_objects env name email (option_map (λ (e : HeadEntry). e.name) o)) old) entry passes.1.1.1.1.1.1.0
+    free = subst (λ (o : Option HeadEntry). MayBePut env.folder (new_objects env name email (option_map (λ (e : HeadEntry). e.name) o)) old) entry passes.1.1.1.1.1.0
 
     extends : MayExtend (objects_in (files_of old) env.folder) (new_text env name email) user.id (Some user.head)
     extends = (user.chain, room)
 
-    all : after_add env name email user.id old may (Some user.head) free extends ≡ after (edited_user env name email old) old
-    all = added_writes env name email user.id old may (Some user.head) free extends ∙ ap (λ (o : Option HeadEntry). reverse (user_writes env name email (files_of old) o) ++ old) (sym entry)
+    all : after_add env name email user.id old (Some user.head) free extends ≡ after (edited_user env name email old) old
+    all = added_writes env name email user.id old (Some user.head) free extends ∙ ap (λ (o : Option HeadEntry). reverse (user_writes env name email (files_of old) o) ++ old) (sym entry)
 
 -- another user
 set_made_so : (env : Env) (word : List ℕ) (id : Id) (old : History) → AllPass (set_user env word id old).checks → IsMade env (edit.UserSet word) (set_user env word id old) old
@@ -250,12 +247,8 @@ local_user_is folder files good some =
     let is = some_user_is (user_at files folder) good some in
     (is.0, is.1, IsLocal-user files folder is.0 is.1)
 
--- a moment within the limit is a number of 64 bits
-before_limit : (env : Env) → env.now ≤ GREATEST_TIME → env.now < 2 ^ 64
-before_limit env within = omega (arith, within)
-
 -- a bug that begins with an operation
-begun_made_so : (env : Env) (title message : List ℕ) (old : History) → AllPass (new_bug env title message old).checks → IsMade env (edit.New title message) (new_bug env title message old) old
+begun_made_so : (env : Env) (title : Title) (message : Message) (old : History) → AllPass (new_bug env title message old).checks → IsMade env (edit.New title message) (new_bug env title message old) old
 begun_made_so env title message old passes = record {
   told = op_id op;
   is_told = refl;
@@ -264,43 +257,19 @@ begun_made_so env title message old passes = record {
 }
   where
     op : BugOp
-    op = create_op env title message
+    op = create_op env.moment title message
 
     user : (id : Id) × (user_at (files_of old) env.folder ≡ User id) × IsLocal (files_of old) env.folder id
-    user = local_user_is env.folder (files_of old) passes.1.0 passes.1.1.0
+    user = local_user_is env.folder (files_of old) passes.0 passes.1.0
 
     same : option_map (root_addition env.folder (files_of old) op) (some_id (user_at (files_of old) env.folder)) ≡ Some (root_addition env.folder (files_of old) op user.0)
     same = ap (λ (found : UserFound). option_map (root_addition env.folder (files_of old) op) (some_id found)) user.1
 
-    free : MayBePut env.folder (addition_objects env.now (Some (root_addition env.folder (files_of old) op user.0))) old
-    free = subst (λ (o : Option Addition). MayBePut env.folder (addition_objects env.now o) old) same passes.1.1.1.1.1.0
+    free : MayBePut env.folder (addition_objects env.moment.now (Some (root_addition env.folder (files_of old) op user.0))) old
+    free = subst (λ (o : Option Addition). MayBePut env.folder (addition_objects env.moment.now o) old) same passes.1.1.1.1.0
 
     made : MadeBug env old (root_addition env.folder (files_of old) op user.0) (λ (new : Files). BugBegins env op (files_of old) new (op_id op))
-    made = bug_begun env old op passes.0.1 (before_limit env passes.0.1.within.time) refl user.0 user.1 user.2 free passes.1.1.1.1.0 (IsId-op_id op)
-
--- the operation that an edit adds may follow others
-abbrev adding : BugOp → Result BugOp Refusal
-adding op = Ok op
-
-follows_as : (made op : BugOp) → adding made ≡ adding op → bug_kind.is_following made ≡ true → bug_kind.is_following op ≡ true
-follows_as made op is follows = let same : made ≡ op = cc in subst (λ (o : BugOp). bug_kind.is_following o ≡ true) same follows
-
-status_follows : (same : Bool) (made op : BugOp) → bug_kind.is_following made ≡ true → unless_same same made ≡ Ok op → bug_kind.is_following op ≡ true
-status_follows true made op follows is = absurd (cc is)
-status_follows false made op follows is = follows_as made op is follows
-
-change_follows : (labels : List (List ℕ)) (made op : BugOp) → bug_kind.is_following made ≡ true → with_change labels made ≡ Ok op → bug_kind.is_following op ≡ true
-change_follows [] made op follows is = absurd (cc is)
-change_follows (label ∷ labels) made op follows is = follows_as made op is follows
-
-edit_follows : (env : Env) (e : BugEdit) (bug : Snapshot) (op : BugOp) → edit_op env e bug ≡ Ok op → bug_kind.is_following op ≡ true
-edit_follows env (kind.Comment message) bug op is = follows_as (comment_op env message) op is refl
-edit_follows env kind.Noop bug op is = follows_as (noop_op env) op is refl
-edit_follows env (kind.Title title) bug op is = follows_as (title_op env title bug.row.title) op is refl
-edit_follows env (kind.Status status) bug op is = status_follows (same_status bug.row.status status) (status_op env status) op refl is
-edit_follows env (kind.AddLabels labels) bug op is = change_follows (named_off bug.row.labels labels) (labels_op env (named_off bug.row.labels labels) []) op refl is
-edit_follows env (kind.RemoveLabels labels) bug op is = change_follows (named_on bug.row.labels labels) (labels_op env [] (named_on bug.row.labels labels)) op refl is
-edit_follows env (kind.Metadata key value) bug op is = follows_as (metadata_op env bug.row.id key value) op is refl
+    made = bug_begun env old op (begun_keeps env.moment title message) refl user.0 user.1 user.2 free passes.1.1.1.0 (IsId-op_id op)
 
 -- a bug that has one operation more
 longer_made_so : (env : Env) (e : BugEdit) (word : List ℕ) (head : HeadEntry) (op : BugOp) (old : History) → AllPass (longer_bug env e word head op old).checks → IsMade env (edit.OfBug word e) (longer_bug env e word head op old) old
@@ -315,10 +284,10 @@ longer_made_so env e word head op old passes = record {
     files = files_of old
 
     user : (id : Id) × (user_at files env.folder ≡ User id) × IsLocal files env.folder id
-    user = local_user_is env.folder files passes.1.0 passes.1.1.0
+    user = local_user_is env.folder files passes.0 passes.1.0
 
     bug : HasBug env.folder files word
-    bug = record { bug = head; finds = passes.1.1.1.0; entity = passes.1.1.1.1.0.0; is = passes.1.1.1.1.0.1 }
+    bug = record { bug = head; finds = passes.1.1.0; entity = passes.1.1.1.0.0; is = passes.1.1.1.0.1 }
 
     -- what each check says of the bug is so of this one
     of_this : (Bars : HeadEntry → Entity BugOp → Type 0) (other : HasBug env.folder files word) → (Bars other.bug other.entity → ⊥) → Bars bug.bug bug.entity → ⊥
@@ -327,8 +296,8 @@ longer_made_so env e word head op old passes = record {
         subst (λ (entity : Entity BugOp). Bars other.bug entity) one.1 (subst (λ (head : HeadEntry). Bars head bug.entity) one.0 bars))
 
     -- and the operation is what the edit adds to it
-    adds : edit_op env e (bug_says bug.entity) ≡ Ok op
-    adds = says_one env files word e bug passes.1.1.1.1.1.0.0 ∙ passes.1.1.1.1.1.0.1
+    adds : edit_op env.moment e (bug_says bug.entity) ≡ Ok op
+    adds = says_one env files word e bug passes.1.1.1.1.0.0 ∙ passes.1.1.1.1.0.1
 
     addition : Addition
     addition = later_addition env.folder files op user.0 bug.bug bug.entity.edit
@@ -337,14 +306,14 @@ longer_made_so env e word head op old passes = record {
     same = ap (λ (found : UserFound). option_and_then (later_by env.folder files head op) (some_id found)) user.1
         ∙ ap (option_map (later_addition env.folder files op user.0 bug.bug)) (head_edit (objects_in files env.folder) bug.bug.name bug.entity.edit bug.is.is.edit)
 
-    free : MayBePut env.folder (addition_objects env.now (Some addition)) old
-    free = subst (λ (o : Option Addition). MayBePut env.folder (addition_objects env.now o) old) same passes.1.1.1.1.1.1.1.1.1.1.0
+    free : MayBePut env.folder (addition_objects env.moment.now (Some addition)) old
+    free = subst (λ (o : Option Addition). MayBePut env.folder (addition_objects env.moment.now o) old) same passes.1.1.1.1.1.1.1.1.1.0
 
     made : MadeBug env old addition (λ (new : Files). BugGrows env e word files new (op_id op))
-    made = bug_grown env old e word op passes.1.1.1.1.1.0.2 (before_limit env passes.0.1) (edit_follows env e (bug_says bug.entity) op adds) user.0 user.1 user.2 bug adds
-        (of_this (λ head entity. entity.edit ≡ GREATEST_TIME) passes.1.1.1.1.1.1.0.0 passes.1.1.1.1.1.1.0.1)
-        (of_this (λ head entity. MOST_COMMITS ≤ length entity.packs) passes.1.1.1.1.1.1.1.0.0 passes.1.1.1.1.1.1.1.0.1)
-        (of_this (λ head entity. Contains (op_ids (ops_in bug_kind entity.packs)) (op_id op)) passes.1.1.1.1.1.1.1.1.1.0.0 passes.1.1.1.1.1.1.1.1.1.0.1)
+    made = bug_grown env old e word op (adds_keep env files word e op bug adds) (may_follow env.moment e (bug_says bug.entity) op adds) user.0 user.1 user.2 bug adds
+        (of_this (λ head entity. entity.edit ≡ GREATEST_TIME) passes.1.1.1.1.1.0.0 passes.1.1.1.1.1.0.1)
+        (of_this (λ head entity. MOST_COMMITS ≤ length entity.packs) passes.1.1.1.1.1.1.0.0 passes.1.1.1.1.1.1.0.1)
+        (of_this (λ head entity. Contains (op_ids (ops_in bug_kind entity.packs)) (op_id op)) passes.1.1.1.1.1.1.1.1.0.0 passes.1.1.1.1.1.1.1.1.0.1)
         free (finds_an_id bug.bug.id bug.finds.found)
 
 pub made_so : (env : Env) (command : Edit) (picked : Picked) (old : History) → AllPass (doing_of env command picked old).checks → IsMade env command (doing_of env command picked old) old

@@ -2,6 +2,8 @@
 use Rattle.std.proofs.Common.{◌≡◌, ℕ, List, [], ◌∷◌, refl, sym, ◌∙◌, ap, subst}
 use Rattle.std.proofs.lemmas.Grind.{flat_map-append}
 use Rattle.std.proofs.lemmas.Option.{same_Some}
+use Rattle.gb_text.specs.declared.ruled.Title.{Title}
+use Rattle.gb_text.specs.declared.ruled.Message.{Message}
 use Rattle.gb_text.specs.declared.id.Id.{Id}
 use Rattle.gb_store.specs.Files.{Files}
 use Rattle.ref_store.specs.Refs.{Head}
@@ -20,17 +22,17 @@ use Rattle.repo_state.specs.Bugs.{IsBug}
 use Rattle.repo_state.specs.Clocks.{clock_at}
 use Rattle.repo_state.specs.Sides.{head_at}
 use Rattle.repo_state.specs.declared.clocks.ClockFile.TheVariants as file
-use Rattle.repo_state.specs.declared.env.Env.{Env}
+use Rattle.repo_steps.specs.declared.env.Env.{Env}
 use Rattle.repo_state.specs.declared.side.HeadEntry.{HeadEntry}
 use Rattle.repo_state.specs.declared.side.Side.TheVariants as side
 use Rattle.repo_state.proofs.BugLemmas.{one_entity}
 use Rattle.repo_state.proofs.FoundLemmas.{found_is}
 use Rattle.repo_steps.specs.BugDoings.{HasBug, addition_head, bug_says, later_addition, root_addition}
 use Rattle.repo_steps.specs.Grown.{EndsWithTheEdit, begun_says}
-use Rattle.repo_steps.specs.NewOps.{create_op}
+use Rattle.bug_edits.specs.NewOps.{create_op}
 use Rattle.repo_steps.specs.Steps.{BugBegins, BugGrows, begun_entity}
-use Rattle.repo_steps.specs.declared.edit.Addition.{Addition}
-use Rattle.repo_steps.specs.declared.edit.BugEdit.{BugEdit}
+use Rattle.repo_steps.specs.declared.plan.Addition.{Addition}
+use Rattle.bug_edits.specs.declared.edit.BugEdit.{BugEdit}
 
 -- ---- a bug with one operation more
 
@@ -39,14 +41,14 @@ module _ (env : Env) (edit : BugEdit) (word : List ℕ) (old new : Files) (told 
   added = later_addition env.folder old step.op step.user step.bug.bug step.bug.entity.edit
 
   abbrev node : Loaded BugOp
-  node = appended_node bug_kind (step.bug.bug.name ∷ []) added.pack env.now
+  node = appended_node bug_kind (step.bug.bug.name ∷ []) added.pack env.moment.now
 
   -- where the operation stands
   abbrev place : Place
   place = place_of (appended_head bug_kind added.pack) step.user (bug_kind.written step.op)
 
   abbrev later_bug : HeadEntry
-  later_bug = record { id = step.bug.bug.id; name = addition_head env.now added }
+  later_bug = record { id = step.bug.bug.id; name = addition_head env.moment.now added }
 
   ids : now.bug.id ≡ step.bug.bug.id
   ids =
@@ -77,13 +79,13 @@ module _ (env : Env) (edit : BugEdit) (word : List ℕ) (old new : Files) (told 
 
 -- ---- a new bug
 
-pub begins_saying : (env : Env) (title message : List ℕ) (old new : Files) (told : Id) (step : BugBegins env (create_op env title message) old new told) (bug : HeadEntry) (entity : Entity BugOp)
+pub begins_saying : (env : Env) (title : Title) (message : Message) (old new : Files) (told : Id) (step : BugBegins env (create_op env.moment title message) old new told) (bug : HeadEntry) (entity : Entity BugOp)
     → bug.id ≡ told → head_at new env.folder side.Bugs told ≡ Head bug.name → IsBug new env.folder bug entity → bug_says entity ≡ begun_says env old title message step.user told
 begins_saying env title message old new told step bug entity same at is =
-    let added : Addition = root_addition env.folder old (create_op env title message) step.user in
+    let added : Addition = root_addition env.folder old (create_op env.moment title message) step.user in
     let first : Entity BugOp = begun_entity env added (root_time_of (clock_at old env.folder file.BugsCreate)) in
-    let names : Head bug.name ≡ Head (addition_head env.now added) = sym at ∙ step.head in
-    let name : bug.name ≡ addition_head env.now added = cc (names) in
-    let bugs : bug ≡ record { id = told; name = addition_head env.now added } = λ i. record { id = same i; name = name i } in
-    let entities : entity ≡ first = one_entity new env.folder (record { id = told; name = addition_head env.now added }) entity first (subst (λ (b : HeadEntry). IsBug new env.folder b entity) bugs is) step.is in
+    let names : Head bug.name ≡ Head (addition_head env.moment.now added) = sym at ∙ step.head in
+    let name : bug.name ≡ addition_head env.moment.now added = cc (names) in
+    let bugs : bug ≡ record { id = told; name = addition_head env.moment.now added } = λ i. record { id = same i; name = name i } in
+    let entities : entity ≡ first = one_entity new env.folder (record { id = told; name = addition_head env.moment.now added }) entity first (subst (λ (b : HeadEntry). IsBug new env.folder b entity) bugs is) step.is in
     ap bug_says entities ∙ ap (begun_says env old title message step.user) (sym step.is_told)

@@ -12,15 +12,15 @@ use Rattle.object_batch.proofs.ClashLemmas.{Contains-first}
 use Rattle.ref_store.specs.Refs.{Head}
 use Rattle.ref_store.specs.Setting.{ref_write}
 use Rattle.repo_state.specs.Sides.{head_at, ref_place}
-use Rattle.repo_state.specs.declared.env.Env.{Env}
-use Rattle.repo_state.specs.declared.refusal.Stop.{Stop}
+use Rattle.repo_steps.specs.declared.env.Env.{Env}
+use Rattle.repo_steps.specs.declared.refusal.Stop.{Stop}
 use Rattle.repo_state.specs.declared.side.Side.{Side}
 use Rattle.repo_state.specs.declared.side.Side.TheVariants as side
-use Rattle.repo_writes.specs.Kinds.{IsBugHeadWrite, IsIdentityHeadWrite}
+use Rattle.repo_writes.specs.Kinds.{IsWrite}
 use Rattle.repo_writes.proofs.SoundLemmas.{bug-after, identity-after}
 use Rattle.repo_steps.specs.Doings.{EditAnswers}
 use Rattle.repo_steps.specs.Writes.{IsNext, IsOldOrSet, IsWriteOf, SetsHead}
-use Rattle.repo_steps.specs.declared.edit.Edit.{Edit}
+use Rattle.words.specs.declared.edit.Edit.{Edit}
 use Rattle.repo_steps.proofs.WriteOfLemmas.{answers_wrote_of}
 
 -- the next of some writes is one of them
@@ -44,37 +44,31 @@ module _ (env : Env) (command : Edit) (entry : History) (of : Side) (id : Id) wh
   stays files change (inl old) same = inl (same ∙ old)
   stays files change (inr (head, is, now)) same = inr (head, is, same ∙ now)
 
-module _ (env : Env) (command : Edit) (old new : History) (result : Result Id Stop) (answers : EditAnswers env command old new result) (id : Id) (is : IsId id) where
-  pub identity_old_or_set : AllMoments (IsOldOrSet env command old side.Identities id) old new
-  identity_old_or_set = AllMoments-from_WroteBy (IsWriteOf env command) (IsOldOrSet env command old side.Identities id) old new keeps (inl refl) (answers_wrote_of env command old new result answers)
-    where
-      keeps : (earlier : List Change) (change : Change) → IsOldOrSet env command old side.Identities id (files_of (earlier ++ old)) → IsWriteOf env command old earlier change
-          → IsOldOrSet env command old side.Identities id (written (files_of (earlier ++ old)) change)
-      keeps earlier change good write = each (identity-after env.folder (files_of (earlier ++ old)) change id is write.kind)
-        where
-          each : (head_at (written (files_of (earlier ++ old)) change) env.folder side.Identities id ≡ head_at (files_of (earlier ++ old)) env.folder side.Identities id)
-              ⊎ ((w : IsIdentityHeadWrite env.folder (files_of (earlier ++ old)) change) × (w.id ≡ id) × (head_at (written (files_of (earlier ++ old)) change) env.folder side.Identities id ≡ Head w.head))
-              → IsOldOrSet env command old side.Identities id (written (files_of (earlier ++ old)) change)
-          each (inl same) = stays env command old side.Identities id (files_of (earlier ++ old)) change good same
-          each (inr (w, same, now)) = inr (
-            w.head,
-            sets env command old side.Identities id earlier change w.head write (w.write ∙ ap (λ (i : Id). ref_write env.folder (ref_place side.Identities i) w.head) same),
-            now,
-          )
+-- a write of a kind keeps a ref, or sets it to a head
+abbrev Moves : Env → Side → Id → Type 0
+Moves env of id = (files : Files) (change : Change) → IsWrite env.folder files change
+    → (head_at (written files change) env.folder of id ≡ head_at files env.folder of id)
+    ⊎ ((head : Name) × (change ≡ ref_write env.folder (ref_place of id) head) × (head_at (written files change) env.folder of id ≡ Head head))
 
-  pub bug_old_or_set : AllMoments (IsOldOrSet env command old side.Bugs id) old new
-  bug_old_or_set = AllMoments-from_WroteBy (IsWriteOf env command) (IsOldOrSet env command old side.Bugs id) old new keeps (inl refl) (answers_wrote_of env command old new result answers)
+module _ (env : Env) (command : Edit) (old new : History) (result : Result Id Stop) (answers : EditAnswers env command old new result) where
+  old_or_set : (of : Side) (id : Id) → Moves env of id → AllMoments (IsOldOrSet env command old of id) old new
+  old_or_set of id moves = AllMoments-from_WroteBy (IsWriteOf env command) (IsOldOrSet env command old of id) old new keeps (inl refl) (answers_wrote_of env command old new result answers)
     where
-      keeps : (earlier : List Change) (change : Change) → IsOldOrSet env command old side.Bugs id (files_of (earlier ++ old)) → IsWriteOf env command old earlier change
-          → IsOldOrSet env command old side.Bugs id (written (files_of (earlier ++ old)) change)
-      keeps earlier change good write = each (bug-after env.folder (files_of (earlier ++ old)) change id is write.kind)
-        where
-          each : (head_at (written (files_of (earlier ++ old)) change) env.folder side.Bugs id ≡ head_at (files_of (earlier ++ old)) env.folder side.Bugs id)
-              ⊎ ((w : IsBugHeadWrite env.folder (files_of (earlier ++ old)) change) × (w.id ≡ id) × (head_at (written (files_of (earlier ++ old)) change) env.folder side.Bugs id ≡ Head w.head))
-              → IsOldOrSet env command old side.Bugs id (written (files_of (earlier ++ old)) change)
-          each (inl same) = stays env command old side.Bugs id (files_of (earlier ++ old)) change good same
-          each (inr (w, same, now)) = inr (
-            w.head,
-            sets env command old side.Bugs id earlier change w.head write (w.write ∙ ap (λ (i : Id). ref_write env.folder (ref_place side.Bugs i) w.head) same),
-            now,
-          )
+      keeps : (earlier : List Change) (change : Change) → IsOldOrSet env command old of id (files_of (earlier ++ old)) → IsWriteOf env command old earlier change
+          → IsOldOrSet env command old of id (written (files_of (earlier ++ old)) change)
+      keeps earlier change good write = elim (moves (files_of (earlier ++ old)) change write.kind) [
+        | inl same ↦ stays env command old of id (files_of (earlier ++ old)) change good same
+        | inr set ↦ inr (set.0, sets env command old of id earlier change set.0 write set.1, set.2)
+      ]
+
+  pub identity_old_or_set : (id : Id) → IsId id → AllMoments (IsOldOrSet env command old side.Identities id) old new
+  identity_old_or_set id is = old_or_set side.Identities id (λ files change write. elim (identity-after env.folder files change id is write) [
+    | inl same ↦ inl same
+    | inr set ↦ inr (set.0.head, set.0.write ∙ ap (λ (i : Id). ref_write env.folder (ref_place side.Identities i) set.0.head) set.1, set.2)
+  ])
+
+  pub bug_old_or_set : (id : Id) → IsId id → AllMoments (IsOldOrSet env command old side.Bugs id) old new
+  bug_old_or_set id is = old_or_set side.Bugs id (λ files change write. elim (bug-after env.folder files change id is write) [
+    | inl same ↦ inl same
+    | inr set ↦ inr (set.0.head, set.0.write ∙ ap (λ (i : Id). ref_write env.folder (ref_place side.Bugs i) set.0.head) set.1, set.2)
+  ])

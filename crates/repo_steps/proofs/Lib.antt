@@ -6,7 +6,6 @@ pub mod ClearLemmas
 pub mod ClockOrderLemmas
 pub mod DamageLemmas
 pub mod DoneLemmas
-pub mod EffectLemmas
 pub mod GrownLemmas
 pub mod HeadLemmas
 pub mod HeadMoveLemmas
@@ -15,10 +14,7 @@ pub mod OwnLemmas
 pub mod PickLemmas
 pub mod RankLemmas
 pub mod ReportLemmas
-pub mod RoomLemmas
-pub mod SayLemmas
+pub mod RuleLemmas
 pub mod StepLemmas
 pub mod WriteLemmas
 pub mod WriteOfLemmas
-pub mod WordLemmas
-pub mod LimitLemmas

@@ -4,6 +4,8 @@ use Rattle.std.specs.Prelude.{is_some, option_and_then}
 use Rattle.std.specs.Option.{option_map}
 use Rattle.std.proofs.lemmas.List.Elements.{Contains-append_cases, Contains-append_left, Contains-append_right}
 use Rattle.std.specs.Bool.{nat_lt}
+use Rattle.gb_text.specs.declared.ruled.Title.{Title}
+use Rattle.gb_text.specs.declared.ruled.Line.{Line}
 use Rattle.gb_text.specs.declared.id.Id.{Id}
 use Rattle.gb_text.specs.declared.id.Name.{Name}
 use Rattle.gb_store.specs.Files.{Files, History, files_of, written}
@@ -21,19 +23,19 @@ use Rattle.repo_state.specs.Sides.{ref_place}
 use Rattle.repo_state.specs.Users.{UserFound, BadUser, NoUser, User, user_at, user_entry, user_write}
 use Rattle.repo_state.specs.declared.clocks.ClockFile.{ClockFile}
 use Rattle.repo_state.specs.declared.clocks.ClockFile.TheVariants as file
-use Rattle.repo_state.specs.declared.env.Env.{Env}
+use Rattle.repo_steps.specs.declared.env.Env.{Env}
 use Rattle.repo_state.specs.declared.side.HeadEntry.{HeadEntry}
 use Rattle.repo_state.specs.declared.side.Side.TheVariants as side
 use Rattle.repo_steps.specs.BugDoings.{addition_objects, addition_shows, addition_writes, bug_set, clock_writes, create_writes, later_by, longer_bug, new_bug, root_addition, shown_create, some_id}
 use Rattle.repo_steps.specs.Doings.{doing_of}
 use Rattle.repo_steps.specs.Doing.{Doing, HeadSet, Shown}
-use Rattle.repo_steps.specs.NewOps.{create_op}
+use Rattle.bug_edits.specs.NewOps.{create_op}
 use Rattle.repo_steps.specs.Own.{IsOwn, a_clock, a_head, an_object, the_user}
 use Rattle.repo_steps.specs.PeopleDoings.{edited_user, first_user_write, new_made, new_objects, new_user, person_set, user_writes, version_set, version_writes}
 use Rattle.repo_steps.specs.Picked.{Picked}
-use Rattle.repo_steps.specs.declared.edit.Addition.{Addition}
-use Rattle.repo_steps.specs.declared.edit.Edit.{Edit}
-use Rattle.repo_steps.specs.declared.edit.Edit.TheVariants as edit
+use Rattle.repo_steps.specs.declared.plan.Addition.{Addition}
+use Rattle.words.specs.declared.edit.Edit.{Edit}
+use Rattle.words.specs.declared.edit.Edit.TheVariants as edit
 
 -- ---- lists of writes
 
@@ -73,13 +75,13 @@ module _ (env : Env) (entry : History) (change : Change) where
 
   -- ---- a commit that is added to a bug
 
-  module _ (doing : Doing) (added : Option Addition) (objects : doing.objects ≡ addition_objects env.now added) (sets : doing.sets ≡ option_map (bug_set env.now) added) (shows : doing.shows ≡ addition_shows added) where
+  module _ (doing : Doing) (added : Option Addition) (objects : doing.objects ≡ addition_objects env.moment.now added) (sets : doing.sets ≡ option_map (bug_set env.moment.now) added) (shows : doing.shows ≡ addition_shows added) where
     addition_own : (some : Option Addition) → added ≡ some → Contains (addition_writes env files some) change → IsOwn env doing entry change
     addition_own None e none = absurd (Contains-nil change none)
-    addition_own (Some a) e among = elim (Contains-append_cases (missing_writes env.folder (addition_objects env.now (Some a)) files) _ change among) [
+    addition_own (Some a) e among = elim (Contains-append_cases (missing_writes env.folder (addition_objects env.moment.now (Some a)) files) _ change among) [
       | inl made ↦
-          let found = missing_is env.folder (addition_objects env.now (Some a)) files change made in
-          let texts : addition_objects env.now (Some a) ≡ doing.objects = ap (addition_objects env.now) (sym e) ∙ sym objects in
+          let found = missing_is env.folder (addition_objects env.moment.now (Some a)) files change made in
+          let texts : addition_objects env.moment.now (Some a) ≡ doing.objects = ap (addition_objects env.moment.now) (sym e) ∙ sym objects in
           an_object found.0 (subst (λ (ts : List (List ℕ)). Contains ts found.0) texts found.1) found.2
       | inr rest ↦ behind rest
     ]
@@ -97,9 +99,9 @@ module _ (env : Env) (entry : History) (change : Change) where
             let shown : Shown = record { which = file.BugsCreate; number = number } in
             clock shown (all shown (Contains-first shown [])) (seen_is env.folder file.BugsCreate (clock_at files env.folder file.BugsCreate) number change creates)
 
-        behind : Contains (ref_write env.folder (ref_place side.Bugs a.bug) (bug_set env.now a).head ∷ clock_writes env.folder files a.pack) change → IsOwn env doing entry change
-        behind rest = elim (Contains-cons_cases (ref_write env.folder (ref_place side.Bugs a.bug) (bug_set env.now a).head) (clock_writes env.folder files a.pack) change rest) [
-          | inl same ↦ a_head (bug_set env.now a) (sets ∙ ap (option_map (bug_set env.now)) e) (sym same)
+        behind : Contains (ref_write env.folder (ref_place side.Bugs a.bug) (bug_set env.moment.now a).head ∷ clock_writes env.folder files a.pack) change → IsOwn env doing entry change
+        behind rest = elim (Contains-cons_cases (ref_write env.folder (ref_place side.Bugs a.bug) (bug_set env.moment.now a).head) (clock_writes env.folder files a.pack) change rest) [
+          | inl same ↦ a_head (bug_set env.moment.now a) (sets ∙ ap (option_map (bug_set env.moment.now)) e) (sym same)
           | inr seen ↦ elim (Contains-append_cases (create_writes env.folder files a.pack.create) (see_writes env.folder file.BugsEdit (clock_at files env.folder file.BugsEdit) a.pack.edit) change seen) [
             | inl creates ↦ by_create a.pack.create (λ shown has. Contains-append_left (shown_create a.pack.create) (edit ∷ []) shown has) creates
             | inr edits ↦ clock edit (Contains-append_right (shown_create a.pack.create) (edit ∷ []) edit (Contains-first edit []))
@@ -110,7 +112,7 @@ module _ (env : Env) (entry : History) (change : Change) where
   -- ---- a version
 
   -- the writes of a version are its objects and its head
-  version_own : (doing : Doing) (name email : List ℕ) (id : Id) (parent : Option Name) → doing.objects ≡ new_objects env name email parent
+  version_own : (doing : Doing) (name : Title) (email : Line) (id : Id) (parent : Option Name) → doing.objects ≡ new_objects env name email parent
       → (set : HeadSet) → doing.sets ≡ Some set → ref_write env.folder (ref_place set.of set.id) set.head ≡ ref_write env.folder (ref_place side.Identities id) (new_made env name email parent).head
       → Contains (version_writes env name email id parent files) change → IsOwn env doing entry change
   version_own doing name email id parent objects set sets head among =
@@ -153,7 +155,7 @@ module _ (env : Env) (entry : History) (change : Change) where
     | inr none ↦ absurd (Contains-nil change none)
   ]
   own (edit.New title message) picked among =
-      let added = option_map (root_addition env.folder files (create_op env title message)) (some_id (user_at files env.folder)) in
+      let added = option_map (root_addition env.folder files (create_op env.moment title message)) (some_id (user_at files env.folder)) in
       addition_own (new_bug env title message entry) added refl refl refl added refl among
   own (edit.OfBug word e) picked among =
       let added = option_and_then (later_by env.folder files picked.bug picked.op) (some_id (user_at files env.folder)) in

@@ -1,241 +1,242 @@
--- Of the causes that hold, one that comes first in the order of refusals is told: the checks of each command ascend in it.
-use Rattle.std.proofs.Common.{◌≡◌, ℕ, ◌≤◌, ◌+◌, inl, inr, List, [], ◌∷◌, Option, Some, None, refl, sym, ◌∙◌, ap, arith}
-use Rattle.std.specs.Prelude.{⊤, option_and_then}
+-- Each check of a command has its place in the order of refusals, or tells damage alone. So which check told a refusal follows from its
+-- place, and of the causes that hold one that comes first is told.
+use Rattle.std.proofs.Common.{◌≡◌, ℕ, zero, suc, ◌≤◌, ◌+◌, ◌⊎◌, ◌&&◌, Bool, true, false, inl, inr, List, [], ◌∷◌, Option, Some, None, refl, sym, ◌∙◌, ap, subst, arith}
+use Rattle.std.specs.Prelude.{⊤, nat_le, option_and_then}
 use Rattle.std.specs.Option.{option_map}
+use Rattle.std.proofs.lemmas.Bool.{leb-true}
 use Rattle.std.proofs.lemmas.Option.{same_Some}
 use Rattle.gb_text.specs.Folder.{joined}
-use Rattle.gb_text.specs.declared.decimal.TheConstants.{GREATEST_TIME}
 use Rattle.gb_text.specs.declared.id.Id.{Id}
 use Rattle.gb_store.specs.Files.{Files, History, files_of}
 use Rattle.object_store.specs.declared.read.TheConstants.{MOST_BYTES}
 use Rattle.commit_walk.specs.declared.below.TheConstants.{MOST_COMMITS as MOST_VERSIONS}
 use Rattle.commit_walk.specs.declared.below.TheConstants.{MOST_COMMITS}
+use Rattle.bug_edits.specs.NewOps.{create_op, op_id}
+use Rattle.bug_edits.specs.declared.edit.BugEdit.{BugEdit}
+use Rattle.bug_edits.specs.declared.edit.NoChange.{NoChange}
+use Rattle.bug_edits.specs.declared.edit.NoChange.TheVariants as no_change
 use Rattle.bug_ops.specs.declared.op.BugOp.{BugOp}
-use Rattle.repo_state.specs.Finds.{bug_finder, person_finder}
+use Rattle.repo_state.specs.Finds.{Finder, bug_finder, person_finder}
 use Rattle.repo_state.specs.Sides.{ref_place}
 use Rattle.repo_state.specs.Users.{user_at, user_entry, user_place}
-use Rattle.repo_state.specs.declared.env.Env.{Env}
-use Rattle.repo_state.specs.declared.refusal.Refusal.{Refusal}
-use Rattle.repo_state.specs.declared.refusal.Refusal.TheVariants as refusal
 use Rattle.repo_state.specs.declared.side.HeadEntry.{HeadEntry}
 use Rattle.repo_state.specs.declared.side.Side.{Side}
 use Rattle.repo_state.specs.declared.side.Side.TheVariants as side
-use Rattle.repo_steps.specs.BugDoings.{addition_objects, bad_bug, bug_reads, bug_says, clock_room, commit_room, edit_adds, later_by, new_operation, root_addition, some_id}
-use Rattle.repo_steps.specs.BugEdits.{bad_edit}
+use Rattle.repo_state.specs.declared.stop.Missed.{Missed}
+use Rattle.repo_state.specs.declared.stop.Missed.TheVariants as missed
+use Rattle.repo_steps.specs.BugDoings.{addition_objects, bug_reads, clock_room, commit_room, edit_adds, later_by, new_operation, root_addition, some_id}
 use Rattle.repo_steps.specs.Checks.{AreClear, Check, FirstFails}
-use Rattle.repo_steps.specs.Doing.{found, fresh, names, sizes, some_user, user_file, words}
+use Rattle.repo_steps.specs.Doing.{found, fresh, names, sizes, some_user, user_file}
 use Rattle.repo_steps.specs.Doings.{doing_of}
-use Rattle.repo_steps.specs.Effects.{no_change}
-use Rattle.repo_steps.specs.NewOps.{MayWriteOp, create_op, op_id}
+use Rattle.repo_steps.specs.PeopleDoings.{new_made, new_objects, user_chain, user_room}
 use Rattle.repo_steps.specs.Picked.{Picked}
-use Rattle.repo_steps.specs.PeopleDoings.{MayWrite, bad_person, new_made, new_objects, user_chain, user_room}
 use Rattle.repo_steps.specs.Ranks.{SomeFails, rank_of}
-use Rattle.repo_steps.specs.declared.edit.BugEdit.{BugEdit}
-use Rattle.repo_steps.specs.declared.edit.BugEdit.TheVariants as kind
-use Rattle.repo_steps.specs.declared.edit.Edit.{Edit}
-use Rattle.repo_steps.specs.declared.edit.Edit.TheVariants as edit
-use Rattle.repo_state.proofs.FoundLemmas.{no_head_is, no_id_is}
+use Rattle.repo_steps.specs.Stops.{of_missed, of_no_change}
+use Rattle.words.specs.declared.edit.Edit.{Edit}
+use Rattle.words.specs.declared.edit.Edit.TheVariants as edit
+use Rattle.repo_steps.specs.declared.env.Env.{Env}
+use Rattle.repo_steps.specs.declared.refusal.Refusal.{Refusal}
+use Rattle.repo_steps.specs.declared.refusal.Refusal.TheVariants as refusal
 use Rattle.repo_steps.proofs.ClearLemmas.{checks_clear}
-use Rattle.repo_steps.proofs.EffectLemmas.{refused_as}
+
+-- ---- checks with their places
+
+-- a refusal of this check is of this place, if it is not of damage
+abbrev Within : Check → Option ℕ → Type 0
+Within check place = (r : Refusal) (n : ℕ) → check.Fails r → rank_of r ≡ Some n → Some n ≡ place
+
+-- these checks have these places; none tells damage alone
+abbrev pub AreWithin : List Check → List (Option ℕ) → Type 0
+AreWithin [] [] = ⊤
+AreWithin (check ∷ checks) (place ∷ places) = Within check place × AreWithin checks places
+AreWithin _ _ = ⊥
+
+-- ---- which check told a refusal
+
+abbrev same_number : ℕ → ℕ → Bool
+same_number zero zero = true
+same_number (suc m) (suc n) = same_number m n
+same_number _ _ = false
+
+abbrev is_at : ℕ → Option ℕ → Bool
+is_at n None = false
+is_at n (Some place) = same_number place n
+
+abbrev Or : Bool → Type 0 → Type 0 → Type 0
+Or true A B = A ⊎ B
+Or false A B = B
+
+-- one of the checks at this place fails with a refusal
+abbrev pub FailsAt : ℕ → List Check → List (Option ℕ) → Refusal → Type 0
+FailsAt n (check ∷ checks) (place ∷ places) r = Or (is_at n place) (check.Fails r) (FailsAt n checks places r)
+FailsAt n _ _ r = ⊥
+
+same_at : (n : ℕ) → same_number n n ≡ true
+same_at zero = refl
+same_at (suc n) = same_at n
+
+here : (b : Bool) (A B : Type 0) → b ≡ true → A → Or b A B
+here true A B is a = inl a
+here false A B is a = absurd (cc is)
+
+later : (b : Bool) (A B : Type 0) → B → Or b A B
+later true A B b = inr b
+later false A B b = b
+
+-- the first that does not pass is at the place of the refusal
+pub told_at : (n : ℕ) (checks : List Check) (places : List (Option ℕ)) (r : Refusal) → AreWithin checks places → rank_of r ≡ Some n → FirstFails checks r → FailsAt n checks places r
+told_at n [] [] r within is fails = fails
+told_at n [] (place ∷ places) r within is fails = fails
+told_at n (check ∷ checks) [] r within is fails = absurd within
+told_at n (check ∷ checks) (place ∷ places) r within is (inl fails) =
+    here (is_at n place) (check.Fails r) (FailsAt n checks places r) (ap (is_at n) (sym (within.0 r n fails is)) ∙ same_at n) fails
+told_at n (check ∷ checks) (place ∷ places) r within is (inr rest) =
+    later (is_at n place) (check.Fails r) (FailsAt n checks places r) (told_at n checks places r within.1 is rest.1)
 
 -- ---- checks in order
 
--- each refusal of a check is of this rank, or of none
-abbrev Within : Check → ℕ → Type 0
-Within check rank = (r : Refusal) (n : ℕ) → check.Fails r → rank_of r ≡ Some n → n ≡ rank
+-- the places ascend, from this one
+abbrev ascend : ℕ → List (Option ℕ) → Bool
+ascend from [] = true
+ascend from (None ∷ places) = ascend from places
+ascend from (Some place ∷ places) = nat_le from place && ascend place places
 
--- the ranks of checks ascend, from this one
-abbrev Ascend : ℕ → List Check → Type 0
-Ascend from [] = ⊤
-Ascend from (check ∷ checks) = (rank : ℕ) × (from ≤ rank) × Within check rank × Ascend rank checks
+both_true : (a b : Bool) → (a && b) ≡ true → (a ≡ true) × (b ≡ true)
+both_true true b is = (refl, is)
+both_true false b is = absurd (cc is)
 
--- then none of them fails with a refusal of a rank before it
-not_before : (from : ℕ) (checks : List Check) (r : Refusal) (n : ℕ) → Ascend from checks → SomeFails checks r → rank_of r ≡ Some n → from ≤ n
-not_before from [] r n ranks fails is = absurd fails
-not_before from (check ∷ checks) r n ranks (inl fails) is = omega (arith, ranks.1, ranks.2 r n fails is)
-not_before from (check ∷ checks) r n ranks (inr later) is = omega (arith, ranks.1, not_before ranks.0 checks r n ranks.3 later is)
+-- then none of them fails with a refusal of a place before it
+not_before : (from : ℕ) (checks : List Check) (places : List (Option ℕ)) (r : Refusal) (n : ℕ) → AreWithin checks places → ascend from places ≡ true → SomeFails checks r → rank_of r ≡ Some n → from ≤ n
+not_before from [] places r n within up fails is = absurd fails
+not_before from (check ∷ checks) [] r n within up fails is = absurd within
+not_before from (check ∷ checks) (None ∷ places) r n within up (inl fails) is = absurd (cc (within.0 r n fails is))
+not_before from (check ∷ checks) (None ∷ places) r n within up (inr rest) is = not_before from checks places r n within.1 up rest is
+not_before from (check ∷ checks) (Some place ∷ places) r n within up (inl fails) is =
+    omega (arith, leb-true from place (both_true (nat_le from place) (ascend place places) up).0, same_Some n place (within.0 r n fails is))
+not_before from (check ∷ checks) (Some place ∷ places) r n within up (inr rest) is =
+    let split = both_true (nat_le from place) (ascend place places) up in
+    omega (arith, leb-true from place split.0, not_before place checks places r n within.1 split.1 rest is)
 
--- and the first that does not pass fails with one of a first rank
-in_order : (from : ℕ) (checks : List Check) (told other : Refusal) (first later : ℕ) → AreClear checks → Ascend from checks
-    → FirstFails checks told → SomeFails checks other → rank_of told ≡ Some first → rank_of other ≡ Some later → first ≤ later
-in_order from [] told other first later clear ranks fails also one two = absurd fails
-in_order from (check ∷ checks) told other first later clear ranks (inl fails) (inl also) one two =
-    omega (arith, ranks.2 told first fails one, ranks.2 other later also two)
-in_order from (check ∷ checks) told other first later clear ranks (inl fails) (inr also) one two =
-    omega (arith, ranks.2 told first fails one, not_before ranks.0 checks other later ranks.3 also two)
-in_order from (check ∷ checks) told other first later clear ranks (inr rest) (inl also) one two = absurd (clear.0.apart other also rest.0)
-in_order from (check ∷ checks) told other first later clear ranks (inr rest) (inr also) one two =
-    in_order ranks.0 checks told other first later clear.1 ranks.3 rest.1 also one two
+-- and the first that does not pass fails with one of a first place
+in_order : (from : ℕ) (checks : List Check) (places : List (Option ℕ)) (told other : Refusal) (first last : ℕ) → AreClear checks → AreWithin checks places → ascend from places ≡ true
+    → FirstFails checks told → SomeFails checks other → rank_of told ≡ Some first → rank_of other ≡ Some last → first ≤ last
+in_order from [] places told other first last clear within up fails also one two = absurd fails
+in_order from (check ∷ checks) [] told other first last clear within up fails also one two = absurd within
+in_order from (check ∷ checks) (place ∷ places) told other first last clear within up (inl fails) (inl also) one two =
+    let same = same_Some first last (within.0 told first fails one ∙ sym (within.0 other last also two)) in omega (arith, same)
+in_order from (check ∷ checks) (None ∷ places) told other first last clear within up (inl fails) (inr also) one two = absurd (cc (within.0 told first fails one))
+in_order from (check ∷ checks) (Some place ∷ places) told other first last clear within up (inl fails) (inr also) one two =
+    let split = both_true (nat_le from place) (ascend place places) up in
+    omega (arith, same_Some first place (within.0 told first fails one), not_before place checks places other last within.1 split.1 also two)
+in_order from (check ∷ checks) (place ∷ places) told other first last clear within up (inr rest) (inl also) one two = absurd (clear.0.apart other also rest.0)
+in_order from (check ∷ checks) (None ∷ places) told other first last clear within up (inr rest) (inr also) one two =
+    in_order from checks places told other first last clear.1 within.1 up rest.1 also one two
+in_order from (check ∷ checks) (Some place ∷ places) told other first last clear within up (inr rest) (inr also) one two =
+    in_order place checks places told other first last clear.1 within.1 (both_true (nat_le from place) (ascend place places) up).1 rest.1 also one two
 
--- ---- the rank of each check
+-- ---- the place of each check
 
--- what is a refusal of this rank is of that rank
-of_rank : (r s : Refusal) (n rank : ℕ) → r ≡ s → rank_of s ≡ Some rank → rank_of r ≡ Some n → n ≡ rank
-of_rank r s n rank same ranked is = same_Some n rank (sym is ∙ ap rank_of same ∙ ranked)
-
--- and what is one of none is of every rank that it has
-of_none : (r s : Refusal) (n rank : ℕ) → r ≡ s → rank_of s ≡ None → rank_of r ≡ Some n → n ≡ rank
-of_none r s n rank same none is = absurd (cc (sym is ∙ ap rank_of same ∙ none))
-
-words_rank : (bad : Option ℕ) (Known : Type 0) → Within (words bad Known) 2
-words_rank bad Known r n fails is = of_rank r (refusal.BadText fails.0) n 2 fails.2 refl is
+-- what is a refusal of this place is of that place
+of_rank : (r s : Refusal) (n : ℕ) (place : Option ℕ) → r ≡ s → rank_of s ≡ place → rank_of r ≡ Some n → Some n ≡ place
+of_rank r s n place same ranked is = sym is ∙ ap rank_of same ∙ ranked
 
 module _ (folder : List ℕ) (files : Files) where
-  user_file_rank : (rank : ℕ) → Within (user_file folder files) rank
-  user_file_rank rank r n fails is = of_none r (refusal.Damaged (joined folder user_place)) n rank fails.1 refl is
+  user_file_rank : Within (user_file folder files) None
+  user_file_rank r n fails is = of_rank r (refusal.Damaged (joined folder user_place)) n None fails.1 refl is
 
-  some_user_rank : Within (some_user folder files) 3
-  some_user_rank r n fails is = of_rank r refusal.NoUser n 3 fails.1 refl is
+  some_user_rank : Within (some_user folder files) (Some 3)
+  some_user_rank r n fails is = of_rank r refusal.NoUser n (Some 3) fails.1 refl is
 
-  user_chain_rank : (rank : ℕ) → Within (user_chain folder files) rank
-  user_chain_rank rank r n fails is = of_none r (refusal.Damaged (joined folder (ref_place side.Identities fails.0))) n rank fails.3 refl is
+  user_chain_rank : Within (user_chain folder files) None
+  user_chain_rank r n fails is = of_rank r (refusal.Damaged (joined folder (ref_place side.Identities fails.0))) n None fails.3 refl is
 
-  user_room_rank : Within (user_room folder files) 7
-  user_room_rank r n fails is = of_rank r (refusal.TooLarge (MOST_VERSIONS + 1)) n 7 fails.2 refl is
+  user_room_rank : Within (user_room folder files) (Some 7)
+  user_room_rank r n fails is = of_rank r (refusal.TooLarge (MOST_VERSIONS + 1)) n (Some 7) fails.2 refl is
 
-  fresh_rank : (of : Side) (id : Id) → Within (fresh folder files of id) 8
-  fresh_rank of id r n fails is = of_rank r (refusal.EntityExists id) n 8 fails.1 refl is
+  fresh_rank : (of : Side) (id : Id) → Within (fresh folder files of id) (Some 8)
+  fresh_rank of id r n fails is = of_rank r (refusal.EntityExists id) n (Some 8) fails.1 refl is
 
-  person_rank : (word : List ℕ) (person : Id) → Within (found (person_finder files folder word) person) 4
-  person_rank word person r n fails is = of_rank r refusal.NotFound n 4 (no_id_is side.Identities files folder word r fails).1 refl is
+-- what finds nothing is of one place, if it is not damaged
+missed_rank : (r : Refusal) (n : ℕ) (why : Missed) → r ≡ of_missed why → rank_of r ≡ Some n → Some n ≡ Some 4
+missed_rank r n missed.NotFound same is = of_rank r refusal.NotFound n (Some 4) same refl is
+missed_rank r n (missed.Damaged path) same is = absurd (cc (of_rank r (refusal.Damaged path) n None same refl is))
 
-  bug_rank : (word : List ℕ) (bug : HeadEntry) → Within (found (bug_finder files folder word) bug) 4
-  bug_rank word bug r n fails is = elim (no_head_is side.Bugs files folder word r fails) [
-    | inl none ↦ of_rank r refusal.NotFound n 4 none.1 refl is
-    | inr bad ↦ of_none r (refusal.Damaged bad.0) n 4 bad.1 refl is
-  ]
+found_rank : {T : Type 0} → (finder : Finder T) (value : T) → Within (found finder value) (Some 4)
+found_rank finder value r n fails is = missed_rank r n fails.0 fails.2 is
 
-sizes_rank : (texts : List (List ℕ)) → Within (sizes texts) 7
-sizes_rank texts r n fails is = of_rank r (refusal.TooLarge (MOST_BYTES + 1)) n 7 fails.1 refl is
+sizes_rank : (texts : List (List ℕ)) → Within (sizes texts) (Some 7)
+sizes_rank texts r n fails is = of_rank r (refusal.TooLarge (MOST_BYTES + 1)) n (Some 7) fails.1 refl is
 
-names_rank : (folder : List ℕ) (texts : List (List ℕ)) (old : History) → Within (names folder texts old) 9
-names_rank folder texts old r n fails is = of_rank r (refusal.NameTaken fails.0) n 9 fails.2 refl is
+names_rank : (folder : List ℕ) (texts : List (List ℕ)) (old : History) → Within (names folder texts old) (Some 9)
+names_rank folder texts old r n fails is = of_rank r (refusal.NameTaken fails.0) n (Some 9) fails.2 refl is
 
--- ---- the rank of each check of a bug
+-- an edit that changes nothing is of one place
+no_change_rank : (why : NoChange) → rank_of (of_no_change why) ≡ Some 5
+no_change_rank no_change.SameStatus = refl
+no_change_rank no_change.NoLabelChange = refl
 
--- an edit that would change nothing is of one rank
-no_change_rank : (e : BugEdit) → rank_of (no_change e) ≡ Some 5
-no_change_rank (kind.Comment message) = refl
-no_change_rank kind.Noop = refl
-no_change_rank (kind.Title title) = refl
-no_change_rank (kind.Status status) = refl
-no_change_rank (kind.AddLabels labels) = refl
-no_change_rank (kind.RemoveLabels labels) = refl
-no_change_rank (kind.Metadata key value) = refl
-
-edit_adds_rank : (env : Env) (files : Files) (word : List ℕ) (e : BugEdit) (op : BugOp) → Within (edit_adds env files word e op) 5
-edit_adds_rank env files word e op r n fails is = of_rank r (no_change e) n 5 (refused_as env e (bug_says fails.0.entity) r fails.1).1 (no_change_rank e) is
+edit_adds_rank : (env : Env) (files : Files) (word : List ℕ) (e : BugEdit) (op : BugOp) → Within (edit_adds env files word e op) (Some 5)
+edit_adds_rank env files word e op r n fails is = of_rank r (of_no_change fails.1) n (Some 5) fails.3 (no_change_rank fails.1) is
 
 module _ (folder : List ℕ) (files : Files) (word : List ℕ) where
-  bug_reads_rank : (bug : HeadEntry) (rank : ℕ) → Within (bug_reads folder files bug) rank
-  bug_reads_rank bug rank r n fails is = of_none r (refusal.Damaged (joined folder (ref_place side.Bugs bug.id))) n rank fails.1 refl is
+  bug_reads_rank : (bug : HeadEntry) → Within (bug_reads folder files bug) None
+  bug_reads_rank bug r n fails is = of_rank r (refusal.Damaged (joined folder (ref_place side.Bugs bug.id))) n None fails.1 refl is
 
-  clock_room_rank : Within (clock_room folder files word) 6
-  clock_room_rank r n fails is = of_rank r (refusal.ClockFull fails.0.bug.name) n 6 fails.2 refl is
+  clock_room_rank : Within (clock_room folder files word) (Some 6)
+  clock_room_rank r n fails is = of_rank r (refusal.ClockFull fails.0.bug.name) n (Some 6) fails.2 refl is
 
-  commit_room_rank : Within (commit_room folder files word) 7
-  commit_room_rank r n fails is = of_rank r (refusal.TooLarge (MOST_COMMITS + 1)) n 7 fails.2 refl is
+  commit_room_rank : Within (commit_room folder files word) (Some 7)
+  commit_room_rank r n fails is = of_rank r (refusal.TooLarge (MOST_COMMITS + 1)) n (Some 7) fails.2 refl is
 
-  new_operation_rank : (op : BugOp) → Within (new_operation folder files word op) 8
-  new_operation_rank op r n fails is = of_rank r (refusal.RepeatedOperation (op_id op)) n 8 fails.2 refl is
+  new_operation_rank : (op : BugOp) → Within (new_operation folder files word op) (Some 8)
+  new_operation_rank op r n fails is = of_rank r (refusal.RepeatedOperation (op_id op)) n (Some 8) fails.2 refl is
 
 -- ---- each command
 
--- the checks of each command ascend
-checks_ascend : (env : Env) (command : Edit) (picked : Picked) (old : History) → Ascend 0 (doing_of env command picked old).checks
-checks_ascend env (edit.UserNew name email) picked old =
+-- the places of the checks of a command
+abbrev pub places_of : Edit → List (Option ℕ)
+places_of (edit.UserNew name email) = None ∷ Some 7 ∷ Some 8 ∷ Some 9 ∷ []
+places_of (edit.UserEdit name email) = None ∷ Some 3 ∷ None ∷ Some 7 ∷ Some 7 ∷ Some 9 ∷ []
+places_of (edit.UserSet word) = Some 4 ∷ []
+places_of (edit.New title message) = None ∷ Some 3 ∷ Some 7 ∷ Some 8 ∷ Some 9 ∷ []
+places_of (edit.OfBug word e) = None ∷ Some 3 ∷ Some 4 ∷ None ∷ Some 5 ∷ Some 6 ∷ Some 7 ∷ Some 7 ∷ Some 8 ∷ Some 9 ∷ []
+
+places_ascend : (command : Edit) → ascend 0 (places_of command) ≡ true
+places_ascend (edit.UserNew name email) = refl
+places_ascend (edit.UserEdit name email) = refl
+places_ascend (edit.UserSet word) = refl
+places_ascend (edit.New title message) = refl
+places_ascend (edit.OfBug word e) = refl
+
+pub checks_within : (env : Env) (command : Edit) (picked : Picked) (old : History) → AreWithin (doing_of env command picked old).checks (places_of command)
+checks_within env (edit.UserNew name email) picked old =
+    let objects = new_objects env name email None in
+    (user_file_rank env.folder (files_of old), (sizes_rank objects, (fresh_rank env.folder (files_of old) side.Identities (new_made env name email None).id, (names_rank env.folder objects old, tt))))
+checks_within env (edit.UserEdit name email) picked old =
     let files = files_of old in
-    let objects = new_objects env name email None in (
-      2,
-      omega arith,
-      words_rank (bad_person name email) (MayWrite env name email),
-      (
-        2,
-        omega arith,
-        user_file_rank env.folder files 2,
-        (7, omega arith, sizes_rank objects, (8, omega arith, fresh_rank env.folder files side.Identities (new_made env name email None).id, (9, omega arith, names_rank env.folder objects old, tt))),
-      ),
-    )
-checks_ascend env (edit.UserEdit name email) picked old =
+    let objects = new_objects env name email (option_map (λ (e : HeadEntry). e.name) (user_entry files env.folder)) in
+    (user_file_rank env.folder files, (some_user_rank env.folder files, (user_chain_rank env.folder files, (user_room_rank env.folder files, (sizes_rank objects, (names_rank env.folder objects old, tt))))))
+checks_within env (edit.UserSet word) picked old = (found_rank (person_finder (files_of old) env.folder word) picked.person, tt)
+checks_within env (edit.New title message) picked old =
     let files = files_of old in
-    let objects = new_objects env name email (option_map (λ (e : HeadEntry). e.name) (user_entry files env.folder)) in (
-      2,
-      omega arith,
-      words_rank (bad_person name email) (MayWrite env name email),
+    let new = create_op env.moment title message in
+    let objects = addition_objects env.moment.now (option_map (root_addition env.folder files new) (some_id (user_at files env.folder))) in
+    (user_file_rank env.folder files, (some_user_rank env.folder files, (sizes_rank objects, (fresh_rank env.folder files side.Bugs (op_id new), (names_rank env.folder objects old, tt)))))
+checks_within env (edit.OfBug word e) picked old =
+    let files = files_of old in
+    let objects = addition_objects env.moment.now (option_and_then (later_by env.folder files picked.bug picked.op) (some_id (user_at files env.folder))) in (
+      user_file_rank env.folder files,
       (
-        2,
-        omega arith,
-        user_file_rank env.folder files 2,
+        some_user_rank env.folder files,
         (
-          3,
-          omega arith,
-          some_user_rank env.folder files,
+          found_rank (bug_finder files env.folder word) picked.bug,
           (
-            3,
-            omega arith,
-            user_chain_rank env.folder files 3,
-            (7, omega arith, user_room_rank env.folder files, (7, omega arith, sizes_rank objects, (9, omega arith, names_rank env.folder objects old, tt))),
-          ),
-        ),
-      ),
-    )
-checks_ascend env (edit.UserSet word) picked old = (4, omega arith, person_rank env.folder (files_of old) word picked.person, tt)
-checks_ascend env (edit.New title message) picked old =
-    let files = files_of old in
-    let new = create_op env title message in
-    let objects = addition_objects env.now (option_map (root_addition env.folder files new) (some_id (user_at files env.folder))) in (
-      2,
-      omega arith,
-      words_rank (bad_bug title message) (MayWriteOp new),
-      (
-        2,
-        omega arith,
-        user_file_rank env.folder files 2,
-        (
-          3,
-          omega arith,
-          some_user_rank env.folder files,
-          (7, omega arith, sizes_rank objects, (8, omega arith, fresh_rank env.folder files side.Bugs (op_id new), (9, omega arith, names_rank env.folder objects old, tt))),
-        ),
-      ),
-    )
-checks_ascend env (edit.OfBug word e) picked old =
-    let files = files_of old in
-    let objects = addition_objects env.now (option_and_then (later_by env.folder files picked.bug picked.op) (some_id (user_at files env.folder))) in (
-      2,
-      omega arith,
-      words_rank (bad_edit e) (env.now ≤ GREATEST_TIME),
-      (
-        2,
-        omega arith,
-        user_file_rank env.folder files 2,
-        (
-          3,
-          omega arith,
-          some_user_rank env.folder files,
-          (
-            4,
-            omega arith,
-            bug_rank env.folder files word picked.bug,
+            bug_reads_rank env.folder files word picked.bug,
             (
-              4,
-              omega arith,
-              bug_reads_rank env.folder files word picked.bug 4,
+              edit_adds_rank env files word e picked.op,
               (
-                5,
-                omega arith,
-                edit_adds_rank env files word e picked.op,
-                (
-                  6,
-                  omega arith,
-                  clock_room_rank env.folder files word,
-                  (
-                    7,
-                    omega arith,
-                    commit_room_rank env.folder files word,
-                    (7, omega arith, sizes_rank objects, (8, omega arith, new_operation_rank env.folder files word picked.op, (9, omega arith, names_rank env.folder objects old, tt))),
-                  ),
-                ),
+                clock_room_rank env.folder files word,
+                (commit_room_rank env.folder files word, (sizes_rank objects, (new_operation_rank env.folder files word picked.op, (names_rank env.folder objects old, tt)))),
               ),
             ),
           ),
@@ -244,7 +245,12 @@ checks_ascend env (edit.OfBug word e) picked old =
     )
 
 -- of the causes that hold, one that comes first is told
-pub told_in_order : (env : Env) (command : Edit) (picked : Picked) (old : History) (told other : Refusal) (first later : ℕ)
-    → FirstFails (doing_of env command picked old).checks told → SomeFails (doing_of env command picked old).checks other → rank_of told ≡ Some first → rank_of other ≡ Some later → first ≤ later
-told_in_order env command picked old told other first later =
-    in_order 0 (doing_of env command picked old).checks told other first later (checks_clear env command picked old) (checks_ascend env command picked old)
+pub told_in_order : (env : Env) (command : Edit) (picked : Picked) (old : History) (told other : Refusal) (first last : ℕ)
+    → FirstFails (doing_of env command picked old).checks told → SomeFails (doing_of env command picked old).checks other → rank_of told ≡ Some first → rank_of other ≡ Some last → first ≤ last
+told_in_order env command picked old told other first last =
+    in_order 0 (doing_of env command picked old).checks (places_of command) told other first last (checks_clear env command picked old) (checks_within env command picked old) (places_ascend command)
+
+-- the check that told a refusal of a command is one of its place
+pub told_by : (env : Env) (command : Edit) (picked : Picked) (old : History) (r : Refusal) (n : ℕ) → rank_of r ≡ Some n → FirstFails (doing_of env command picked old).checks r
+    → FailsAt n (doing_of env command picked old).checks (places_of command) r
+told_by env command picked old r n is fails = told_at n (doing_of env command picked old).checks (places_of command) r (checks_within env command picked old) is fails

@@ -1,94 +1,137 @@
 -- Where a cause holds and all checks before it pass, a command is refused for it.
-use Rattle.std.proofs.Common.{◌≡◌, ◌≤◌, ◌+◌, ℕ, IsTrue, List, [], ◌∷◌, All, Contains, length, None, Ok, inl, inr, refl, sym, ◌∙◌}
+use Rattle.std.proofs.Common.{◌≡◌, ◌≢◌, ◌≤◌, ◌+◌, ◌^◌, ℕ, All, IsTrue, inl, inr, List, [], ◌∷◌, length, Contains, Some, None, Ok, refl, sym, ◌∙◌}
+use Rattle.std.proofs.lemmas.Option.{same_Some}
 use Rattle.gb_text.specs.declared.decimal.TheConstants.{GREATEST_TIME}
 use Rattle.gb_text.specs.declared.id.Id.{Id}
 use Rattle.gb_text.specs.declared.id.Name.{Name}
+use Rattle.gb_text.specs.declared.ruled.Line.{Line}
+use Rattle.gb_text.specs.declared.ruled.Message.{Message}
+use Rattle.gb_text.specs.declared.ruled.Title.{Title}
 use Rattle.gb_store.specs.Files.{Files, History, files_of}
-use Rattle.object_batch.specs.Batches.{CannotHave, HasLong}
+use Rattle.object_store.specs.Held.{objects_in}
 use Rattle.object_store.specs.Texts.{IsShort}
 use Rattle.object_store.specs.declared.read.TheConstants.{MOST_BYTES}
+use Rattle.object_batch.specs.Batches.{CannotHave, HasLong}
+use Rattle.commit_walk.specs.declared.below.TheConstants.{MOST_COMMITS}
+use Rattle.bug_edits.specs.EditTable.{edit_op}
+use Rattle.bug_edits.specs.NewOps.{create_op, op_id}
+use Rattle.bug_edits.specs.declared.edit.BugEdit.{BugEdit}
 use Rattle.bug_ops.specs.Kind.{bug_kind}
 use Rattle.bug_ops.specs.declared.op.BugOp.{BugOp}
-use Rattle.commit_walk.specs.declared.below.TheConstants.{MOST_COMMITS}
 use Rattle.dag_entity.specs.Entities.{ops_in}
+use Rattle.dag_entity.specs.Nodes.{edit_at}
+use Rattle.repo_state.proofs.BugLemmas.{head_edit}
+use Rattle.repo_state.specs.Finds.{Finds, Nothing}
 use Rattle.repo_state.specs.Sides.{has_ref}
 use Rattle.repo_state.specs.Users.{BadUser, NoUser, User, user_at}
-use Rattle.repo_state.specs.declared.env.Env.{Env}
-use Rattle.repo_state.specs.declared.refusal.Refusal.{Refusal}
-use Rattle.repo_state.specs.declared.refusal.Refusal.TheVariants as refusal
 use Rattle.repo_state.specs.declared.side.Side.TheVariants as side
-use Rattle.repo_steps.specs.BugDoings.{HasBug, bad_bug, bug_says, longer_bug, new_bug, new_operation, op_ids}
-use Rattle.repo_steps.specs.BugEdits.{bad_edit, edit_op}
+use Rattle.repo_state.specs.declared.stop.Missed.TheVariants as missed
+use Rattle.repo_steps.specs.BugDoings.{HasBug, bug_says, clock_room, commit_room, longer_bug, new_bug, new_operation, op_ids}
 use Rattle.repo_steps.specs.Checks.{FirstFails}
 use Rattle.repo_steps.specs.Doing.{names, sizes}
 use Rattle.repo_steps.specs.Doings.{Refused}
-use Rattle.repo_steps.specs.NewOps.{MayWriteOp, create_op, op_id}
-use Rattle.repo_steps.specs.PeopleDoings.{MayWrite, bad_person, new_made, new_user}
-use Rattle.repo_steps.specs.declared.edit.BugEdit.{BugEdit}
-use Rattle.repo_steps.specs.declared.edit.Edit.TheVariants as edit
+use Rattle.repo_steps.specs.PeopleDoings.{HasUser, new_made, new_user}
+use Rattle.words.specs.declared.edit.Edit.TheVariants as edit
+use Rattle.repo_steps.specs.declared.env.Env.{Env}
+use Rattle.repo_steps.specs.declared.refusal.Refusal.{Refusal}
+use Rattle.repo_steps.specs.declared.refusal.Refusal.TheVariants as refusal
+use Rattle.repo_steps.proofs.CauseLemmas.{at_limit}
 use Rattle.repo_steps.proofs.PickLemmas.{no_pick}
 
 module _ (env : Env) (old : History) where
   abbrev files : Files
   files = files_of old
 
+  -- a user is neither missing nor bad
+  good : (user : Id) → user_at files env.folder ≡ User user → user_at files env.folder ≡ BadUser → ⊥
+  good user is bad = cc (sym is ∙ bad)
+
+  some : (user : Id) → user_at files env.folder ≡ User user → user_at files env.folder ≡ NoUser → ⊥
+  some user is lacks = cc (sym is ∙ lacks)
+
+  no_bad : user_at files env.folder ≡ NoUser → user_at files env.folder ≡ BadUser → ⊥
+  no_bad none bad = cc (sym none ∙ bad)
+
   -- ---- no user
 
-  pub no_user_to_edit : (name email : List ℕ) → bad_person name email ≡ None → MayWrite env name email → user_at files env.folder ≡ NoUser → Refused env (edit.UserEdit name email) old refusal.NoUser
-  no_user_to_edit name email kept may none = (no_pick env, inr ((kept, may), inr ((λ bad. cc (sym none ∙ bad)), inl (none, refl))))
+  pub no_user_to_edit : (name : Title) (email : Line) → user_at files env.folder ≡ NoUser → Refused env (edit.UserEdit name email) old refusal.NoUser
+  no_user_to_edit name email none = (no_pick env, inr (no_bad none, inl (none, refl)))
 
-  pub no_user_to_begin : (title message : List ℕ) → bad_bug title message ≡ None → MayWriteOp (create_op env title message) → user_at files env.folder ≡ NoUser
-      → Refused env (edit.New title message) old refusal.NoUser
-  no_user_to_begin title message kept may none = (no_pick env, inr ((kept, may), inr ((λ bad. cc (sym none ∙ bad)), inl (none, refl))))
+  pub no_user_to_begin : (title : Title) (message : Message) → user_at files env.folder ≡ NoUser → Refused env (edit.New title message) old refusal.NoUser
+  no_user_to_begin title message none = (no_pick env, inr (no_bad none, inl (none, refl)))
 
-  pub no_user_to_add : (e : BugEdit) (word : List ℕ) → bad_edit e ≡ None → env.now ≤ GREATEST_TIME → user_at files env.folder ≡ NoUser → Refused env (edit.OfBug word e) old refusal.NoUser
-  no_user_to_add e word kept now none = (no_pick env, inr ((kept, now), inr ((λ bad. cc (sym none ∙ bad)), inl (none, refl))))
+  pub no_user_to_add : (e : BugEdit) (word : List ℕ) → user_at files env.folder ≡ NoUser → Refused env (edit.OfBug word e) old refusal.NoUser
+  no_user_to_add e word none = (no_pick env, inr (no_bad none, inl (none, refl)))
 
   -- ---- a new person
 
-  module _ (name email : List ℕ) (kept : bad_person name email ≡ None) (may : MayWrite env name email) (good : user_at files env.folder ≡ BadUser → ⊥) where
+  module _ (name : Title) (email : Line) (no_bad_user : user_at files env.folder ≡ BadUser → ⊥) where
     pub person_too_large : HasLong (new_user env name email old).objects → Refused env (edit.UserNew name email) old (refusal.TooLarge (MOST_BYTES + 1))
-    person_too_large long = (no_pick env, inr ((kept, may), inr (good, inl (long, refl))))
+    person_too_large long = (no_pick env, inr (no_bad_user, inl (long, refl)))
 
     pub person_reported : All IsShort (new_user env name email old).objects → IsTrue (has_ref files env.folder side.Identities (new_made env name email None).id)
         → Refused env (edit.UserNew name email) old (refusal.EntityExists (new_made env name email None).id)
-    person_reported short has = (no_pick env, inr ((kept, may), inr (good, inr (short, inl (has, refl)))))
+    person_reported short has = (no_pick env, inr (no_bad_user, inr (short, inl (has, refl))))
+
+  -- ---- a full chain
+
+  pub full_refused : (name : Title) (email : Line) (user : HasUser env.folder files) → length user.chain.walk ≡ 2 ^ 16 → Refused env (edit.UserEdit name email) old (refusal.TooLarge (2 ^ 16 + 1))
+  full_refused name email user full = (no_pick env, inr (good user.id user.is_user, inr (some user.id user.is_user, inr (user, inl (user, full, refl)))))
 
   -- ---- a new bug
 
-  module _ (title message : List ℕ) (user : Id) (kept : bad_bug title message ≡ None) (may : MayWriteOp (create_op env title message)) (is_user : user_at files env.folder ≡ User user) where
+  module _ (title : Title) (message : Message) (user : Id) (is_user : user_at files env.folder ≡ User user) where
     pub bug_too_large : HasLong (new_bug env title message old).objects → Refused env (edit.New title message) old (refusal.TooLarge (MOST_BYTES + 1))
-    bug_too_large long = (no_pick env, inr ((kept, may), inr ((λ bad. cc (sym is_user ∙ bad)), inr ((λ lacks. cc (sym is_user ∙ lacks)), inl (long, refl)))))
+    bug_too_large long = (no_pick env, inr (good user is_user, inr (some user is_user, inl (long, refl))))
 
-    pub bug_reported : All IsShort (new_bug env title message old).objects → IsTrue (has_ref files env.folder side.Bugs (op_id (create_op env title message)))
-        → Refused env (edit.New title message) old (refusal.EntityExists (op_id (create_op env title message)))
-    bug_reported short has = (no_pick env, inr ((kept, may), inr ((λ bad. cc (sym is_user ∙ bad)), inr ((λ lacks. cc (sym is_user ∙ lacks)), inr (short, inl (has, refl))))))
+    pub bug_reported : All IsShort (new_bug env title message old).objects → IsTrue (has_ref files env.folder side.Bugs (op_id (create_op env.moment title message)))
+        → Refused env (edit.New title message) old (refusal.EntityExists (op_id (create_op env.moment title message)))
+    bug_reported short has = (no_pick env, inr (good user is_user, inr (some user is_user, inr (short, inl (has, refl)))))
+
+  -- ---- a word that finds nothing
+
+  pub no_bug_found : (e : BugEdit) (word : List ℕ) (user : Id) → user_at files env.folder ≡ User user → Finds files env.folder side.Bugs word Nothing
+      → Refused env (edit.OfBug word e) old refusal.NotFound
+  no_bug_found e word user is none = (no_pick env, inr (good user is, inr (some user is, inl (missed.NotFound, none, refl))))
+
+  pub no_person_found : (word : List ℕ) → Finds files env.folder side.Identities word Nothing → Refused env (edit.UserSet word) old refusal.NotFound
+  no_person_found word none = (no_pick env, inl (missed.NotFound, none, refl))
 
   -- ---- an edit of a bug
 
-  module _ (e : BugEdit) (word : List ℕ) (user : Id) (kept : bad_edit e ≡ None) (now : env.now ≤ GREATEST_TIME) (is_user : user_at files env.folder ≡ User user) (bug : HasBug env.folder files word)
-      (op : BugOp) (adds : edit_op env e (bug_says bug.entity) ≡ Ok op) (rules : MayWriteOp op) (clock : bug.entity.edit ≡ GREATEST_TIME → ⊥) (room : MOST_COMMITS ≤ length bug.entity.packs → ⊥) where
-    -- all before the sizes pass
-    reached : (r : Refusal) → FirstFails (sizes (longer_bug env e word bug.bug op old).objects ∷ new_operation env.folder files word op ∷ names env.folder (longer_bug env e word bug.bug op old).objects old ∷ []) r
+  module _ (e : BugEdit) (word : List ℕ) (user : Id) (is_user : user_at files env.folder ≡ User user) (bug : HasBug env.folder files word)
+      (op : BugOp) (adds : edit_op env.moment e (bug_says bug.entity) ≡ Ok op) where
+    abbrev objects : List (List ℕ)
+    objects = (longer_bug env e word bug.bug op old).objects
+
+    -- all before its room passes
+    added : (r : Refusal) → FirstFails (clock_room env.folder files word ∷ commit_room env.folder files word ∷ sizes objects ∷ new_operation env.folder files word op ∷ names env.folder objects old ∷ []) r
         → Refused env (edit.OfBug word e) old r
-    reached r fails = (
+    added r fails = (
       record { op = op; bug = bug.bug; person = bug.bug.id },
-      inr (
-        (kept, now),
-        inr (
-          (λ bad. cc (sym is_user ∙ bad)),
-          inr ((λ lacks. cc (sym is_user ∙ lacks)), inr (bug.finds, inr ((bug.entity, bug.is), inr ((bug, adds, rules), inr ((bug, clock), inr ((bug, room), fails)))))),
-        ),
-      ),
+      inr (good user is_user, inr (some user is_user, inr (bug.finds, inr ((bug.entity, bug.is), inr ((bug, adds), fails))))),
     )
 
-    pub edit_too_large : HasLong (longer_bug env e word bug.bug op old).objects → Refused env (edit.OfBug word e) old (refusal.TooLarge (MOST_BYTES + 1))
-    edit_too_large long = reached (refusal.TooLarge (MOST_BYTES + 1)) (inl (long, refl))
+    pub full_clocks_told : edit_at (objects_in files env.folder) bug.bug.name ≡ Some GREATEST_TIME → Refused env (edit.OfBug word e) old (refusal.ClockFull bug.bug.name)
+    full_clocks_told full =
+        let clock = head_edit (objects_in files env.folder) bug.bug.name bug.entity.edit bug.is.is.edit in
+        added (refusal.ClockFull bug.bug.name) (inl (bug, same_Some bug.entity.edit GREATEST_TIME (sym clock ∙ full), refl))
 
-    module _ (short : All IsShort (longer_bug env e word bug.bug op old).objects) where
-      pub operation_reported : Contains (op_ids (ops_in bug_kind bug.entity.packs)) (op_id op) → Refused env (edit.OfBug word e) old (refusal.RepeatedOperation (op_id op))
-      operation_reported has = reached (refusal.RepeatedOperation (op_id op)) (inr (short, inl (bug, has, refl)))
+    pub many_commits_told : edit_at (objects_in files env.folder) bug.bug.name ≢ Some GREATEST_TIME → MOST_COMMITS ≤ length bug.entity.packs
+        → Refused env (edit.OfBug word e) old (refusal.TooLarge (MOST_COMMITS + 1))
+    many_commits_told left many = added (refusal.TooLarge (MOST_COMMITS + 1)) (inr ((bug, (λ full. left (at_limit env old bug full))), inl (bug, many, refl)))
 
-      pub name_reported : (Contains (op_ids (ops_in bug_kind bug.entity.packs)) (op_id op) → ⊥) → (name : Name) → CannotHave env.folder (longer_bug env e word bug.bug op old).objects old name
+    module _ (clock : bug.entity.edit ≡ GREATEST_TIME → ⊥) (room : MOST_COMMITS ≤ length bug.entity.packs → ⊥) where
+      -- all before the sizes pass
+      reached : (r : Refusal) → FirstFails (sizes objects ∷ new_operation env.folder files word op ∷ names env.folder objects old ∷ []) r → Refused env (edit.OfBug word e) old r
+      reached r fails = added r (inr ((bug, clock), inr ((bug, room), fails)))
+
+      pub edit_too_large : HasLong objects → Refused env (edit.OfBug word e) old (refusal.TooLarge (MOST_BYTES + 1))
+      edit_too_large long = reached (refusal.TooLarge (MOST_BYTES + 1)) (inl (long, refl))
+
+      pub operation_reported : All IsShort objects → Contains (op_ids (ops_in bug_kind bug.entity.packs)) (op_id op) → Refused env (edit.OfBug word e) old (refusal.RepeatedOperation (op_id op))
+      operation_reported short has = reached (refusal.RepeatedOperation (op_id op)) (inr (short, inl (bug, has, refl)))
+
+      pub name_reported : All IsShort objects → (Contains (op_ids (ops_in bug_kind bug.entity.packs)) (op_id op) → ⊥) → (name : Name) → CannotHave env.folder objects old name
           → Refused env (edit.OfBug word e) old (refusal.NameTaken name)
-      name_reported new name taken = reached (refusal.NameTaken name) (inr (short, inr ((bug, new), inl (name, taken, refl))))
+      name_reported short new name taken = reached (refusal.NameTaken name) (inr (short, inr ((bug, new), inl (name, taken, refl))))

@@ -1,5 +1,7 @@
 -- What a step of a command leaves and prints is determined by the files before it.
 use Rattle.std.proofs.Common.{◌≡◌, ◌≢◌, ℕ, inl, inr, Bool, cond, List, [], ◌∷◌, Contains, Option, Some, None, refl, sym, ◌∙◌, ap, subst, arith}
+use Rattle.gb_text.specs.declared.ruled.Title.{Title}
+use Rattle.gb_text.specs.declared.ruled.Line.{Line}
 use Rattle.gb_text.specs.Digits.{id_of}
 use Rattle.gb_text.specs.Folder.{joined}
 use Rattle.gb_text.specs.LineEnd.{line_of}
@@ -16,19 +18,19 @@ use Rattle.repo_state.specs.Sides.{has_ref, head_at, is_there, ref_place}
 use Rattle.repo_state.specs.Users.{UserFound, BadUser, NoUser, User, local_user, user_at, user_of, user_place, user_write}
 use Rattle.repo_state.specs.declared.clocks.ClockFile.{ClockFile}
 use Rattle.repo_state.specs.declared.clocks.ClockFile.TheVariants as file
-use Rattle.repo_state.specs.declared.env.Env.{Env}
+use Rattle.repo_steps.specs.declared.env.Env.{Env}
 use Rattle.repo_state.specs.declared.side.HeadEntry.{HeadEntry}
 use Rattle.repo_state.specs.declared.side.Side.{Side}
 use Rattle.repo_state.specs.declared.side.Side.TheVariants as side
 use Rattle.repo_state.proofs.PlaceLemmas.{clock-not_object, clock-not_user, clock-other, ref-not_clock, ref-not_object, ref-not_user, same_or_other, user-not_object}
 use Rattle.repo_steps.specs.BugDoings.{addition_head, later_addition, root_addition}
-use Rattle.repo_steps.specs.NewOps.{create_op, op_id}
+use Rattle.bug_edits.specs.NewOps.{create_op, op_id}
 use Rattle.repo_steps.specs.PeopleDoings.{new_made}
 use Rattle.repo_state.proofs.FoundLemmas.{finds_the_same}
 use Rattle.repo_steps.specs.Steps.{BugBegins, BugGrows, IsObjectFile, OnlyChanges, Steps, UserEditSteps, UserNewSteps, UserSetSteps, first_user, first_user_place}
-use Rattle.repo_steps.specs.declared.edit.BugEdit.{BugEdit}
-use Rattle.repo_steps.specs.declared.edit.Edit.{Edit}
-use Rattle.repo_steps.specs.declared.edit.Edit.TheVariants as edit
+use Rattle.bug_edits.specs.declared.edit.BugEdit.{BugEdit}
+use Rattle.words.specs.declared.edit.Edit.{Edit}
+use Rattle.words.specs.declared.edit.Edit.TheVariants as edit
 use Rattle.repo_steps.proofs.ClearLemmas.{adds_one, bug_one, one_user, user-head, user-same}
 
 -- ---- places apart
@@ -118,7 +120,7 @@ pub record Same (folder : List ℕ) (one two : Files) (first second : Id) : Type
   pub user : user_at one folder ≡ user_at two folder
   pub clocks : (which : ClockFile) → clock_at one folder which ≡ clock_at two folder which
 
-new-same : (env : Env) (name email : List ℕ) (old one two : Files) (first second : Id) → UserNewSteps env name email old one first → UserNewSteps env name email old two second
+new-same : (env : Env) (name : Title) (email : Line) (old one two : Files) (first second : Id) → UserNewSteps env name email old one first → UserNewSteps env name email old two second
     → Same env.folder one two first second
 new-same env name email old one two first second here there = record {
   told = ids;
@@ -141,7 +143,7 @@ new-same env name email old one two first second here there = record {
     only : OnlyChanges env.folder (ref_place side.Identities first ∷ first_user_place found) old two
     only = subst (λ (id : Id). OnlyChanges env.folder (ref_place side.Identities id ∷ first_user_place found) old two) (sym ids) there.only
 
-edit-same : (env : Env) (name email : List ℕ) (old one two : Files) (first second : Id) → UserEditSteps env name email old one first → UserEditSteps env name email old two second
+edit-same : (env : Env) (name : Title) (email : Line) (old one two : Files) (first second : Id) → UserEditSteps env name email old one first → UserEditSteps env name email old two second
     → Same env.folder one two first second
 edit-same env name email old one two first second here there = record {
   told = here.is_told ∙ sym ids ∙ sym there.is_told;
@@ -204,7 +206,7 @@ begins-same env op old one two first second here there = record {
     only = subst (λ (id : Id). OnlyChanges env.folder (ref_place side.Bugs id ∷ clocks) old two) (sym ids) there.only
 
     set : head_at one env.folder side.Bugs first ≡ head_at two env.folder side.Bugs first
-    set = here.head ∙ ap (λ (user : Id). Head (addition_head env.now (root_addition env.folder old op user))) (one_user env.folder old here.user there.user here.is_user there.is_user)
+    set = here.head ∙ ap (λ (user : Id). Head (addition_head env.moment.now (root_addition env.folder old op user))) (one_user env.folder old here.user there.user here.is_user there.is_user)
         ∙ sym there.head ∙ ap (head_at two env.folder side.Bugs) (sym ids)
 
     heads : (of : Side) (id : Id) → head_at one env.folder of id ≡ head_at two env.folder of id
@@ -247,7 +249,7 @@ grows-same env e word old one two first second here there = record {
 
     -- the head that is made for an operation, a user, a bug and its edit clock
     made : BugOp → Id → HeadEntry → ℕ → Name
-    made op user b edit = addition_head env.now (later_addition env.folder old op user b edit)
+    made op user b edit = addition_head env.moment.now (later_addition env.folder old op user b edit)
 
     heads-made : made there.op there.user there.bug.bug there.bug.entity.edit ≡ made here.op here.user bug here.bug.entity.edit
     heads-made = ap (λ (op : BugOp). made op there.user there.bug.bug there.bug.entity.edit) (sym ops)
@@ -276,5 +278,5 @@ pub steps-same : (env : Env) (command : Edit) (old one two : Files) (first secon
 steps-same env (edit.UserNew name email) old one two first second here there = new-same env name email old one two first second here there
 steps-same env (edit.UserEdit name email) old one two first second here there = edit-same env name email old one two first second here there
 steps-same env (edit.UserSet word) old one two first second here there = set-same env word old one two first second here there
-steps-same env (edit.New title message) old one two first second here there = begins-same env (create_op env title message) old one two first second here there
+steps-same env (edit.New title message) old one two first second here there = begins-same env (create_op env.moment title message) old one two first second here there
 steps-same env (edit.OfBug bug e) old one two first second here there = grows-same env e bug old one two first second here there

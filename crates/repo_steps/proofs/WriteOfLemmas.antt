@@ -6,16 +6,16 @@ use Rattle.gb_store.specs.Files.{History}
 use Rattle.gb_store.specs.Moments.{EachWrite, WroteBy, WroteSome, at_moment}
 use Rattle.gb_store.specs.declared.store.Change.{Change}
 use Rattle.gb_store.proofs.MomentLemmas.{WroteBy-before, WroteBy-none, WroteSome-there}
-use Rattle.repo_state.specs.declared.env.Env.{Env}
-use Rattle.repo_state.specs.declared.refusal.Stop.TheVariants as stop
-use Rattle.repo_state.specs.declared.refusal.Stop.{Stop}
+use Rattle.repo_steps.specs.declared.env.Env.{Env}
+use Rattle.repo_steps.specs.declared.refusal.Stop.TheVariants as stop
+use Rattle.repo_steps.specs.declared.refusal.Stop.{Stop}
 use Rattle.repo_writes.specs.Kinds.{IsWrite}
 use Rattle.repo_steps.specs.Answers.{DoingAnswers, IsStopped}
 use Rattle.repo_steps.specs.Checks.{AllPass}
 use Rattle.repo_steps.specs.Doings.{EditAnswers, doing_of}
 use Rattle.repo_steps.specs.Picked.{Picked}
 use Rattle.repo_steps.specs.Writes.{IsWriteOf}
-use Rattle.repo_steps.specs.declared.edit.Edit.{Edit}
+use Rattle.words.specs.declared.edit.Edit.{Edit}
 use Rattle.repo_steps.proofs.DoneLemmas.{after, made_so}
 
 module _ (env : Env) (command : Edit) (picked : Picked) (old : History) (may : AllPass (doing_of env command picked old).checks) where

@@ -1,14 +1,13 @@
 -- The answers to a command that edits, with what was written.
-use Rattle.std.specs.Prelude.{◌≡◌, ◌⊎◌, ⊤, ℕ, ◌++◌, reverse, Option, Some, None, Result, Ok, Err}
+use Rattle.std.specs.Prelude.{◌≡◌, ◌⊎◌, ⊤, ◌++◌, reverse, Some, Result, Ok, Err}
 use Rattle.gb_text.specs.declared.id.Id.{Id}
 use Rattle.gb_store.specs.Files.{History}
 use Rattle.gb_store.specs.Moments.{WroteSome}
-use Rattle.repo_state.specs.declared.refusal.Refusal.TheVariants as refusal
-use Rattle.repo_state.specs.declared.refusal.Stop.{Stop}
-use Rattle.repo_state.specs.declared.refusal.Stop.TheVariants as stop
+use Rattle.repo_steps.specs.declared.refusal.Stop.{Stop}
+use Rattle.repo_steps.specs.declared.refusal.Stop.TheVariants as stop
 use Rattle.repo_steps.specs.Checks.{AllPass, FirstFails}
 use Rattle.repo_steps.specs.Doing.{Doing}
-use Rattle.repo_steps.specs.declared.edit.Plan.{Plan}
+use Rattle.repo_steps.specs.declared.plan.Plan.{Plan}
 
 -- the answer to what a command is to write
 abbrev pub Plans : Doing → Result Plan Stop → Type 0
@@ -33,18 +32,3 @@ DoingAnswers doing old new (Ok id) = IsDone doing old new id
 DoingAnswers doing old new (Err stop.Memory) = IsStopped doing old new
 DoingAnswers doing old new (Err stop.Disk) = IsStopped doing old new
 DoingAnswers doing old new (Err (stop.Refused r)) = FirstFails doing.checks r × (new ≡ old)
-
--- the place of the word for which a command was refused
-abbrev pub bad_text_of : {T : Type 0} → Result T Stop → Option ℕ
-bad_text_of (Err (stop.Refused (refusal.BadText place))) = Some place
-bad_text_of _ = None
-
--- the folder was not refused
-abbrev pub TakesFolder : {T : Type 0} → Result T Stop → Type 0
-TakesFolder (Err (stop.Refused refusal.BadFolder)) = ⊥
-TakesFolder _ = ⊤
-
--- words are refused exactly where one breaks its rule, with the first that does, and the folder is not
-pub record KeepsToWords {T : Type 0} (bad_word : Option ℕ) (result : Result T Stop) : Type 0 where
-  pub words : bad_text_of result ≡ bad_word
-  pub folder : TakesFolder result

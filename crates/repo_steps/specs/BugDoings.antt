@@ -1,21 +1,27 @@
 -- What each command on bugs does: when it is refused, what it writes, and the id that it returns.
-use Rattle.std.specs.Prelude.{◌≡◌, ◌≤◌, ◌+◌, ℕ, List, [], ◌∷◌, ◌++◌, length, map, Contains, Option, Some, None, option_and_then, Ok, Err, if◌then◌else◌}
+use Rattle.std.specs.Prelude.{◌≡◌, ◌≤◌, ◌+◌, ℕ, List, [], ◌∷◌, ◌++◌, length, map, Contains, Option, Some, None, option_and_then, Ok, Err}
 use Rattle.std.specs.Option.{option_map}
 use Rattle.gb_text.specs.Folder.{joined}
-use Rattle.gb_text.specs.Rules.{is_message_text, is_title_text}
 use Rattle.gb_text.specs.declared.decimal.TheConstants.{GREATEST_TIME}
 use Rattle.gb_text.specs.declared.id.Id.{Id}
 use Rattle.gb_text.specs.declared.id.Name.{Name}
+use Rattle.gb_text.specs.declared.ruled.Message.{Message}
+use Rattle.gb_text.specs.declared.ruled.Title.{Title}
 use Rattle.gb_store.specs.Files.{Files, History, files_of}
 use Rattle.gb_store.specs.declared.store.Change.{Change}
 use Rattle.object_store.specs.Held.{objects_in}
 use Rattle.object_batch.specs.Batches.{missing_writes}
 use Rattle.ref_store.specs.Setting.{ref_write}
 use Rattle.lamport.specs.Clock.{edit_time_of, root_time_of}
+use Rattle.bug_edits.specs.EditTable.{edit_op}
+use Rattle.bug_edits.specs.NewOps.{create_op, op_id}
+use Rattle.bug_ops.specs.Snapshots.{zero_id}
+use Rattle.bug_edits.specs.declared.edit.NoChange.{NoChange}
 use Rattle.bug_ops.specs.Kind.{bug_kind}
 use Rattle.bug_ops.specs.declared.op.BugOp.{BugOp}
 use Rattle.bug_ops.specs.declared.snapshot.Snapshot.{Snapshot}
 use Rattle.snapshot.specs.LastMention.{snapshot_of}
+use Rattle.op_kind.specs.declared.place.TheConstants.{VERSION}
 use Rattle.op_pack.specs.declared.pack.Pack.{Pack}
 use Rattle.commit_walk.specs.declared.below.TheConstants.{MOST_COMMITS}
 use Rattle.dag_entity.specs.Appending.{appended_name, appended_objects}
@@ -28,25 +34,22 @@ use Rattle.repo_state.specs.Finds.{bug_finder}
 use Rattle.repo_state.specs.Sides.{ref_place}
 use Rattle.repo_state.specs.Users.{UserFound, BadUser, NoUser, User, user_at}
 use Rattle.repo_state.specs.declared.clocks.ClockFile.TheVariants as file
-use Rattle.repo_state.specs.declared.env.Env.{Env}
-use Rattle.repo_state.specs.declared.refusal.Refusal.{Refusal}
-use Rattle.repo_state.specs.declared.refusal.Refusal.TheVariants as refusal
+use Rattle.repo_steps.specs.declared.env.Env.{Env}
+use Rattle.repo_steps.specs.declared.refusal.Refusal.{Refusal}
+use Rattle.repo_steps.specs.declared.refusal.Refusal.TheVariants as refusal
 use Rattle.repo_state.specs.declared.side.HeadEntry.{HeadEntry}
 use Rattle.repo_state.specs.declared.side.Side.TheVariants as side
-use Rattle.repo_steps.specs.BugEdits.{bad_edit, edit_op}
 use Rattle.repo_steps.specs.Checks.{Check}
-use Rattle.repo_steps.specs.Doing.{Doing, HeadSet, Shown, words, user_file, some_user, sizes, fresh, names, found}
-use Rattle.repo_steps.specs.NewOps.{MayWriteOp, create_op, one_op_pack, op_id}
-use Rattle.repo_steps.specs.declared.edit.Addition.{Addition}
-use Rattle.repo_steps.specs.declared.edit.BugEdit.{BugEdit}
-
--- ---- words
-
--- the place, counted from 1, of the first of a title and a message that is none
-abbrev pub bad_bug : List ℕ → List ℕ → Option ℕ
-bad_bug title message = if is_title_text title then (if is_message_text message then None else Some 2) else Some 1
+use Rattle.repo_steps.specs.Doing.{Doing, HeadSet, Shown, user_file, some_user, sizes, fresh, names, found}
+use Rattle.repo_steps.specs.Stops.{of_no_change}
+use Rattle.repo_steps.specs.declared.plan.Addition.{Addition}
+use Rattle.bug_edits.specs.declared.edit.BugEdit.{BugEdit}
 
 -- ---- what is added to a bug
+
+-- a pack of one operation by an author, with these clocks
+abbrev pub one_op_pack : Id → ℕ → Option ℕ → BugOp → Pack BugOp
+one_op_pack author edit create op = record { id = zero_id; version = VERSION; edit = edit; create = create; author = author; ops = op ∷ [] }
 
 -- the texts of the objects of a commit that is added, if there is one
 abbrev pub addition_objects : ℕ → Option Addition → List (List ℕ)
@@ -69,8 +72,8 @@ clock_writes folder files pack = create_writes folder files pack.create ++ see_w
 abbrev pub addition_writes : Env → Files → Option Addition → List Change
 addition_writes env files None = []
 addition_writes env files (Some a) =
-    missing_writes env.folder (addition_objects env.now (Some a)) files
-    ++ ref_write env.folder (ref_place side.Bugs a.bug) (addition_head env.now a) ∷ clock_writes env.folder files a.pack
+    missing_writes env.folder (addition_objects env.moment.now (Some a)) files
+    ++ ref_write env.folder (ref_place side.Bugs a.bug) (addition_head env.moment.now a) ∷ clock_writes env.folder files a.pack
 
 -- the head of a bug, a commit over the parents that the addition has: none for a new bug, the present head for another
 abbrev pub bug_set : ℕ → Addition → HeadSet
@@ -141,8 +144,8 @@ bug_says entity = snapshot_of (ops_in bug_kind entity.packs)
 -- the edit adds this operation to the bug that the word finds, by what it says
 abbrev pub edit_adds : Env → Files → List ℕ → BugEdit → BugOp → Check
 edit_adds env files word edit op = record {
-  Fails = λ r. (bug : HasBug env.folder files word) × (edit_op env edit (bug_says bug.entity) ≡ Err r);
-  Passes = (bug : HasBug env.folder files word) × (edit_op env edit (bug_says bug.entity) ≡ Ok op) × MayWriteOp op;
+  Fails = λ r. (bug : HasBug env.folder files word) × (why : NoChange) × (edit_op env.moment edit (bug_says bug.entity) ≡ Err why) × (r ≡ of_no_change why);
+  Passes = (bug : HasBug env.folder files word) × (edit_op env.moment edit (bug_says bug.entity) ≡ Ok op);
 }
 
 -- an edit clock is left above that of its head
@@ -165,21 +168,20 @@ new_operation folder files word op =
 -- ---- the commands
 
 -- a bug that begins with this operation, by the user
-abbrev pub begun_bug : Env → Option ℕ → BugOp → History → Doing
-begun_bug env bad op old =
+abbrev pub begun_bug : Env → BugOp → History → Doing
+begun_bug env op old =
     let files = files_of old in
     let addition = option_map (root_addition env.folder files op) (some_id (user_at files env.folder)) in
-    let objects = addition_objects env.now addition in
+    let objects = addition_objects env.moment.now addition in
     record {
       checks =
-          words bad (MayWriteOp op) ∷
           user_file env.folder files ∷
           some_user env.folder files ∷
           sizes objects ∷
           fresh env.folder files side.Bugs (op_id op) ∷
           names env.folder objects old ∷ [];
       objects = objects;
-      sets = option_map (bug_set env.now) addition;
+      sets = option_map (bug_set env.moment.now) addition;
       shows = addition_shows addition;
       writes = addition_writes env files addition;
       told = Some (op_id op);
@@ -190,10 +192,9 @@ abbrev pub longer_bug : Env → BugEdit → List ℕ → HeadEntry → BugOp →
 longer_bug env edit word bug op old =
     let files = files_of old in
     let addition = option_and_then (later_by env.folder files bug op) (some_id (user_at files env.folder)) in
-    let objects = addition_objects env.now addition in
+    let objects = addition_objects env.moment.now addition in
     record {
       checks =
-          words (bad_edit edit) (env.now ≤ GREATEST_TIME) ∷
           user_file env.folder files ∷
           some_user env.folder files ∷
           found (bug_finder files env.folder word) bug ∷
@@ -205,12 +206,12 @@ longer_bug env edit word bug op old =
           new_operation env.folder files word op ∷
           names env.folder objects old ∷ [];
       objects = objects;
-      sets = option_map (bug_set env.now) addition;
+      sets = option_map (bug_set env.moment.now) addition;
       shows = addition_shows addition;
       writes = addition_writes env files addition;
       told = Some (op_id op);
     }
 
 -- a new bug with a title and a message, which is its first comment
-abbrev pub new_bug : Env → List ℕ → List ℕ → History → Doing
-new_bug env title message old = begun_bug env (bad_bug title message) (create_op env title message) old
+abbrev pub new_bug : Env → Title → Message → History → Doing
+new_bug env title message old = begun_bug env (create_op env.moment title message) old

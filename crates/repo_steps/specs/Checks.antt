@@ -1,7 +1,7 @@
 -- The checks of a command, in their order: why it is refused, and what is so where it is not.
 use Rattle.std.specs.Prelude.{◌≡◌, ◌⊎◌, ⊤, List, [], ◌∷◌}
-use Rattle.repo_state.specs.Stops.{number_of}
-use Rattle.repo_state.specs.declared.refusal.Refusal.{Refusal}
+use Rattle.repo_steps.specs.Stops.{number_of}
+use Rattle.repo_steps.specs.declared.refusal.Refusal.{Refusal}
 
 -- a check: it fails with a refusal, or passes
 pub record Check : Type 1 where

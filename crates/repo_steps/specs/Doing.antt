@@ -1,6 +1,5 @@
 -- What a command that edits does, and the checks and values that several of them share.
-use Rattle.std.specs.Prelude.{◌≡◌, ◌+◌, ℕ, List, [], ◌∷◌, ◌++◌, All, false, IsTrue, Option, Some, None}
-use Rattle.sha2.specs.Sha256.{sha256}
+use Rattle.std.specs.Prelude.{◌≡◌, ◌+◌, ℕ, List, All, false, IsTrue, Option}
 use Rattle.gb_text.specs.Folder.{joined}
 use Rattle.gb_text.specs.declared.id.Id.{Id}
 use Rattle.gb_text.specs.declared.id.Name.{Name}
@@ -13,9 +12,11 @@ use Rattle.repo_state.specs.Finds.{Finder}
 use Rattle.repo_state.specs.Sides.{has_ref}
 use Rattle.repo_state.specs.Users.{BadUser, NoUser, user_at, user_place}
 use Rattle.repo_state.specs.declared.clocks.ClockFile.{ClockFile}
-use Rattle.repo_state.specs.declared.refusal.Refusal.TheVariants as refusal
+use Rattle.repo_steps.specs.declared.refusal.Refusal.TheVariants as refusal
 use Rattle.repo_state.specs.declared.side.Side.{Side}
+use Rattle.repo_state.specs.declared.stop.Missed.{Missed}
 use Rattle.repo_steps.specs.Checks.{Check}
+use Rattle.repo_steps.specs.Stops.{of_missed}
 
 -- a head that a command sets: of which side and id, and the parents of its commit
 pub record HeadSet : Type 0 where
@@ -40,10 +41,6 @@ pub record Doing : Type 1 where
   pub told : Option Id
 
 -- ---- checks
-
--- words that break no rule; then so much is known of them
-abbrev pub words : Option ℕ → Type 0 → Check
-words bad Known = record { Fails = λ r. (place : ℕ) × (bad ≡ Some place) × (r ≡ refusal.BadText place); Passes = (bad ≡ None) × Known }
 
 -- a user file that stands names a local identity
 abbrev pub user_file : List ℕ → Files → Check
@@ -73,10 +70,4 @@ names folder texts old = record { Fails = λ r. (name : Name) × CannotHave fold
 
 -- a word finds this
 abbrev pub found : {T : Type 0} → Finder T → T → Check
-found finder value = record { Fails = finder.Fails; Passes = finder.Found value }
-
--- ---- what is made
-
--- the nonce of what a command makes: the SHA-256 of its seed and one zero byte
-abbrev pub nonce_from : List ℕ → List ℕ
-nonce_from seed = sha256 (seed ++ 0 ∷ [])
+found finder value = record { Fails = λ r. (why : Missed) × finder.Fails why × (r ≡ of_missed why); Passes = finder.Found value }

@@ -1,28 +1,19 @@
 -- What each command that edits does.
-use Rattle.std.specs.Prelude.{ℕ, List, Option, None, Result}
+use Rattle.std.specs.Prelude.{ℕ, List, Result}
 use Rattle.gb_text.specs.declared.id.Id.{Id}
 use Rattle.gb_store.specs.Files.{History}
-use Rattle.repo_state.specs.declared.env.Env.{Env}
-use Rattle.repo_state.specs.declared.refusal.Refusal.{Refusal}
-use Rattle.repo_state.specs.declared.refusal.Stop.{Stop}
+use Rattle.repo_steps.specs.declared.env.Env.{Env}
+use Rattle.repo_steps.specs.declared.refusal.Refusal.{Refusal}
+use Rattle.repo_steps.specs.declared.refusal.Stop.{Stop}
 use Rattle.repo_steps.specs.Answers.{DoingAnswers, IsDone}
-use Rattle.repo_steps.specs.BugDoings.{bad_bug, longer_bug, new_bug}
-use Rattle.repo_steps.specs.BugEdits.{bad_edit}
+use Rattle.repo_steps.specs.BugDoings.{longer_bug, new_bug}
 use Rattle.repo_steps.specs.Checks.{AllPass, FirstFails}
-use Rattle.repo_steps.specs.declared.edit.BugEdit.{BugEdit}
-use Rattle.repo_steps.specs.declared.edit.Edit.{Edit}
-use Rattle.repo_steps.specs.declared.edit.Edit.TheVariants as edit
+use Rattle.bug_edits.specs.declared.edit.BugEdit.{BugEdit}
+use Rattle.words.specs.declared.edit.Edit.{Edit}
+use Rattle.words.specs.declared.edit.Edit.TheVariants as edit
 use Rattle.repo_steps.specs.Doing.{Doing}
 use Rattle.repo_steps.specs.Picked.{Picked}
-use Rattle.repo_steps.specs.PeopleDoings.{bad_person, edited_user, new_user, set_user}
-
--- the place, counted from 1, of the first word of a command that breaks its rule
-abbrev pub bad_word_of : Edit → Option ℕ
-bad_word_of (edit.UserNew name email) = bad_person name email
-bad_word_of (edit.UserEdit name email) = bad_person name email
-bad_word_of (edit.UserSet word) = None
-bad_word_of (edit.New title message) = bad_bug title message
-bad_word_of (edit.OfBug bug e) = bad_edit e
+use Rattle.repo_steps.specs.PeopleDoings.{edited_user, new_user, set_user}
 
 -- What a command does after these writes, where it picks this.
 abbrev pub doing_of : Env → Edit → Picked → History → Doing

@@ -1,6 +1,8 @@
 -- What a bug says when its entity is read back from the files after a command has written to it.
 use Rattle.std.specs.Prelude.{◌≡◌, ◌++◌, ℕ, List, [], ◌∷◌}
 use Rattle.gb_text.specs.declared.id.Id.{Id}
+use Rattle.gb_text.specs.declared.ruled.Message.{Message}
+use Rattle.gb_text.specs.declared.ruled.Title.{Title}
 use Rattle.gb_store.specs.Files.{Files}
 use Rattle.op_kind.specs.declared.place.Place.{Place}
 use Rattle.bug_ops.specs.Kind.{bug_kind}
@@ -12,10 +14,10 @@ use Rattle.snapshot.specs.LastMention.{snapshot_of}
 use Rattle.dag_entity.specs.Entities.{ops_in}
 use Rattle.repo_state.specs.Clocks.{clock_at}
 use Rattle.repo_state.specs.declared.clocks.ClockFile.TheVariants as file
-use Rattle.repo_state.specs.declared.env.Env.{Env}
+use Rattle.repo_steps.specs.declared.env.Env.{Env}
 use Rattle.repo_steps.specs.BugDoings.{HasBug, bug_says}
 use Rattle.repo_steps.specs.Steps.{BugGrows}
-use Rattle.repo_steps.specs.declared.edit.BugEdit.{BugEdit}
+use Rattle.bug_edits.specs.declared.edit.BugEdit.{BugEdit}
 
 -- the bug that the word finds after the step of an edit says what its operations of before say with the edit's behind them, which stands under the id that was told, is by the user and has the clock of an edit
 pub record EndsWithTheEdit (env : Env) (edit : BugEdit) (word : List ℕ) (old new : Files) (told : Id) (step : BugGrows env edit word old new told) (now : HasBug env.folder new word) : Type 0 where
@@ -27,14 +29,14 @@ pub record EndsWithTheEdit (env : Env) (edit : BugEdit) (word : List ℕ) (old n
 
 -- a comment of an author, under the id of the operation that makes it
 abbrev pub made_comment : Env → Id → Id → List ℕ → Comment
-made_comment env author id message = record { id = id; author = author; time = env.now; message = message }
+made_comment env author id message = record { id = id; author = author; time = env.moment.now; message = message }
 
 -- what a new bug says: its title, that it is open, no label and no metadata, its message as the one comment, the user and nobody else, and the clocks of a new root
-abbrev pub begun_says : Env → Files → List ℕ → List ℕ → Id → Id → Snapshot
+abbrev pub begun_says : Env → Files → Title → Message → Id → Id → Snapshot
 begun_says env old title message user told = record {
   row = record {
     id = told;
-    title = title;
+    title = title.text;
     status = Opened;
     labels = [];
     author = user;
@@ -42,10 +44,10 @@ begun_says env old title message user told = record {
     participants = user ∷ [];
     create = root_time_of (clock_at old env.folder file.BugsCreate);
     edit = root_time_of (clock_at old env.folder file.BugsEdit);
-    first = env.now;
-    last = env.now;
+    first = env.moment.now;
+    last = env.moment.now;
     comments = 1;
     metadata = [];
   };
-  list = made_comment env user told message ∷ [];
+  list = made_comment env user told message.text ∷ [];
 }

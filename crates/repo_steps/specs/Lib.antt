@@ -1,16 +1,13 @@
 pub mod Answers
 pub mod BugDoings
-pub mod BugEdits
 pub mod Checks
 pub mod Doing
 pub mod Doings
-pub mod Effects
 pub mod Grown
-pub mod NewOps
 pub mod Own
 pub mod PeopleDoings
 pub mod Picked
 pub mod Ranks
 pub mod Steps
-pub mod WordRules
+pub mod Stops
 pub mod Writes

@@ -9,7 +9,7 @@ use Rattle.lamport.specs.Clock.{seen_by}
 use Rattle.repo_state.specs.Clocks.{clock_at, clock_write}
 use Rattle.repo_state.specs.Sides.{ref_place}
 use Rattle.repo_state.specs.Users.{user_write}
-use Rattle.repo_state.specs.declared.env.Env.{Env}
+use Rattle.repo_steps.specs.declared.env.Env.{Env}
 use Rattle.repo_steps.specs.Doing.{Doing, HeadSet, Shown}
 
 -- what a change is that a command makes, by what it does and the files at entry

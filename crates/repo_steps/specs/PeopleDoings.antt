@@ -1,11 +1,12 @@
 -- What each command on people does: when it is refused, what it writes, and the id that it
 -- returns.
-use Rattle.std.specs.Prelude.{◌≡◌, ◌<◌, ◌⊎◌, ◌+◌, ℕ, List, [], ◌∷◌, ◌++◌, length, Option, Some, None, if◌then◌else◌}
+use Rattle.std.specs.Prelude.{◌≡◌, ◌<◌, ◌⊎◌, ◌+◌, ℕ, List, [], ◌∷◌, ◌++◌, length, Option, Some, None}
 use Rattle.std.specs.Option.{option_map}
 use Rattle.gb_text.specs.Folder.{joined}
-use Rattle.gb_text.specs.Rules.{is_line_text, is_title_text}
 use Rattle.gb_text.specs.declared.id.Id.{Id}
 use Rattle.gb_text.specs.declared.id.Name.{Name}
+use Rattle.gb_text.specs.declared.ruled.Line.{Line}
+use Rattle.gb_text.specs.declared.ruled.Title.{Title}
 use Rattle.gb_store.specs.Files.{Files, History, files_of}
 use Rattle.gb_store.specs.declared.store.Change.{Change}
 use Rattle.object_store.specs.Held.{objects_in}
@@ -15,24 +16,21 @@ use Rattle.ref_store.specs.Refs.{Head, Bad}
 use Rattle.ref_store.specs.Setting.{ref_write}
 use Rattle.identity.specs.Making.{made_of, version_objects}
 use Rattle.identity.specs.Persons.{IdentityFaultHolds, IsChain}
-use Rattle.identity.specs.Version.{MayBeWritten, version_text_of}
+use Rattle.identity.specs.Version.{version_text_of}
 use Rattle.identity.specs.declared.fault.IdentityFault.{IdentityFault}
 use Rattle.identity.specs.declared.making.Made.{Made}
+use Rattle.bug_edits.specs.NewOps.{nonce_from}
 use Rattle.repo_state.specs.Finds.{person_finder}
 use Rattle.repo_state.specs.Sides.{head_at, ref_place}
 use Rattle.repo_state.specs.Users.{UserFound, BadUser, NoUser, User, user_at, user_entry, user_write}
-use Rattle.repo_state.specs.declared.env.Env.{Env}
-use Rattle.repo_state.specs.declared.refusal.Refusal.TheVariants as refusal
+use Rattle.repo_steps.specs.declared.env.Env.{Env}
+use Rattle.repo_steps.specs.declared.refusal.Refusal.TheVariants as refusal
 use Rattle.repo_state.specs.declared.side.HeadEntry.{HeadEntry}
 use Rattle.repo_state.specs.declared.side.Side.TheVariants as side
 use Rattle.repo_steps.specs.Checks.{Check}
-use Rattle.repo_steps.specs.Doing.{Doing, HeadSet, words, user_file, some_user, sizes, fresh, names, found, nonce_from}
+use Rattle.repo_steps.specs.Doing.{Doing, HeadSet, user_file, some_user, sizes, fresh, names, found}
 
 -- ---- checks
-
--- the place, counted from 1, of the first of a name, which is to be a title, and an email, which is to be a line, that is none
-abbrev pub bad_person : List ℕ → List ℕ → Option ℕ
-bad_person name email = if is_title_text name then (if is_line_text email then None else Some 2) else Some 1
 
 -- the user, whose head has a chain without a fault
 pub record HasUser (folder : List ℕ) (files : Files) : Type 0 where
@@ -65,29 +63,25 @@ user_room folder files = record {
 -- ---- versions
 
 -- the text of the version of a name and an email that a command makes
-abbrev pub new_text : Env → List ℕ → List ℕ → List ℕ
-new_text env name email = version_text_of name email (nonce_from env.seed) env.now
+abbrev pub new_text : Env → Title → Line → List ℕ
+new_text env name email = version_text_of name.text email.text (nonce_from env.moment.seed) env.moment.now
 
 -- what it makes of it
-abbrev pub new_made : Env → List ℕ → List ℕ → Option Name → Made
-new_made env name email parent = made_of (new_text env name email) parent env.now
+abbrev pub new_made : Env → Title → Line → Option Name → Made
+new_made env name email parent = made_of (new_text env name email) parent env.moment.now
 
 -- the texts of its objects
-abbrev pub new_objects : Env → List ℕ → List ℕ → Option Name → List (List ℕ)
-new_objects env name email parent = version_objects (new_text env name email) parent env.now
-
--- the words of a version can be written
-abbrev pub MayWrite : Env → List ℕ → List ℕ → Type 0
-MayWrite env name email = MayBeWritten name email (nonce_from env.seed) env.now
+abbrev pub new_objects : Env → Title → Line → Option Name → List (List ℕ)
+new_objects env name email parent = version_objects (new_text env name email) parent env.moment.now
 
 -- the objects of a version that don't stand yet, then its head
-abbrev pub version_writes : Env → List ℕ → List ℕ → Id → Option Name → Files → List Change
+abbrev pub version_writes : Env → Title → Line → Id → Option Name → Files → List Change
 version_writes env name email id parent files =
     missing_writes env.folder (new_objects env name email parent) files
     ++ ref_write env.folder (ref_place side.Identities id) (new_made env name email parent).head ∷ []
 
 -- behind the head of the user
-abbrev pub user_writes : Env → List ℕ → List ℕ → Files → Option HeadEntry → List Change
+abbrev pub user_writes : Env → Title → Line → Files → Option HeadEntry → List Change
 user_writes env name email files None = []
 user_writes env name email files (Some user) = version_writes env name email user.id (Some user.name) files
 
@@ -102,22 +96,21 @@ first_user_write folder BadUser id = []
 -- ---- heads
 
 -- the first version of a new person, which has no parent
-abbrev pub person_set : Env → List ℕ → List ℕ → HeadSet
+abbrev pub person_set : Env → Title → Line → HeadSet
 person_set env name email =
     record { of = side.Identities; id = (new_made env name email None).id; head = (new_made env name email None).head; parents = [] }
 
 -- the next version of the user, over the present head
-abbrev pub version_set : Env → List ℕ → List ℕ → HeadEntry → HeadSet
+abbrev pub version_set : Env → Title → Line → HeadEntry → HeadSet
 version_set env name email user =
     record { of = side.Identities; id = user.id; head = (new_made env name email (Some user.name)).head; parents = user.name ∷ [] }
 
 -- ---- the commands
 
 -- a new identity of one version, which becomes the user where no user file stands
-abbrev pub new_user : Env → List ℕ → List ℕ → History → Doing
+abbrev pub new_user : Env → Title → Line → History → Doing
 new_user env name email old = record {
   checks =
-      words (bad_person name email) (MayWrite env name email) ∷
       user_file env.folder (files_of old) ∷
       sizes (new_objects env name email None) ∷
       fresh env.folder (files_of old) side.Identities (new_made env name email None).id ∷
@@ -132,13 +125,12 @@ new_user env name email old = record {
 }
 
 -- a new version of the user, behind the others
-abbrev pub edited_user : Env → List ℕ → List ℕ → History → Doing
+abbrev pub edited_user : Env → Title → Line → History → Doing
 edited_user env name email old =
     let user = user_entry (files_of old) env.folder in
     let parent = option_map (λ (e : HeadEntry). e.name) user in
     record {
       checks =
-          words (bad_person name email) (MayWrite env name email) ∷
           user_file env.folder (files_of old) ∷
           some_user env.folder (files_of old) ∷
           user_chain env.folder (files_of old) ∷

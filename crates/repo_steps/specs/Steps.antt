@@ -4,6 +4,8 @@ use Rattle.gb_text.specs.Digits.{IsName}
 use Rattle.gb_text.specs.Folder.{joined}
 use Rattle.gb_text.specs.declared.id.Id.{Id}
 use Rattle.gb_text.specs.declared.id.Name.{Name}
+use Rattle.gb_text.specs.declared.ruled.Line.{Line}
+use Rattle.gb_text.specs.declared.ruled.Title.{Title}
 use Rattle.gb_store.specs.Files.{Files, written}
 use Rattle.gb_store.specs.ObjectPath.{object_place}
 use Rattle.object_store.specs.Growth.{OnlyGrew}
@@ -13,6 +15,9 @@ use Rattle.identity.specs.Extending.{IsLonger}
 use Rattle.identity.specs.Version.{written_version}
 use Rattle.identity.specs.declared.version.Version.{Version}
 use Rattle.lamport.specs.Clock.{edit_time_of, root_time_of, seen_by}
+use Rattle.bug_edits.specs.EditTable.{edit_op}
+use Rattle.bug_edits.specs.NewOps.{nonce_from}
+use Rattle.bug_edits.specs.NewOps.{create_op, op_id}
 use Rattle.bug_ops.specs.Kind.{bug_kind}
 use Rattle.bug_ops.specs.declared.op.BugOp.{BugOp}
 use Rattle.dag_entity.specs.Appending.{appended_node}
@@ -24,17 +29,14 @@ use Rattle.repo_state.specs.Finds.{Finds, One}
 use Rattle.repo_state.specs.Sides.{has_ref, head_at, ref_place}
 use Rattle.repo_state.specs.Users.{UserFound, BadUser, NoUser, User, user_at, user_place, user_write}
 use Rattle.repo_state.specs.declared.clocks.ClockFile.TheVariants as file
-use Rattle.repo_state.specs.declared.env.Env.{Env}
+use Rattle.repo_steps.specs.declared.env.Env.{Env}
 use Rattle.repo_state.specs.declared.side.Side.TheVariants as side
 use Rattle.repo_steps.specs.BugDoings.{HasBug, addition_head, bug_says, later_addition, root_addition}
-use Rattle.repo_steps.specs.BugEdits.{edit_op}
-use Rattle.repo_steps.specs.Doing.{nonce_from}
-use Rattle.repo_steps.specs.NewOps.{create_op, op_id}
 use Rattle.repo_steps.specs.PeopleDoings.{HasUser, new_made}
-use Rattle.repo_steps.specs.declared.edit.Addition.{Addition}
-use Rattle.repo_steps.specs.declared.edit.BugEdit.{BugEdit}
-use Rattle.repo_steps.specs.declared.edit.Edit.{Edit}
-use Rattle.repo_steps.specs.declared.edit.Edit.TheVariants as edit
+use Rattle.repo_steps.specs.declared.plan.Addition.{Addition}
+use Rattle.bug_edits.specs.declared.edit.BugEdit.{BugEdit}
+use Rattle.words.specs.declared.edit.Edit.{Edit}
+use Rattle.words.specs.declared.edit.Edit.TheVariants as edit
 
 -- ---- what a step changes
 
@@ -62,11 +64,11 @@ first_user_place (User id) = []
 first_user_place BadUser = []
 
 -- the version of a name and an email that a command makes
-abbrev pub new_version : Env → List ℕ → List ℕ → Version
-new_version env name email = written_version name email (nonce_from env.seed) env.now
+abbrev pub new_version : Env → Title → Line → Version
+new_version env name email = written_version name.text email.text (nonce_from env.moment.seed) env.moment.now
 
 -- A new identity of one version, with this name and email; it becomes the user where no user file stood. Its id is told.
-pub record UserNewSteps (env : Env) (name email : List ℕ) (old new : Files) (told : Id) : Type 0 where
+pub record UserNewSteps (env : Env) (name : Title) (email : Line) (old new : Files) (told : Id) : Type 0 where
   pub fresh : has_ref old env.folder side.Identities told ≡ false
   pub head : head_at new env.folder side.Identities told ≡ Head (new_made env name email None).head
   pub chain : IsLonger (objects_in new env.folder) told [] (new_made env name email None).head (new_version env name email)
@@ -75,7 +77,7 @@ pub record UserNewSteps (env : Env) (name email : List ℕ) (old new : Files) (t
   pub is_told : told ≡ (new_made env name email None).id
 
 -- The user has a new version, with this name and email, behind the others. The user's id is told.
-pub record UserEditSteps (env : Env) (name email : List ℕ) (old new : Files) (told : Id) : Type 0 where
+pub record UserEditSteps (env : Env) (name : Title) (email : Line) (old new : Files) (told : Id) : Type 0 where
   pub user : HasUser env.folder old
   pub head : head_at new env.folder side.Identities user.id ≡ Head (new_made env name email (Some user.head)).head
   pub chain : IsLonger (objects_in new env.folder) user.id user.chain.walk (new_made env name email (Some user.head)).head (new_version env name email)
@@ -90,7 +92,7 @@ pub record UserSetSteps (env : Env) (word : List ℕ) (old new : Files) (told : 
 
 -- what the new bug is: its root alone, whose pack has the one operation
 abbrev pub begun_entity : Env → Addition → ℕ → Entity BugOp
-begun_entity env a create = begun a.bug (appended_node bug_kind a.parents a.pack env.now) create
+begun_entity env a create = begun a.bug (appended_node bug_kind a.parents a.pack env.moment.now) create
 
 -- A new bug, which begins with this operation, by the user, with the clocks of a new root; both clocks of the folder have
 -- seen it. Its id, which is the operation's, is told.
@@ -99,8 +101,8 @@ pub record BugBegins (env : Env) (op : BugOp) (old new : Files) (told : Id) : Ty
   pub is_user : user_at old env.folder ≡ User user
   pub is_told : told ≡ op_id op
   pub fresh : has_ref old env.folder side.Bugs told ≡ false
-  pub head : head_at new env.folder side.Bugs told ≡ Head (addition_head env.now (root_addition env.folder old op user))
-  pub is : IsBug new env.folder (record { id = told; name = addition_head env.now (root_addition env.folder old op user) })
+  pub head : head_at new env.folder side.Bugs told ≡ Head (addition_head env.moment.now (root_addition env.folder old op user))
+  pub is : IsBug new env.folder (record { id = told; name = addition_head env.moment.now (root_addition env.folder old op user) })
       (begun_entity env (root_addition env.folder old op user) (root_time_of (clock_at old env.folder file.BugsCreate)))
   pub edit_clock : clock_at new env.folder file.BugsEdit ≡ root_time_of (clock_at old env.folder file.BugsEdit)
   pub create_clock : clock_at new env.folder file.BugsCreate ≡ root_time_of (clock_at old env.folder file.BugsCreate)
@@ -113,11 +115,11 @@ pub record BugGrows (env : Env) (edit : BugEdit) (word : List ℕ) (old new : Fi
   pub is_user : user_at old env.folder ≡ User user
   pub bug : HasBug env.folder old word
   pub op : BugOp
-  pub is_op : edit_op env edit (bug_says bug.entity) ≡ Ok op
+  pub is_op : edit_op env.moment edit (bug_says bug.entity) ≡ Ok op
   pub is_told : told ≡ op_id op
-  pub head : head_at new env.folder side.Bugs bug.bug.id ≡ Head (addition_head env.now (later_addition env.folder old op user bug.bug bug.entity.edit))
-  pub is : IsBug new env.folder (record { id = bug.bug.id; name = addition_head env.now (later_addition env.folder old op user bug.bug bug.entity.edit) })
-      (extended bug.entity (appended_node bug_kind (bug.bug.name ∷ []) (later_addition env.folder old op user bug.bug bug.entity.edit).pack env.now))
+  pub head : head_at new env.folder side.Bugs bug.bug.id ≡ Head (addition_head env.moment.now (later_addition env.folder old op user bug.bug bug.entity.edit))
+  pub is : IsBug new env.folder (record { id = bug.bug.id; name = addition_head env.moment.now (later_addition env.folder old op user bug.bug bug.entity.edit) })
+      (extended bug.entity (appended_node bug_kind (bug.bug.name ∷ []) (later_addition env.folder old op user bug.bug bug.entity.edit).pack env.moment.now))
   pub edit_clock : clock_at new env.folder file.BugsEdit ≡ seen_by (clock_at old env.folder file.BugsEdit) (edit_time_of (clock_at old env.folder file.BugsEdit) bug.entity.edit)
   pub only : OnlyChanges env.folder (ref_place side.Bugs bug.bug.id ∷ clock_place file.BugsEdit ∷ []) old new
 
@@ -126,5 +128,5 @@ abbrev pub Steps : Env → Edit → Files → Files → Id → Type 0
 Steps env (edit.UserNew name email) old new told = UserNewSteps env name email old new told
 Steps env (edit.UserEdit name email) old new told = UserEditSteps env name email old new told
 Steps env (edit.UserSet word) old new told = UserSetSteps env word old new told
-Steps env (edit.New title message) old new told = BugBegins env (create_op env title message) old new told
+Steps env (edit.New title message) old new told = BugBegins env (create_op env.moment title message) old new told
 Steps env (edit.OfBug bug e) old new told = BugGrows env e bug old new told

@@ -7,13 +7,13 @@ use Rattle.gb_store.specs.declared.store.Change.{Change}
 use Rattle.ref_store.specs.Refs.{Head}
 use Rattle.ref_store.specs.Setting.{ref_write}
 use Rattle.repo_state.specs.Sides.{head_at, ref_place}
-use Rattle.repo_state.specs.declared.env.Env.{Env}
+use Rattle.repo_steps.specs.declared.env.Env.{Env}
 use Rattle.repo_state.specs.declared.side.Side.{Side}
 use Rattle.repo_writes.specs.Kinds.{IsWrite}
 use Rattle.repo_steps.specs.Checks.{AllPass}
 use Rattle.repo_steps.specs.Doings.{doing_of}
 use Rattle.repo_steps.specs.Picked.{Picked}
-use Rattle.repo_steps.specs.declared.edit.Edit.{Edit}
+use Rattle.words.specs.declared.edit.Edit.{Edit}
 
 -- these are the first of some writes, the newest first, and this change comes next
 pub record IsNext (writes earlier : List Change) (change : Change) : Type 0 where

@@ -17,22 +17,25 @@ ghost use Rattle.bug_ops.specs.declared.op.BugOp.{BugOp as OpValue};
 ghost use Rattle.dag_entity.specs.Entities.{ops_in};
 ghost use Rattle.repo_state.specs.Sides.{has_ref};
 ghost use Rattle.repo_state.specs.Users.{BadUser, NoUser, User, user_at};
-ghost use Rattle.repo_state.specs.declared.env.Env.{Env as EnvValue};
-ghost use Rattle.repo_state.specs.declared.refusal.Refusal.TheVariants as refusal;
-ghost use Rattle.repo_state.specs.declared.refusal.Stop.{Stop as StopValue};
+ghost use Rattle.repo_steps.specs.declared.env.Env.{Env as EnvValue};
+ghost use Rattle.repo_steps.specs.declared.refusal.Refusal.TheVariants as refusal;
+ghost use Rattle.repo_steps.specs.declared.refusal.Stop.{Stop as StopValue};
 ghost use Rattle.repo_state.specs.declared.side.Side.TheVariants as side;
-ghost use Rattle.repo_steps.specs.BugDoings.{HasBug, bad_bug, bug_says, longer_bug, new_bug, op_ids};
-ghost use Rattle.repo_steps.specs.BugEdits.{bad_edit, edit_op};
+ghost use Rattle.repo_steps.specs.BugDoings.{HasBug, bug_says, longer_bug, new_bug, op_ids};
 ghost use Rattle.repo_steps.specs.Checks.{FirstFails};
 ghost use Rattle.repo_steps.specs.Doings.{EditAnswers, Refused, doing_of};
-ghost use Rattle.repo_steps.specs.NewOps.{MayWriteOp, create_op, op_id};
 ghost use Rattle.repo_steps.specs.Picked.{Picked};
-ghost use Rattle.repo_steps.specs.PeopleDoings.{MayWrite, bad_person, new_made, new_user};
+ghost use Rattle.repo_steps.specs.PeopleDoings.{new_made, new_user};
 ghost use Rattle.repo_steps.specs.Own.{IsOwn};
 ghost use Rattle.repo_steps.specs.Writes.{IsOldOrSet, IsWriteOf};
-ghost use Rattle.repo_steps.specs.declared.edit.BugEdit.{BugEdit as BugEditValue};
-ghost use Rattle.repo_steps.specs.declared.edit.Edit.{Edit as EditValue};
-ghost use Rattle.repo_steps.specs.declared.edit.Edit.TheVariants.{New, OfBug, UserEdit, UserNew};
+ghost use Rattle.bug_edits.specs.declared.edit.BugEdit.{BugEdit as BugEditValue};
+ghost use Rattle.words.specs.declared.edit.Edit.{Edit as EditValue};
+ghost use Rattle.words.specs.declared.edit.Edit.TheVariants.{New, OfBug, UserEdit, UserNew};
+ghost use Rattle.bug_edits.specs.EditTable.{edit_op};
+ghost use Rattle.bug_edits.specs.NewOps.{create_op, op_id};
+ghost use Rattle.gb_text.specs.declared.ruled.Line.{Line};
+ghost use Rattle.gb_text.specs.declared.ruled.Message.{Message};
+ghost use Rattle.gb_text.specs.declared.ruled.Title.{Title};
 
 /// What is so where a command is refused. `no user`: no user file exists. `entity exists`: a ref of the
 /// id that the new person or bug has exists. `repeated operation`: an operation of the bug has the id
@@ -42,13 +45,13 @@ pub fn refusals_have_their_causes()
     ensures no_user { (env : EnvValue) (command : EditValue) (old : History)
         → Refused env command old refusal.NoUser
         → user_at (files_of old) env.folder ≡ NoUser }
-    ensures person { (env : EnvValue) (old : History) (name email : List ℕ) (id : Id)
+    ensures person { (env : EnvValue) (old : History) (name : Title) (email : Line) (id : Id)
         → Refused env (UserNew name email) old (refusal.EntityExists id)
         → (id ≡ (new_made env name email None).id)
         × IsTrue (has_ref (files_of old) env.folder side.Identities id) }
-    ensures bug { (env : EnvValue) (old : History) (title message : List ℕ) (id : Id)
+    ensures bug { (env : EnvValue) (old : History) (title : Title) (message : Message) (id : Id)
         → Refused env (New title message) old (refusal.EntityExists id)
-        → (id ≡ op_id (create_op env title message))
+        → (id ≡ op_id (create_op env.moment title message))
         × IsTrue (has_ref (files_of old) env.folder side.Bugs id) }
     ensures operation { (env : EnvValue) (old : History) (edit : BugEditValue) (word : List ℕ)
         (id : Id) → Refused env (OfBug word edit) old (refusal.RepeatedOperation id)
@@ -70,20 +73,17 @@ pub fn refusals_have_their_causes()
 /// refused where one of its objects is too large, or else the bug has the operation, or else a name of an
 /// object is taken.
 pub fn causes_refuse()
-    ensures user_for_a_version { (env : EnvValue) (old : History) (name email : List ℕ)
-        → bad_person name email ≡ None → MayWrite env name email
+    ensures user_for_a_version { (env : EnvValue) (old : History) (name : Title) (email : Line)
         → user_at (files_of old) env.folder ≡ NoUser
         → Refused env (UserEdit name email) old refusal.NoUser }
-    ensures user_for_a_bug { (env : EnvValue) (old : History) (title message : List ℕ)
-        → bad_bug title message ≡ None → MayWriteOp (create_op env title message)
+    ensures user_for_a_bug { (env : EnvValue) (old : History) (title : Title) (message : Message)
         → user_at (files_of old) env.folder ≡ NoUser
         → Refused env (New title message) old refusal.NoUser }
     ensures user_for_an_edit { (env : EnvValue) (old : History) (edit : BugEditValue)
-        (word : List ℕ) → bad_edit edit ≡ None → env.now ≤ GREATEST_TIME
+        (word : List ℕ)
         → user_at (files_of old) env.folder ≡ NoUser
         → Refused env (OfBug word edit) old refusal.NoUser }
-    ensures person { (env : EnvValue) (old : History) (name email : List ℕ)
-        → bad_person name email ≡ None → MayWrite env name email
+    ensures person { (env : EnvValue) (old : History) (name : Title) (email : Line)
         → (user_at (files_of old) env.folder ≡ BadUser → ⊥)
         → let objects = (new_user env name email old).objects in
         let id = (new_made env name email None).id in
@@ -91,19 +91,18 @@ pub fn causes_refuse()
         → Refused env (UserNew name email) old (refusal.TooLarge (MOST_BYTES + 1)))
         × (All IsShort objects → IsTrue (has_ref (files_of old) env.folder side.Identities id)
         → Refused env (UserNew name email) old (refusal.EntityExists id)) }
-    ensures bug { (env : EnvValue) (old : History) (title message : List ℕ) (user : Id)
-        → bad_bug title message ≡ None → MayWriteOp (create_op env title message)
+    ensures bug { (env : EnvValue) (old : History) (title : Title) (message : Message) (user : Id)
         → user_at (files_of old) env.folder ≡ User user
         → let objects = (new_bug env title message old).objects in
-        let id = op_id (create_op env title message) in
+        let id = op_id (create_op env.moment title message) in
         (HasLong objects → Refused env (New title message) old (refusal.TooLarge (MOST_BYTES + 1)))
         × (All IsShort objects → IsTrue (has_ref (files_of old) env.folder side.Bugs id)
         → Refused env (New title message) old (refusal.EntityExists id)) }
     ensures edit { (env : EnvValue) (old : History) (edit : BugEditValue) (word : List ℕ)
-        (user : Id) → bad_edit edit ≡ None → env.now ≤ GREATEST_TIME
+        (user : Id)
         → user_at (files_of old) env.folder ≡ User user
         → (bug : HasBug env.folder (files_of old) word) (op : OpValue)
-        → edit_op env edit (bug_says bug.entity) ≡ Ok op → MayWriteOp op
+        → edit_op env.moment edit (bug_says bug.entity) ≡ Ok op
         → (bug.entity.edit ≡ GREATEST_TIME → ⊥) → (MOST_COMMITS ≤ length bug.entity.packs → ⊥)
         → let objects = (longer_bug env edit word bug.bug op old).objects in
         let has = Contains (op_ids (ops_in bug_kind bug.entity.packs)) (op_id op) in

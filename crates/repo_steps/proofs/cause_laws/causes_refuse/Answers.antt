@@ -11,17 +11,14 @@ pub returns-clause-user_for_an_edit : goal.returns-clause-user_for_an_edit
 returns-clause-user_for_an_edit c = no_user_to_add
 
 pub returns-clause-person : goal.returns-clause-person
-returns-clause-person c = λ env old name email kept may good. (person_too_large env old name email kept may good, person_reported env old name email kept may good)
+returns-clause-person c = λ env old name email good. (person_too_large env old name email good, person_reported env old name email good)
 
 pub returns-clause-bug : goal.returns-clause-bug
-returns-clause-bug c = λ env old title message user kept may is_user. (
-  bug_too_large env old title message user kept may is_user,
-  bug_reported env old title message user kept may is_user,
-)
+returns-clause-bug c = λ env old title message user is_user. (bug_too_large env old title message user is_user, bug_reported env old title message user is_user)
 
 pub returns-clause-edit : goal.returns-clause-edit
-returns-clause-edit c = λ env old edit word user kept now is_user bug op adds rules clock room. (
-  edit_too_large env old edit word user kept now is_user bug op adds rules clock room,
-  operation_reported env old edit word user kept now is_user bug op adds rules clock room,
-  name_reported env old edit word user kept now is_user bug op adds rules clock room,
+returns-clause-edit c = λ env old edit word user is_user bug op adds clock room. (
+  edit_too_large env old edit word user is_user bug op adds clock room,
+  operation_reported env old edit word user is_user bug op adds clock room,
+  name_reported env old edit word user is_user bug op adds clock room,
 )

@@ -1,8 +1,8 @@
 use Rattle.gb_store.specs.Files.{files_of}
 use Rattle.repo_state.specs.Users.{user_at}
-use Rattle.repo_steps.specs.NewOps.{create_op}
+use Rattle.bug_edits.specs.NewOps.{create_op}
 use Rattle.repo_steps.proofs.ClockOrderLemmas.{clocks_in_order}
 use Rattle.repo_steps.proofs.laws.create_clocks_are_written_first.Goals as goal
 
 pub returns : goal.returns
-returns c = λ env title message op old user is create edit. clocks_in_order env (files_of old) (create_op env title message) user (user_at (files_of old) env.folder) is create edit
+returns c = λ env title message op old user is create edit. clocks_in_order env (files_of old) (create_op env.moment title message) user (user_at (files_of old) env.folder) is create edit

@@ -1,3 +1,0 @@
-pub mod LabelLemmas
-pub mod OperationLemmas
-pub mod WordLemmas

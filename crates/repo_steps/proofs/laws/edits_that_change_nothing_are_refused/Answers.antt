@@ -1,8 +1,0 @@
-use Rattle.repo_steps.proofs.EffectLemmas.{nothing_is_refused, refused_as}
-use Rattle.repo_steps.proofs.laws.edits_that_change_nothing_are_refused.Goals as goal
-
-pub returns-clause-refused : goal.returns-clause-refused
-returns-clause-refused c = nothing_is_refused
-
-pub returns-clause-only : goal.returns-clause-only
-returns-clause-only c = refused_as
