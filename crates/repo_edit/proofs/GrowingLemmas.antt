@@ -1,5 +1,5 @@
 -- What is read of a bug is what an edit adds to.
-use Rattle.std.proofs.Common.{◌≡◌, ℕ, List, [], ◌∷◌, Ok, Err, inl, inr, refl, sym, ◌∙◌, ap, subst}
+use Rattle.std.proofs.Common.{◌≡◌, ℕ, List, [], ◌∷◌, Err, inl, inr, refl, sym, ◌∙◌, ap, subst}
 use Rattle.gb_text.specs.declared.id.Id.{Id}
 use Rattle.gb_store.specs.Files.{Files}
 use Rattle.object_store.specs.Held.{objects_in}
@@ -12,11 +12,16 @@ use Rattle.repo_state.specs.Bugs.{BugRefused, FindsBug, IsBug}
 use Rattle.repo_state.specs.Clocks.{clock_at}
 use Rattle.repo_state.specs.Finds.{FinderAnswers, bug_finder}
 use Rattle.repo_state.specs.Users.{BadUser, NoUser, User, user_at}
-use Rattle.repo_state.specs.declared.refusal.Refusal.TheVariants as refusal
-use Rattle.repo_state.specs.declared.refusal.Stop.{Stop}
-use Rattle.repo_state.specs.declared.refusal.Stop.TheVariants as stop
+use Rattle.repo_steps.specs.declared.refusal.Refusal.TheVariants as refusal
+use Rattle.repo_steps.specs.declared.refusal.Stop.{Stop}
+use Rattle.repo_steps.specs.declared.refusal.Stop.TheVariants as stop
 use Rattle.repo_state.specs.declared.clocks.ClockFile.TheVariants as file
 use Rattle.repo_state.specs.declared.side.HeadEntry.{HeadEntry}
+use Rattle.repo_state.specs.declared.stop.FindStop.{FindStop}
+use Rattle.repo_state.specs.declared.stop.FindStop.TheVariants as find
+use Rattle.repo_state.specs.declared.stop.ReadStop.{ReadStop}
+use Rattle.repo_state.specs.declared.stop.ReadStop.TheVariants as read
+use Rattle.repo_steps.specs.Stops.{stop_of_find, stop_of_read}
 use Rattle.repo_steps.proofs.PickLemmas.{no_entry}
 use Rattle.repo_edit.specs.Growing.{AuthorAnswers, GrowingAnswers, Grows}
 use Rattle.repo_state.proofs.BugLemmas.{edit_within}
@@ -58,14 +63,13 @@ module _ (files : Files) (folder word : List ℕ) where
     somebody e = cc (sym is_user ∙ e)
 
     -- the word finds no bug
-    pub growing_lost : (s : Stop) → FinderAnswers (bug_finder files folder word) (Err s) → GrowingAnswers files folder word (Err s)
-    growing_lost stop.Memory h = tt
-    growing_lost stop.Disk h = tt
-    growing_lost (stop.Refused r) h = (no_entry, inr (not_bad, inr (somebody, inl h)))
+    pub growing_lost : (why : FindStop) → FinderAnswers (bug_finder files folder word) (Err why) → GrowingAnswers files folder word (Err (stop_of_find why))
+    growing_lost find.Memory h = tt
+    growing_lost find.Disk h = tt
+    growing_lost (find.Missed missed) h = (no_entry, inr (not_bad, inr (somebody, inl (missed, h, refl))))
 
     -- something is wrong with the bug
-    pub growing_broken : (head : HeadEntry) → FindsBug files folder word head → (s : Stop) → BugRefused files folder head s → GrowingAnswers files folder word (Err s)
-    growing_broken head finds stop.Memory h = tt
-    growing_broken head finds stop.Disk h = tt
-    growing_broken head finds (stop.Refused (refusal.Damaged path)) h = (head, inr (not_bad, inr (somebody, inr (finds, inl (h.1, ap refusal.Damaged h.0)))))
-    growing_broken head finds (stop.Refused _) h = absurd h
+    pub growing_broken : (head : HeadEntry) → FindsBug files folder word head → (why : ReadStop) → BugRefused files folder head why → GrowingAnswers files folder word (Err (stop_of_read why))
+    growing_broken head finds read.Memory h = tt
+    growing_broken head finds read.Disk h = tt
+    growing_broken head finds (read.Damaged path) h = (head, inr (not_bad, inr (somebody, inr (finds, inl (h.1, ap refusal.Damaged h.0)))))

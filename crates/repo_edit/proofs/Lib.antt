@@ -1,5 +1,5 @@
-pub mod CallLemmas
 pub mod GrowingLemmas
+pub mod KeepsLemmas
 pub mod PlanBugLemmas
 pub mod PlanLemmas
 pub mod RepeatLemmas

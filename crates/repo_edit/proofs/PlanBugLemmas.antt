@@ -27,29 +27,31 @@ use Rattle.dag_entity.specs.Entities.{ops_in}
 use Rattle.dag_entity.specs.declared.appending.CommitPlan.{CommitPlan}
 use Rattle.repo_state.proofs.BugLemmas.{head_edit}
 use Rattle.repo_state.specs.Clocks.{clock_at, see_writes}
-use Rattle.repo_state.specs.Sides.{has_ref, head_at, ref_place}
-use Rattle.repo_state.specs.Stops.{stop_of_put}
-use Rattle.repo_state.specs.Users.{BadUser, NoUser, User, entry_by, user_at}
+use Rattle.repo_state.specs.Sides.{has_ref, ref_place}
+use Rattle.repo_steps.specs.Stops.{of_no_change, stop_of_edit, stop_of_put}
+use Rattle.repo_state.specs.Users.{BadUser, NoUser, User, user_at}
 use Rattle.repo_state.specs.declared.clocks.ClockFile.TheVariants as file
-use Rattle.repo_state.specs.declared.env.Env.{Env}
-use Rattle.repo_state.specs.declared.refusal.Refusal.{Refusal}
-use Rattle.repo_state.specs.declared.refusal.Refusal.TheVariants as refusal
-use Rattle.repo_state.specs.declared.refusal.Stop.{Stop}
-use Rattle.repo_state.specs.declared.refusal.Stop.TheVariants as stop
+use Rattle.repo_steps.specs.declared.env.Env.{Env}
+use Rattle.repo_steps.specs.declared.refusal.Refusal.{Refusal}
+use Rattle.repo_steps.specs.declared.refusal.Refusal.TheVariants as refusal
+use Rattle.repo_steps.specs.declared.refusal.Stop.{Stop}
+use Rattle.repo_steps.specs.declared.refusal.Stop.TheVariants as stop
 use Rattle.repo_state.specs.declared.side.HeadEntry.{HeadEntry}
 use Rattle.repo_state.specs.declared.side.Side.TheVariants as side
 use Rattle.repo_steps.specs.Answers.{Plans}
-use Rattle.repo_steps.specs.BugDoings.{addition_objects, addition_writes, begun_bug, bug_says, clock_room, commit_room, edit_adds, later_addition, later_by, new_operation, op_ids, root_addition, some_id}
-use Rattle.repo_steps.specs.BugEdits.{bad_edit, edit_op, noop_op}
+use Rattle.repo_steps.specs.BugDoings.{addition_objects, addition_writes, begun_bug, bug_says, clock_room, commit_room, edit_adds, later_addition, later_by, new_operation, one_op_pack, op_ids, root_addition, some_id}
+use Rattle.bug_edits.specs.Answers.{OpAnswers}
+use Rattle.bug_edits.specs.EditTable.{edit_op}
+use Rattle.bug_edits.specs.NewOps.{noop_op, op_id}
+use Rattle.bug_edits.specs.declared.edit.EditStop.{EditStop}
+use Rattle.bug_edits.specs.declared.edit.EditStop.TheVariants as unmade
 use Rattle.repo_steps.specs.Checks.{Check, FirstFails}
 use Rattle.repo_steps.specs.Doing.{names, sizes}
-use Rattle.repo_steps.specs.NewOps.{MayWriteOp, one_op_pack, op_id}
-use Rattle.repo_steps.specs.declared.edit.Addition.{Addition}
+use Rattle.repo_steps.specs.declared.plan.Addition.{Addition}
 use Rattle.repo_steps.specs.Picked.{Picked}
-use Rattle.repo_steps.specs.declared.edit.BugEdit.{BugEdit}
-use Rattle.repo_steps.specs.declared.edit.Plan.{Plan}
-use Rattle.repo_edit.specs.Additions.{AddsCommit}
-use Rattle.edit_ops.specs.Answers.{OpAnswers}
+use Rattle.bug_edits.specs.declared.edit.BugEdit.{BugEdit}
+use Rattle.repo_steps.specs.declared.plan.Plan.{Plan}
+use Rattle.repo_edit.specs.Adding.{AddsHead}
 use Rattle.repo_steps.proofs.PickLemmas.{no_pick}
 use Rattle.repo_edit.specs.Growing.{AuthorAnswers, EditPlans, GrowingAnswers, GrownPlans, Grows, RoomAnswers, grown_checks, grown_objects, growing_checks, has_id}
 use Rattle.repo_edit.specs.declared.growing.Growing.{Growing}
@@ -67,7 +69,7 @@ module _ (env : Env) (g : Growing) (edit : ℕ) (op : BugOp) (old : History) whe
   abbrev pack : Pack BugOp
   pack = one_op_pack g.author edit None op
 
-  module _ (plan : CommitPlan) (plans : AppendPlanAnswers bug_kind (g.head.name ∷ []) pack env.now (Ok plan)) (id : Id) (is : id ≡ op_id op)
+  module _ (plan : CommitPlan) (plans : AppendPlanAnswers bug_kind (g.head.name ∷ []) pack env.moment.now (Ok plan)) (id : Id) (is : id ≡ op_id op)
       (b : Bool) (has : b ≡ list_any (has_id bug_kind id) g.ops) where
     -- the bug has the operation
     pub grown_repeated : b ≡ true → GrownPlans env g edit op old (Err (stop.Refused (refusal.RepeatedOperation id)))
@@ -83,35 +85,37 @@ module _ (env : Env) (g : Growing) (edit : ℕ) (op : BugOp) (old : History) whe
       planned : (P : List (List ℕ) → Type 0) → P plan.objects → P (grown_objects env g edit op)
       planned P = subst (λ (p : CommitPlan). P p.objects) plans.0
 
+      abbrev AddsGrown : History → Result (Vec Change Global) PutFault → Type 0
+      AddsGrown at r = AddsHead env.folder side.Bugs g.head.id plan.head plan.objects at r
+
       -- an object is refused
-      pub grown_taken : (s : Stop) → AddsCommit env.folder g.head.id plan late (Err s) → GrownPlans env g edit op old (Err s)
-      grown_taken s adds = each s (subst (λ (h : History). AddsCommit env.folder g.head.id plan h (Err s)) later adds)
+      pub grown_taken : (f : PutFault) → AddsGrown late (Err f) → GrownPlans env g edit op old (Err (stop_of_put f))
+      grown_taken f adds = each f (subst (λ (h : History). AddsGrown h (Err f)) later adds)
         where
-          each : (s : Stop) → AddsCommit env.folder g.head.id plan old (Err s) → GrownPlans env g edit op old (Err s)
-          each stop.Memory h = tt
-          each stop.Disk h = tt
-          each (stop.Refused (refusal.TooLarge count)) h = inl (planned HasLong h.1, ap refusal.TooLarge h.0)
-          each (stop.Refused (refusal.NameTaken taken)) h = inr (plans.1, inr (fresh, inl (taken, planned (λ ts. CannotHave env.folder ts old taken) h, refl)))
-          each (stop.Refused _) h = absurd h
+          each : (f : PutFault) → AddsGrown old (Err f) → GrownPlans env g edit op old (Err (stop_of_put f))
+          each fault.Memory h = tt
+          each fault.Disk h = tt
+          each (fault.Large count) h = inl (planned HasLong h.1, ap refusal.TooLarge h.0)
+          each (fault.Taken taken) h = inr (plans.1, inr (fresh, inl (taken, planned (λ ts. CannotHave env.folder ts old taken) h.1, refl)))
 
       -- the plan
-      pub grown_planned : (added : Vec Change Global) (all : List Change) → AddsCommit env.folder g.head.id plan late (Ok added)
+      pub grown_planned : (added : Vec Change Global) (all : List Change) → AddsGrown late (Ok added)
           → all ≡ added.items ++ see_writes env.folder file.BugsEdit g.seen edit → GrownPlans env g edit op old (Ok (record { writes = all; id = id }))
       grown_planned added all adds writes =
-          let here = subst (λ (h : History). AddsCommit env.folder g.head.id plan h (Ok added)) later adds in
+          let here = subst (λ (h : History). AddsGrown h (Ok added)) later adds in
           let may = planned (λ ts. MayBePut env.folder ts old) here.0 in (
             (plans.1, (fresh, (may, tt))),
             writes
                 ∙ ap (λ (ws : List Change). ws ++ see_writes env.folder file.BugsEdit g.seen edit)
                 (here.1 ∙ ap (λ (p : CommitPlan). missing_writes env.folder p.objects (files_of old) ++ ref_write env.folder (ref_place side.Bugs g.head.id) p.head ∷ []) plans.0)
                 ∙ append_assoc (missing_writes env.folder (grown_objects env g edit op) (files_of old))
-                (ref_write env.folder (ref_place side.Bugs g.head.id) (appended_name bug_kind (g.head.name ∷ []) pack env.now) ∷ []) (see_writes env.folder file.BugsEdit g.seen edit),
+                (ref_write env.folder (ref_place side.Bugs g.head.id) (appended_name bug_kind (g.head.name ∷ []) pack env.moment.now) ∷ []) (see_writes env.folder file.BugsEdit g.seen edit),
             sym is,
           )
 
 -- ---- an edit of a bug that stands
 
-module _ (env : Env) (edit : BugEdit) (word : List ℕ) (old : History) (moment : env.now ≤ GREATEST_TIME) (good : bad_edit edit ≡ None) where
+module _ (env : Env) (edit : BugEdit) (word : List ℕ) (old : History) where
   abbrev files : Files
   files = files_of old
 
@@ -124,17 +128,17 @@ module _ (env : Env) (edit : BugEdit) (word : List ℕ) (old : History) (moment 
       edit_adds env files word edit op ∷
       clock_room env.folder files word ∷
       commit_room env.folder files word ∷
-      sizes (addition_objects env.now (addition bug op)) ∷
+      sizes (addition_objects env.moment.now (addition bug op)) ∷
       new_operation env.folder files word op ∷
-      names env.folder (addition_objects env.now (addition bug op)) old ∷ []
+      names env.folder (addition_objects env.moment.now (addition bug op)) old ∷ []
 
   -- there is no user or no bug
   pub edit_barred : (s : Stop) → GrowingAnswers (files_of old) env.folder word (Err s) → EditPlans env edit word old (Err s)
   edit_barred stop.Memory h = (no_pick env, tt)
   edit_barred stop.Disk h = (no_pick env, tt)
   edit_barred (stop.Refused r) (bug, h) = (
-    record { op = noop_op env; bug = bug; person = bug.id },
-    inr ((good, moment), more_fail (growing_checks files env.folder word bug) (later_checks bug (noop_op env)) r h),
+    record { op = noop_op env.moment; bug = bug; person = bug.id },
+    more_fail (growing_checks files env.folder word bug) (later_checks bug (noop_op env.moment)) r h,
   )
 
   module _ (g : Growing) (grows : Grows (files_of old) env.folder word g) where
@@ -150,21 +154,21 @@ module _ (env : Env) (edit : BugEdit) (word : List ℕ) (old : History) (moment 
 
     -- what is refused once the bug was read
     refused : (op : BugOp) (r : Refusal) → FirstFails (later_checks grows.bug.bug op) r → EditPlans env edit word old (Err (stop.Refused r))
-    refused op r fails = (picked op, inr ((good, moment), inr (not_bad, inr (some, inr (grows.bug.finds, inr ((grows.bug.entity, grows.bug.is), fails))))))
+    refused op r fails = (picked op, inr (not_bad, inr (some, inr (grows.bug.finds, inr ((grows.bug.entity, grows.bug.is), fails)))))
 
     -- what the bug says is what its operations say
     says : (P : Snapshot → Type 0) → P (snapshot_of g.ops) → P (bug_says grows.bug.entity)
     says P = subst (λ (ops : List BugOp). P (snapshot_of ops)) (sym grows.are_ops)
 
     -- the edit adds nothing
-    pub edit_unmade : (s : Stop) → OpAnswers env edit (snapshot_of g.ops) (Err s) → EditPlans env edit word old (Err s)
-    edit_unmade stop.Memory h = (no_pick env, tt)
-    edit_unmade stop.Disk h = absurd h
-    edit_unmade (stop.Refused r) h = refused (noop_op env) r (inl (grows.bug, says (λ bug. edit_op env edit bug ≡ Err r) h))
+    pub edit_unmade : (why : EditStop) → OpAnswers env.moment edit (snapshot_of g.ops) (Err why) → EditPlans env edit word old (Err (stop_of_edit why))
+    edit_unmade unmade.Memory h = (no_pick env, tt)
+    edit_unmade (unmade.NoChange why) h =
+        refused (noop_op env.moment) (of_no_change why) (inl (grows.bug, why, says (λ bug. edit_op env.moment edit bug ≡ Err why) h, refl))
 
-    module _ (op : BugOp) (makes : edit_op env edit (snapshot_of g.ops) ≡ Ok op) (rules : MayWriteOp op) where
+    module _ (op : BugOp) (makes : edit_op env.moment edit (snapshot_of g.ops) ≡ Ok op) where
       adds : (edit_adds env files word edit op).Passes
-      adds = (grows.bug, says (λ bug. edit_op env edit bug ≡ Ok op) makes, rules)
+      adds = (grows.bug, says (λ bug. edit_op env.moment edit bug ≡ Ok op) makes)
 
       -- no clock is left, or there is no room
       pub edit_full : (s : Stop) → RoomAnswers g.seen g.head.name g.edit g.commits (Err s) → EditPlans env edit word old (Err s)
@@ -196,8 +200,8 @@ module _ (env : Env) (edit : BugEdit) (word : List ℕ) (old : History) (moment 
             ∙ ap (λ (head : HeadEntry). later_of head grows.bug.entity.edit) grows.is_head
             ∙ ap (λ (edit : ℕ). Some (record { bug = g.head.id; parents = g.head.name ∷ []; pack = one_op_pack g.author edit None op })) (sym clock_is)
 
-        objects_are : (P : List (List ℕ) → Type 0) → P (grown_objects env g clock op) → P (addition_objects env.now (addition grows.bug.bug op))
-        objects_are P = subst (λ (a : Option Addition). P (addition_objects env.now a)) (sym addition_is)
+        objects_are : (P : List (List ℕ) → Type 0) → P (grown_objects env g clock op) → P (addition_objects env.moment.now (addition grows.bug.bug op))
+        objects_are P = subst (λ (a : Option Addition). P (addition_objects env.moment.now a)) (sym addition_is)
 
         clock_left : grows.bug.entity.edit ≡ GREATEST_TIME → ⊥
         clock_left full = omega (arith, has_room.0, full, grows.is_edit)
@@ -213,40 +217,37 @@ module _ (env : Env) (edit : BugEdit) (word : List ℕ) (old : History) (moment 
         repeats_ops = subst (λ (ops : List BugOp). Contains (op_ids ops) (op_id op)) grows.are_ops
 
         -- what is refused of the commit
-        unmade : (r : Refusal) → FirstFails (grown_checks env g clock op old) r
-            → FirstFails (sizes (addition_objects env.now (addition grows.bug.bug op)) ∷ new_operation env.folder files word op ∷ names env.folder (addition_objects env.now (addition grows.bug.bug op)) old ∷ []) r
-        unmade r (inl long) = inl (objects_are HasLong long.0, long.1)
-        unmade r (inr (short, inl repeated)) = inr (objects_are (All IsShort) short, inl (grows.bug, repeats_bug repeated.0, repeated.1))
-        unmade r (inr (short, inr (fresh, inl (name, cannot, is)))) =
+        commit_refused : (r : Refusal) → FirstFails (grown_checks env g clock op old) r
+            → FirstFails (sizes (addition_objects env.moment.now (addition grows.bug.bug op)) ∷ new_operation env.folder files word op ∷ names env.folder (addition_objects env.moment.now (addition grows.bug.bug op)) old ∷ []) r
+        commit_refused r (inl long) = inl (objects_are HasLong long.0, long.1)
+        commit_refused r (inr (short, inl repeated)) = inr (objects_are (All IsShort) short, inl (grows.bug, repeats_bug repeated.0, repeated.1))
+        commit_refused r (inr (short, inr (fresh, inl (name, cannot, is)))) =
             inr (objects_are (All IsShort) short, inr ((grows.bug, λ stands. fresh (repeats_ops stands)), inl (name, objects_are (λ ts. CannotHave env.folder ts old name) cannot, is)))
-        unmade r (inr (short, inr (fresh, inr none))) = absurd none.1
+        commit_refused r (inr (short, inr (fresh, inr none))) = absurd none.1
 
         -- the plan of the commit is that of the edit
         pub edit_planned : (r : Result Plan Stop) → GrownPlans env g clock op old r → EditPlans env edit word old r
         edit_planned (Err stop.Memory) h = (picked op, tt)
         edit_planned (Err stop.Disk) h = (picked op, tt)
-        edit_planned (Err (stop.Refused r)) h = refused op r (inr (adds, inr ((grows.bug, clock_left), inr ((grows.bug, room_left), unmade r h))))
+        edit_planned (Err (stop.Refused r)) h = refused op r (inr (adds, inr ((grows.bug, clock_left), inr ((grows.bug, room_left), commit_refused r h))))
         edit_planned (Ok plan) h = (
           picked op,
           (
             (
-              (good, moment),
+              not_bad,
               (
-                not_bad,
+                some,
                 (
-                  some,
+                  grows.bug.finds,
                   (
-                    grows.bug.finds,
+                    (grows.bug.entity, grows.bug.is),
                     (
-                      (grows.bug.entity, grows.bug.is),
+                      adds,
                       (
-                        adds,
+                        (grows.bug, clock_left),
                         (
-                          (grows.bug, clock_left),
-                          (
-                            (grows.bug, room_left),
-                            (objects_are (All IsShort) h.0.0, ((grows.bug, λ stands. h.0.1.0 (repeats_ops stands)), (objects_are (λ ts. MayBePut env.folder ts old) h.0.1.1.0, tt))),
-                          ),
+                          (grows.bug, room_left),
+                          (objects_are (All IsShort) h.0.0, ((grows.bug, λ stands. h.0.1.0 (repeats_ops stands)), (objects_are (λ ts. MayBePut env.folder ts old) h.0.1.1.0, tt))),
                         ),
                       ),
                     ),
@@ -256,7 +257,7 @@ module _ (env : Env) (edit : BugEdit) (word : List ℕ) (old : History) (moment 
             ),
             h.1
                 ∙ ap (λ (seen : ℕ). missing_writes env.folder (grown_objects env g clock op) files
-                ++ ref_write env.folder (ref_place side.Bugs g.head.id) (appended_name bug_kind (g.head.name ∷ []) (one_op_pack g.author clock None op) env.now)
+                ++ ref_write env.folder (ref_place side.Bugs g.head.id) (appended_name bug_kind (g.head.name ∷ []) (one_op_pack g.author clock None op) env.moment.now)
                 ∷ see_writes env.folder file.BugsEdit seen clock) grows.is_seen
                 ∙ ap (addition_writes env files) (sym addition_is),
             ap Some h.2,
@@ -265,13 +266,13 @@ module _ (env : Env) (edit : BugEdit) (word : List ℕ) (old : History) (moment 
 
 -- ---- a new bug
 
-module _ (env : Env) (op : BugOp) (old : History) (rules : MayWriteOp op) where
+module _ (env : Env) (op : BugOp) (old : History) where
   -- there is no author
-  pub begun_nobody : (s : Stop) → AuthorAnswers (files_of old) env.folder (Err s) → Plans (begun_bug env None op old) (Err s)
+  pub begun_nobody : (s : Stop) → AuthorAnswers (files_of old) env.folder (Err s) → Plans (begun_bug env op old) (Err s)
   begun_nobody stop.Memory h = tt
   begun_nobody stop.Disk h = tt
-  begun_nobody (stop.Refused refusal.NoUser) none = inr ((refl, rules), inr ((λ e. cc (sym none ∙ e)), inl (none, refl)))
-  begun_nobody (stop.Refused (refusal.Damaged path)) h = inr ((refl, rules), inl (h.1, ap refusal.Damaged h.0))
+  begun_nobody (stop.Refused refusal.NoUser) none = inr ((λ e. cc (sym none ∙ e)), inl (none, refl))
+  begun_nobody (stop.Refused (refusal.Damaged path)) h = inl (h.1, ap refusal.Damaged h.0)
   begun_nobody (stop.Refused _) h = absurd h
 
   module _ (author : Id) (is_user : user_at (files_of old) env.folder ≡ User author) (create edit : ℕ)
@@ -281,10 +282,10 @@ module _ (env : Env) (op : BugOp) (old : History) (rules : MayWriteOp op) where
 
     -- what is planned with the clocks of a root is what the command makes
     pub packed_at : (r : Result CommitPlan PutFault) (later opened : ℕ) → later ≡ root_time_of edit → opened ≡ root_time_of create
-        → AppendPlanAnswers bug_kind [] (one_op_pack author later (Some opened) op) env.now r → AppendPlanAnswers bug_kind [] root_pack env.now r
+        → AppendPlanAnswers bug_kind [] (one_op_pack author later (Some opened) op) env.moment.now r → AppendPlanAnswers bug_kind [] root_pack env.moment.now r
     packed_at r later opened is_later is_opened h =
-        subst (λ (n : ℕ). AppendPlanAnswers bug_kind [] (one_op_pack author (root_time_of edit) (Some n) op) env.now r) is_opened
-        (subst (λ (n : ℕ). AppendPlanAnswers bug_kind [] (one_op_pack author n (Some opened) op) env.now r) is_later h)
+        subst (λ (n : ℕ). AppendPlanAnswers bug_kind [] (one_op_pack author (root_time_of edit) (Some n) op) env.moment.now r) is_opened
+        (subst (λ (n : ℕ). AppendPlanAnswers bug_kind [] (one_op_pack author n (Some opened) op) env.moment.now r) is_later h)
 
     -- what is added
     abbrev root : Addition
@@ -299,8 +300,8 @@ module _ (env : Env) (op : BugOp) (old : History) (rules : MayWriteOp op) where
         ∙ ap (λ (clock : ℕ). Some (record { bug = op_id op; parents = []; pack = one_op_pack author (root_time_of clock) (Some (root_time_of (clock_at (files_of old) env.folder file.BugsCreate))) op })) (sym is_edit)
         ∙ ap (λ (clock : ℕ). Some (record { bug = op_id op; parents = []; pack = one_op_pack author (root_time_of edit) (Some (root_time_of clock)) op })) (sym is_create)
 
-    root_objects : (P : List (List ℕ) → Type 0) → P (appended_objects bug_kind [] root_pack env.now) → P (addition_objects env.now roots)
-    root_objects P = subst (λ (a : Option Addition). P (addition_objects env.now a)) (sym roots_are)
+    root_objects : (P : List (List ℕ) → Type 0) → P (appended_objects bug_kind [] root_pack env.moment.now) → P (addition_objects env.moment.now roots)
+    root_objects P = subst (λ (a : Option Addition). P (addition_objects env.moment.now a)) (sym roots_are)
 
     sound : user_at (files_of old) env.folder ≡ BadUser → ⊥
     sound e = cc (sym is_user ∙ e)
@@ -309,47 +310,49 @@ module _ (env : Env) (op : BugOp) (old : History) (rules : MayWriteOp op) where
     somebody e = cc (sym is_user ∙ e)
 
     -- an object is too large
-    pub begun_large : (f : PutFault) → AppendPlanAnswers bug_kind [] root_pack env.now (Err f) → Plans (begun_bug env None op old) (Err (stop_of_put f))
+    pub begun_large : (f : PutFault) → AppendPlanAnswers bug_kind [] root_pack env.moment.now (Err f) → Plans (begun_bug env op old) (Err (stop_of_put f))
     begun_large fault.Memory h = tt
     begun_large fault.Disk h = absurd h
-    begun_large (fault.Large count) h = inr ((refl, rules), inr (sound, inr (somebody, inl (root_objects HasLong h.1, ap refusal.TooLarge h.0))))
+    begun_large (fault.Large count) h = inr (sound, inr (somebody, inl (root_objects HasLong h.1, ap refusal.TooLarge h.0)))
     begun_large (fault.Taken name) h = absurd h
 
-    module _ (plan : CommitPlan) (plans : AppendPlanAnswers bug_kind [] root_pack env.now (Ok plan)) (id : Id) (is : id ≡ op_id op) where
+    module _ (plan : CommitPlan) (plans : AppendPlanAnswers bug_kind [] root_pack env.moment.now (Ok plan)) (id : Id) (is : id ≡ op_id op) where
       has_at : (b : Bool) → has_ref (files_of old) env.folder side.Bugs id ≡ b → has_ref (files_of old) env.folder side.Bugs (op_id op) ≡ b
       has_at b = subst (λ (i : Id). has_ref (files_of old) env.folder side.Bugs i ≡ b) is
 
       -- of the plan's objects what is so is so of the command's
-      from_plan : (P : List (List ℕ) → Type 0) → P plan.objects → P (addition_objects env.now roots)
+      from_plan : (P : List (List ℕ) → Type 0) → P plan.objects → P (addition_objects env.moment.now roots)
       from_plan P h = root_objects P (subst (λ (p : CommitPlan). P p.objects) plans.0 h)
 
       -- the bug stands already
-      pub begun_exists : has_ref (files_of old) env.folder side.Bugs id ≡ true → Plans (begun_bug env None op old) (Err (stop.Refused (refusal.EntityExists id)))
+      pub begun_exists : has_ref (files_of old) env.folder side.Bugs id ≡ true → Plans (begun_bug env op old) (Err (stop.Refused (refusal.EntityExists id)))
       begun_exists stands =
-          inr ((refl, rules), inr (sound, inr (somebody, inr (root_objects (All IsShort) plans.1, inl (has_at true stands, ap refusal.EntityExists is)))))
+          inr (sound, inr (somebody, inr (root_objects (All IsShort) plans.1, inl (has_at true stands, ap refusal.EntityExists is))))
 
       module _ (absent : has_ref (files_of old) env.folder side.Bugs id ≡ false) (late : History) (later : late ≡ old) where
+        abbrev AddsRoot : History → Result (Vec Change Global) PutFault → Type 0
+        AddsRoot at r = AddsHead env.folder side.Bugs id plan.head plan.objects at r
+
         -- an object is refused
-        pub begun_taken : (s : Stop) → AddsCommit env.folder id plan late (Err s) → Plans (begun_bug env None op old) (Err s)
-        begun_taken s adds = each s (subst (λ (h : History). AddsCommit env.folder id plan h (Err s)) later adds)
+        pub begun_taken : (f : PutFault) → AddsRoot late (Err f) → Plans (begun_bug env op old) (Err (stop_of_put f))
+        begun_taken f adds = each f (subst (λ (h : History). AddsRoot h (Err f)) later adds)
           where
-            each : (s : Stop) → AddsCommit env.folder id plan old (Err s) → Plans (begun_bug env None op old) (Err s)
-            each stop.Memory h = tt
-            each stop.Disk h = tt
-            each (stop.Refused (refusal.TooLarge count)) h = inr ((refl, rules), inr (sound, inr (somebody, inl (from_plan HasLong h.1, ap refusal.TooLarge h.0))))
-            each (stop.Refused (refusal.NameTaken taken)) h =
-                inr ((refl, rules), inr (sound, inr (somebody, inr (root_objects (All IsShort) plans.1, inr (has_at false absent, inl (taken, from_plan (λ ts. CannotHave env.folder ts old taken) h, refl))))))
-            each (stop.Refused _) h = absurd h
+            each : (f : PutFault) → AddsRoot old (Err f) → Plans (begun_bug env op old) (Err (stop_of_put f))
+            each fault.Memory h = tt
+            each fault.Disk h = tt
+            each (fault.Large count) h = inr (sound, inr (somebody, inl (from_plan HasLong h.1, ap refusal.TooLarge h.0)))
+            each (fault.Taken taken) h =
+                inr (sound, inr (somebody, inr (root_objects (All IsShort) plans.1, inr (has_at false absent, inl (taken, from_plan (λ ts. CannotHave env.folder ts old taken) h.1, refl)))))
 
         -- what is written of it
-        here : (added : Vec Change Global) → AddsCommit env.folder id plan late (Ok added) → AddsCommit env.folder id plan old (Ok added)
-        here added = subst (λ (h : History). AddsCommit env.folder id plan h (Ok added)) later
+        here : (added : Vec Change Global) → AddsRoot late (Ok added) → AddsRoot old (Ok added)
+        here added = subst (λ (h : History). AddsRoot h (Ok added)) later
 
         abbrev missing : List Change
-        missing = missing_writes env.folder (appended_objects bug_kind [] root_pack env.now) (files_of old)
+        missing = missing_writes env.folder (appended_objects bug_kind [] root_pack env.moment.now) (files_of old)
 
         abbrev head : Change
-        head = ref_write env.folder (ref_place side.Bugs (op_id op)) (appended_name bug_kind [] root_pack env.now)
+        head = ref_write env.folder (ref_place side.Bugs (op_id op)) (appended_name bug_kind [] root_pack env.moment.now)
 
         abbrev seen_create : List Change
         seen_create = see_writes env.folder file.BugsCreate create (root_time_of create)
@@ -357,11 +360,11 @@ module _ (env : Env) (op : BugOp) (old : History) (rules : MayWriteOp op) where
         abbrev seen_edit : List Change
         seen_edit = see_writes env.folder file.BugsEdit edit (root_time_of edit)
 
-        written : (added : Vec Change Global) → AddsCommit env.folder id plan late (Ok added) → added.items ≡ missing ++ head ∷ []
+        written : (added : Vec Change Global) → AddsRoot late (Ok added) → added.items ≡ missing ++ head ∷ []
         written added adds =
             (here added adds).1
             ∙ ap (λ (p : CommitPlan). missing_writes env.folder p.objects (files_of old) ++ ref_write env.folder (ref_place side.Bugs id) p.head ∷ []) plans.0
-            ∙ ap (λ (i : Id). missing ++ ref_write env.folder (ref_place side.Bugs i) (appended_name bug_kind [] root_pack env.now) ∷ []) is
+            ∙ ap (λ (i : Id). missing ++ ref_write env.folder (ref_place side.Bugs i) (appended_name bug_kind [] root_pack env.moment.now) ∷ []) is
 
         joined : (missing ++ head ∷ []) ++ seen_create ++ seen_edit ≡ missing ++ head ∷ (seen_create ++ seen_edit)
         joined = ap (λ (ws : List Change). ws ++ seen_edit) (append_assoc missing (head ∷ []) seen_create) ∙ append_assoc missing (head ∷ seen_create) seen_edit
@@ -372,11 +375,11 @@ module _ (env : Env) (op : BugOp) (old : History) (rules : MayWriteOp op) where
             ∙ ap (λ (clock : ℕ). missing ++ head ∷ (see_writes env.folder file.BugsCreate (clock_at (files_of old) env.folder file.BugsCreate) (root_time_of create) ++ see_writes env.folder file.BugsEdit clock (root_time_of edit))) is_edit
 
         -- the plan
-        pub begun_planned : (added : Vec Change Global) (all : List Change) → AddsCommit env.folder id plan late (Ok added)
+        pub begun_planned : (added : Vec Change Global) (all : List Change) → AddsRoot late (Ok added)
             → all ≡ added.items ++ see_writes env.folder file.BugsCreate create (root_time_of create) ++ see_writes env.folder file.BugsEdit edit (root_time_of edit)
-            → Plans (begun_bug env None op old) (Ok (record { writes = all; id = id }))
+            → Plans (begun_bug env op old) (Ok (record { writes = all; id = id }))
         begun_planned added all adds writes = (
-          ((refl, rules), (sound, (somebody, (root_objects (All IsShort) plans.1, (has_at false absent, (from_plan (λ ts. MayBePut env.folder ts old) (here added adds).0, tt)))))),
+          (sound, (somebody, (root_objects (All IsShort) plans.1, (has_at false absent, (from_plan (λ ts. MayBePut env.folder ts old) (here added adds).0, tt))))),
           writes ∙ ap (λ (ws : List Change). ws ++ seen_create ++ seen_edit) (written added adds) ∙ joined ∙ clocks ∙ ap (addition_writes env (files_of old)) (sym roots_are),
           ap Some (sym is),
         )

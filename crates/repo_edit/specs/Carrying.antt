@@ -3,9 +3,9 @@ use Rattle.std.specs.Prelude.{◌≡◌, ◌++◌, reverse, Result, Ok, Err}
 use Rattle.gb_text.specs.declared.id.Id.{Id}
 use Rattle.gb_store.specs.Files.{History}
 use Rattle.gb_store.specs.Moments.{WroteSome}
-use Rattle.repo_state.specs.declared.refusal.Stop.{Stop}
-use Rattle.repo_state.specs.declared.refusal.Stop.TheVariants as stop
-use Rattle.repo_steps.specs.declared.edit.Plan.{Plan}
+use Rattle.repo_steps.specs.declared.refusal.Stop.{Stop}
+use Rattle.repo_steps.specs.declared.refusal.Stop.TheVariants as stop
+use Rattle.repo_steps.specs.declared.plan.Plan.{Plan}
 
 -- all writes were made, and the plan's id is told; or the first were
 abbrev pub Carries : Plan → History → History → Result Id Stop → Type 0

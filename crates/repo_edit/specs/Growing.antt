@@ -12,6 +12,7 @@ use Rattle.ref_store.specs.Setting.{ref_write}
 use Rattle.commit_walk.specs.declared.below.TheConstants.{MOST_COMMITS}
 use Rattle.lamport.specs.Clock.{edit_time_of}
 use Rattle.op_kind.specs.Meaning.{Meaning}
+use Rattle.bug_edits.specs.NewOps.{op_id}
 use Rattle.bug_ops.specs.Kind.{bug_kind}
 use Rattle.bug_ops.specs.declared.op.BugOp.{BugOp}
 use Rattle.snapshot.specs.LastMention.{IsBugList}
@@ -19,25 +20,26 @@ use Rattle.dag_entity.specs.Appending.{appended_name, appended_objects}
 use Rattle.dag_entity.specs.Entities.{ops_in}
 use Rattle.repo_state.specs.Bugs.{FindsBug, ReadsBelow}
 use Rattle.repo_state.specs.Clocks.{clock_at, see_writes}
-use Rattle.repo_state.specs.Finds.{FinderAnswers, bug_finder, person_finder}
+use Rattle.repo_state.specs.Finds.{bug_finder, person_finder}
 use Rattle.repo_state.specs.Sides.{ref_place}
 use Rattle.repo_state.specs.Users.{BadUser, NoUser, User, user_at, user_place}
 use Rattle.repo_state.specs.declared.clocks.ClockFile.TheVariants as file
-use Rattle.repo_state.specs.declared.env.Env.{Env}
-use Rattle.repo_state.specs.declared.refusal.Refusal.TheVariants as refusal
-use Rattle.repo_state.specs.declared.refusal.Stop.{Stop}
-use Rattle.repo_state.specs.declared.refusal.Stop.TheVariants as stop
+use Rattle.repo_steps.specs.declared.env.Env.{Env}
+use Rattle.repo_steps.specs.declared.refusal.Refusal.TheVariants as refusal
+use Rattle.repo_steps.specs.declared.refusal.Stop.{Stop}
+use Rattle.repo_steps.specs.declared.refusal.Stop.TheVariants as stop
 use Rattle.repo_state.specs.declared.side.HeadEntry.{HeadEntry}
 use Rattle.repo_state.specs.declared.side.Side.TheVariants as side
+use Rattle.repo_state.specs.declared.stop.Missed.{Missed}
 use Rattle.repo_steps.specs.Answers.{Plans}
-use Rattle.repo_steps.specs.BugDoings.{HasBug, bug_reads, longer_bug, op_ids}
+use Rattle.repo_steps.specs.BugDoings.{HasBug, bug_reads, longer_bug, one_op_pack, op_ids}
 use Rattle.repo_steps.specs.Checks.{AllPass, Check, FirstFails}
 use Rattle.repo_steps.specs.Doing.{found, names, sizes, some_user, user_file}
-use Rattle.repo_steps.specs.NewOps.{one_op_pack, op_id}
+use Rattle.repo_steps.specs.Stops.{of_missed}
 use Rattle.repo_steps.specs.PeopleDoings.{set_user}
 use Rattle.repo_steps.specs.Picked.{Picked}
-use Rattle.repo_steps.specs.declared.edit.BugEdit.{BugEdit}
-use Rattle.repo_steps.specs.declared.edit.Plan.{Plan}
+use Rattle.bug_edits.specs.declared.edit.BugEdit.{BugEdit}
+use Rattle.repo_steps.specs.declared.plan.Plan.{Plan}
 use Rattle.repo_edit.specs.declared.growing.Beginning.{Beginning}
 use Rattle.repo_edit.specs.declared.growing.Growing.{Growing}
 
@@ -103,7 +105,7 @@ ReadsGrowing files folder word before after (Err s) =
 
 -- the objects of the commit that adds an operation to a bug, with an edit clock
 abbrev pub grown_objects : Env → Growing → ℕ → BugOp → List (List ℕ)
-grown_objects env g edit op = appended_objects bug_kind (g.head.name ∷ []) (one_op_pack g.author edit None op) env.now
+grown_objects env g edit op = appended_objects bug_kind (g.head.name ∷ []) (one_op_pack g.author edit None op) env.moment.now
 
 -- the operation is new
 abbrev pub is_new : Growing → BugOp → Check
@@ -120,7 +122,7 @@ grown_checks env g edit op old = sizes (grown_objects env g edit op) ∷ is_new 
 abbrev pub grown_writes : Env → Growing → ℕ → BugOp → Files → List Change
 grown_writes env g edit op files =
     missing_writes env.folder (grown_objects env g edit op) files
-    ++ ref_write env.folder (ref_place side.Bugs g.head.id) (appended_name bug_kind (g.head.name ∷ []) (one_op_pack g.author edit None op) env.now)
+    ++ ref_write env.folder (ref_place side.Bugs g.head.id) (appended_name bug_kind (g.head.name ∷ []) (one_op_pack g.author edit None op) env.moment.now)
     ∷ see_writes env.folder file.BugsEdit g.seen edit
 
 -- the plan that adds an operation to a bug, or why there is none
@@ -137,7 +139,9 @@ EditPlans env edit word old result = (picked : Picked) × Plans (longer_bug env 
 -- the plan that makes the person whom a word finds the user, or why there is none
 abbrev pub SetPlans : Env → List ℕ → History → Result Plan Stop → Type 0
 SetPlans env word old (Ok plan) = Plans (set_user env word plan.id old) (Ok plan)
-SetPlans env word old (Err s) = FinderAnswers (person_finder (files_of old) env.folder word) (Err s)
+SetPlans env word old (Err stop.Memory) = ⊤
+SetPlans env word old (Err stop.Disk) = ⊤
+SetPlans env word old (Err (stop.Refused r)) = (why : Missed) × (person_finder (files_of old) env.folder word).Fails why × (r ≡ of_missed why)
 
 -- an operation of a kind has this id
 abbrev pub has_id : {Op State Row : Type 0} → Meaning Op State Row → Id → Op → Bool

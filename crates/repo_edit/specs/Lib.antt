@@ -1,5 +1,4 @@
 pub mod Adding
-pub mod Additions
 pub mod Carrying
 pub mod Growing
 pub mod Reads

@@ -1,14 +1,19 @@
 -- How many objects a command that edits reads.
-use Rattle.std.specs.Prelude.{◌≡◌, ◌≤◌, ◌<◌, ◌+◌, ◌*◌, ◌⊎◌, ℕ, List, length, Some}
-use Rattle.gb_store.specs.Files.{Files}
+use Rattle.std.specs.Prelude.{◌≡◌, ◌≤◌, ◌<◌, ◌+◌, ◌*◌, ◌⊎◌, ℕ, List, length, Some, Result}
+use Rattle.gb_text.specs.declared.id.Id.{Id}
+use Rattle.gb_store.specs.Files.{Files, History, files_of}
 use Rattle.object_store.specs.Held.{objects_in}
 use Rattle.commit_walk.specs.declared.below.TheConstants.{MOST_COMMITS}
+use Rattle.bug_edits.specs.declared.edit.BugEdit.{BugEdit}
 use Rattle.identity.specs.Persons.{IsChain}
 use Rattle.repo_state.specs.Bugs.{FindsBug, ReadsBelow}
 use Rattle.repo_state.specs.Users.{user_entry}
 use Rattle.repo_state.specs.declared.side.HeadEntry.{HeadEntry}
-use Rattle.repo_steps.specs.declared.edit.Edit.{Edit}
-use Rattle.repo_steps.specs.declared.edit.Edit.TheVariants.{New, OfBug, UserEdit, UserNew, UserSet}
+use Rattle.repo_steps.specs.Doings.{BugEditAnswers}
+use Rattle.words.specs.declared.edit.Edit.{Edit}
+use Rattle.repo_steps.specs.declared.env.Env.{Env}
+use Rattle.repo_steps.specs.declared.refusal.Stop.{Stop}
+use Rattle.words.specs.declared.edit.Edit.TheVariants.{New, OfBug, UserEdit, UserNew, UserSet}
 
 -- of a bug that stands: none, or at most three for each of some commits below the head of the bug that a word finds, and at
 -- most the four objects that are to be written
@@ -16,6 +21,10 @@ abbrev pub ReadsEdit : Files → List ℕ → List ℕ → ℕ → ℕ → Type 
 ReadsEdit files folder word before after =
     (after ≡ before)
     ⊎ ((bug : HeadEntry) × FindsBug files folder word bug × (between : ℕ) × ReadsBelow files folder bug before between × (after ≤ between + 4))
+
+-- the call of an edit of a bug: its answer, what was written and what was read
+abbrev pub CallsEdit : Env → BugEdit → List ℕ → History → History → ℕ → ℕ → Result Id Stop → Type 0
+CallsEdit env edit word old new before after result = BugEditAnswers env edit word old new result × ReadsEdit (files_of old) env.folder word before after
 
 -- of a chain that has no fault and room for one version more: at most three for each of its versions
 pub record ReadsRoom (files : Files) (folder : List ℕ) (entry : HeadEntry) (before after : ℕ) : Type 0 where

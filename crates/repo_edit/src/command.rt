@@ -1,18 +1,17 @@
 //! The call of each command that edits.
-ghost use Rattle.std.specs.Prelude.{◌≡◌, ◌≤◌, IsTrue, IsErrOf, IsOk};
+ghost use Rattle.std.specs.Prelude.{IsTrue, IsErrOf, IsOk};
 ghost use Rattle.gb_store.specs.Faults.{KeepsFaults};
 ghost use Rattle.gb_store.specs.Files.{files_of};
-ghost use Rattle.repo_steps.specs.Answers.{KeepsToWords};
-ghost use Rattle.repo_steps.specs.Doings.{EditAnswers, bad_word_of};
+ghost use Rattle.repo_steps.specs.Doings.{EditAnswers};
 ghost use Rattle.repo_edit.specs.Reads.{ReadsFor};
 
 use crate::bugs::{edit_bug, new_bug};
 use crate::people::{user_edit, user_new, user_set};
 use gb_store::Store;
-use gb_text::{GREATEST_TIME, Id};
-use repo_state::{Env, Stop};
-use repo_steps::Edit;
+use gb_text::Id;
+use repo_steps::{Env, Stop};
 use std::alloc::Global;
+use words::Edit;
 
 /// Does what a command says, and answers the id that it tells.
 pub fn run_edit<S: Store>(
@@ -21,10 +20,8 @@ pub fn run_edit<S: Store>(
     env: &Env,
     command: &Edit,
 ) -> Result<Id, Stop>
-    requires moment { env.now.now ≤ GREATEST_TIME }
     ensures answers { IsTrue S.tells
         → EditAnswers env.entry.now command.now (S.history disk.old) (S.history disk.new) result }
-    ensures words { KeepsToWords (bad_word_of command.now) result }
     ensures reads { IsTrue S.tells
         → ReadsFor (files_of (S.history disk.old)) env.entry.now.folder command.now (IsOk result)
         (S.object_reads disk.old) (S.object_reads disk.new) }
@@ -32,16 +29,10 @@ pub fn run_edit<S: Store>(
         disk.old disk.new }
 {
     match command {
-        Edit::UserNew { name, email } => user_new(alloc, disk, env, name.as_str(), email.as_str()),
-        Edit::UserEdit { name, email } => user_edit(
-            alloc,
-            disk,
-            env,
-            name.as_str(),
-            email.as_str(),
-        ),
+        Edit::UserNew { name, email } => user_new(alloc, disk, env, name, email),
+        Edit::UserEdit { name, email } => user_edit(alloc, disk, env, name, email),
         Edit::UserSet { id } => user_set(alloc, disk, env, id.as_str()),
-        Edit::New { title, message } => new_bug(alloc, disk, env, title.as_str(), message.as_str()),
+        Edit::New { title, message } => new_bug(alloc, disk, env, title, message),
         Edit::OfBug { bug, edit } => edit_bug(alloc, disk, env, bug.as_str(), edit),
     }
 }

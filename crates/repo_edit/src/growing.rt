@@ -1,11 +1,10 @@
 //! The bug that an edit adds to, and what bars it.
-ghost use Rattle.std.specs.Prelude.{◌≡◌, ◌↔◌, ◌≤◌, None, IfOk, IfSome, IsNone, IsTrue, IsErrOf};
+ghost use Rattle.std.specs.Prelude.{◌≡◌, ◌↔◌, ◌≤◌, IfOk, IfSome, IsNone, IsTrue, IsErrOf};
 ghost use Rattle.std.specs.List.{list_any};
 ghost use Rattle.gb_store.specs.Faults.{KeepsFaults};
 ghost use Rattle.gb_store.specs.Files.{files_of};
 ghost use Rattle.lamport.specs.Clock.{edit_time_of};
 ghost use Rattle.op_pack.specs.Heads.{IsClock};
-ghost use Rattle.repo_steps.specs.Answers.{KeepsToWords};
 ghost use Rattle.repo_edit.specs.Growing.{AuthorAnswers, BeginningAnswers, GrowingAnswers, ReadsGrowing, RoomAnswers, has_id};
 
 use bug_ops::BugOp;
@@ -14,13 +13,12 @@ use gb_store::Store;
 use gb_text::{Folder, GREATEST_TIME, Id, List};
 use lamport::Clock;
 use op_kind::OpKind;
-use repo_state::{
-    ClockFile, HeadEntry, Refusal, Side, Stop, bug_at, clock, find_head, ops_of, user,
-};
+use repo_state::{ClockFile, HeadEntry, Side, bug_at, clock, find_head, ops_of, user};
+use repo_steps::{Refusal, Stop};
 use std::alloc::Global;
 
-/// A bug that the user adds to: the author of what is added, the bug's head, its operations in order,
-/// the clock of the folder, and the head's edit clock and number of commits.
+/// A bug that the user adds to: the author of what is added, the bug's head, its operations in
+/// order, the clock of the folder, and the head's edit clock and number of commits.
 #[derive(Drop)]
 pub struct Growing {
     pub author: Id,
@@ -35,7 +33,6 @@ pub struct Growing {
 fn edit_author<S: Store>(alloc: Global, disk: &mut S, folder: &Folder) -> Result<Id, Stop>
     ensures answers { IsTrue S.tells
         → AuthorAnswers (files_of (S.history disk.old)) folder.now result }
-    ensures words { KeepsToWords None result }
     ensures unwritten { IsTrue S.tells → S.history disk.new ≡ S.history disk.old }
     ensures reads { S.object_reads disk.new ≡ S.object_reads disk.old }
     ensures caused { KeepsFaults S.never_fails S.faults (IsErrOf result Stop.Disk)
@@ -56,7 +53,6 @@ pub struct Beginning {
 pub fn root_of<S: Store>(alloc: Global, disk: &mut S, folder: &Folder) -> Result<Beginning, Stop>
     ensures answers { IsTrue S.tells
         → BeginningAnswers (files_of (S.history disk.old)) folder.now result }
-    ensures words { KeepsToWords None result }
     ensures unwritten { IsTrue S.tells → S.history disk.new ≡ S.history disk.old }
     ensures reads { S.object_reads disk.new ≡ S.object_reads disk.old }
     ensures caused { KeepsFaults S.never_fails S.faults (IsErrOf result Stop.Disk)
@@ -81,7 +77,6 @@ pub fn growing_bug<S: Store>(
 ) -> Result<Growing, Stop>
     ensures answers { IsTrue S.tells
         → GrowingAnswers (files_of (S.history disk.old)) folder.now word.now result }
-    ensures words { KeepsToWords None result }
     ensures unwritten { IsTrue S.tells → S.history disk.new ≡ S.history disk.old }
     ensures reads { IsTrue S.tells
         → ReadsGrowing (files_of (S.history disk.old)) folder.now word.now
@@ -104,12 +99,11 @@ pub fn growing_bug<S: Store>(
     })
 }
 
-/// The edit clock of what is added to a bug: above that of its head, of which one has to be left, and
-/// where it has room for one commit more.
+/// The edit clock of what is added to a bug: above that of its head, of which one has to be left,
+/// and where it has room for one commit more.
 pub fn room(bug: &Growing) -> Result<u64, Stop>
     ensures room { RoomAnswers bug.now.seen bug.now.head.name bug.now.edit bug.now.commits result }
     ensures clock { IfOk result (λ edit. IsClock edit) }
-    ensures words { KeepsToWords None result }
 {
     let Some(later) = later_clock(bug.seen, bug.edit) else {
         return Err(Stop::Refused(Refusal::ClockFull(bug.head.name)));
@@ -133,7 +127,8 @@ fn later_clock(clock: Clock, head: u64) -> Option<u64>
     }
 }
 
-/// Whether one of these operations has an id. It is proved for each kind, which costs far less than for that of bugs.
+/// Whether one of these operations has an id. It is proved for each kind, which costs far less than
+/// for that of bugs.
 pub fn has_operation<K: OpKind>(ops: &[K], id: &Id) -> bool
     ensures { result ≡ list_any (has_id K.meaning id.now) ops.now }
 {

@@ -10,7 +10,7 @@ mod growing;
 mod people;
 mod plan_bug;
 mod room;
-mod version;
+mod writes;
 
 pub use bugs::{edit_bug, new_bug};
 pub use calls::{comment, label_add, label_rm, meta, noop, set_status, title};

@@ -1,42 +1,40 @@
 //! Edits of the people of a folder, and of who its user is.
-ghost use Rattle.std.specs.Prelude.{◌≡◌, ◌≤◌, ◌+◌, None, IsTrue, IsErrOf, IsOk};
+ghost use Rattle.std.specs.Prelude.{◌≡◌, ◌≤◌, ◌+◌, IsTrue, IsErrOf, IsOk};
 ghost use Rattle.gb_store.specs.Faults.{KeepsFaults};
 ghost use Rattle.gb_store.specs.Files.{files_of};
-ghost use Rattle.repo_steps.specs.Answers.{DoingAnswers, KeepsToWords, Plans};
+ghost use Rattle.identity.specs.Making.{PlanAnswers};
+ghost use Rattle.repo_steps.specs.Answers.{DoingAnswers, Plans};
 ghost use Rattle.repo_steps.specs.Doings.{EditAnswers};
-ghost use Rattle.repo_steps.specs.PeopleDoings.{bad_person, edited_user, new_user};
-ghost use Rattle.repo_steps.specs.declared.edit.Edit.TheVariants.{UserSet};
+ghost use Rattle.repo_steps.specs.PeopleDoings.{edited_user, new_text, new_user};
+ghost use Rattle.words.specs.declared.edit.Edit.TheVariants.{UserSet};
 ghost use Rattle.repo_edit.specs.Growing.{SetPlans};
 ghost use Rattle.repo_edit.specs.Reads.{ReadsVersions};
 
 use crate::carry::carry_out;
 use crate::room::check_room;
-use crate::version::{bad_person, version_writes, with_first_user};
-use edit_ops::nonce_from;
+use crate::writes::{head_writes, with_first_user};
 use gb_store::Store;
-use gb_text::{GREATEST_TIME, Id, List};
-use identity::plan_version;
-use repo_state::{Env, Refusal, Side, Stop, find, stands, user, user_change, user_head};
-use repo_steps::Plan;
+use gb_text::{Id, Line, List, Name, Title};
+use identity::{VersionPlan, plan_version};
+use object_store::PutFault;
+use repo_state::{Side, find, stands, user, user_change, user_head};
+use repo_steps::{Env, Plan, Refusal, Stop};
 use std::alloc::Global;
 
 /// Makes an identity with this name and email, and makes it the user where no user file stands.
-/// Answers its id. Refuses in this order: words (`BadText`, of a name that is no title or an email
-/// that is no line), a user file that names no local identity (`Damaged`), sizes (`TooLarge`), an
-/// identity that has the id (`EntityExists`), names of objects (`NameTaken`). The objects are written
-/// first, then the ref, then the user file.
+/// Answers its id. Refuses in this order: a user file that names no local identity (`Damaged`),
+/// sizes (`TooLarge`), an identity that has the id (`EntityExists`), names of objects
+/// (`NameTaken`). The objects are written first, then the ref, then the user file.
 pub fn user_new<S: Store>(
     alloc: Global,
     disk: &mut S,
     env: &Env,
-    name: &str,
-    email: &str,
+    name: &Title,
+    email: &Line,
 ) -> Result<Id, Stop>
-    requires moment { env.now.now ≤ GREATEST_TIME }
     ensures answers { IsTrue S.tells
         → DoingAnswers (new_user env.entry.now name.now email.now (S.history disk.old))
         (S.history disk.old) (S.history disk.new) result }
-    ensures words { KeepsToWords (bad_person name.now email.now) result }
     ensures reads { S.object_reads disk.new ≤ S.object_reads disk.old + 3 }
     ensures caused { KeepsFaults S.never_fails S.faults (IsErrOf result Stop.Disk)
         disk.old disk.new }
@@ -50,29 +48,31 @@ fn plan_new_user<S: Store>(
     alloc: Global,
     disk: &mut S,
     env: &Env,
-    name: &str,
-    email: &str,
+    name: &Title,
+    email: &Line,
 ) -> Result<Plan, Stop>
-    requires moment { env.now.now ≤ GREATEST_TIME }
     ensures answers { IsTrue S.tells
         → Plans (new_user env.entry.now name.now email.now (S.history disk.old)) result }
-    ensures words { KeepsToWords (bad_person name.now email.now) result }
     ensures unwritten { IsTrue S.tells → S.history disk.new ≡ S.history disk.old }
     ensures reads { S.object_reads disk.new ≤ S.object_reads disk.old + 3 }
     ensures caused { KeepsFaults S.never_fails S.faults (IsErrOf result Stop.Disk)
         disk.old disk.new }
 {
-    if let Some(place) = bad_person(name, email) {
-        return Err(Stop::Refused(Refusal::BadText(place)));
-    }
     let found = user(alloc, disk, &env.folder)?;
-    let nonce = nonce_from(&env.seed);
-    let version = plan_version(alloc, None, name, email, &nonce, env.now)?;
+    let version = plan_new_version(alloc, env, None, name, email)?;
     let id = version.made.id;
     if stands(alloc, disk, &env.folder, &Side::Identities, &id)? {
         return Err(Stop::Refused(Refusal::EntityExists(id)));
     }
-    let added = version_writes(alloc, disk, &env.folder, &id, &version)?;
+    let added = head_writes(
+        alloc,
+        disk,
+        &env.folder,
+        &Side::Identities,
+        &id,
+        &version.made.head,
+        &version.objects,
+    )?;
     let writes = with_first_user(alloc, &env.folder, found, &id, added)?;
     Ok(Plan {
         writes: List::from_vec(writes),
@@ -80,22 +80,36 @@ fn plan_new_user<S: Store>(
     })
 }
 
-/// Gives the user a new version, with this name and email, behind the others. Answers the user's id.
-/// Refuses in this order: words, a damaged user file, no user file (`NoUser`), a damaged ref or chain
+// The version of a name and an email that a command makes, behind a parent.
+fn plan_new_version(
+    alloc: Global,
+    env: &Env,
+    parent: Option<Name>,
+    name: &Title,
+    email: &Line,
+) -> Result<VersionPlan, PutFault>
+    ensures { PlanAnswers (new_text env.entry.now name.now email.now) parent
+        env.entry.now.moment.now result }
+{
+    let nonce = env.moment.nonce();
+    let (name, email) = (name.as_str(), email.as_str());
+    plan_version(alloc, parent, name, email, &nonce, env.moment.now)
+}
+
+/// Gives the user a new version, with this name and email, behind the others. Answers the user's
+/// id. Refuses in this order: a damaged user file, no user file (`NoUser`), a damaged ref or chain
 /// of the user, sizes (`TooLarge`, of 65,536 versions that stand already or of an object), names of
 /// objects (`NameTaken`). The objects are written first, then the ref.
 pub fn user_edit<S: Store>(
     alloc: Global,
     disk: &mut S,
     env: &Env,
-    name: &str,
-    email: &str,
+    name: &Title,
+    email: &Line,
 ) -> Result<Id, Stop>
-    requires moment { env.now.now ≤ GREATEST_TIME }
     ensures answers { IsTrue S.tells
         → DoingAnswers (edited_user env.entry.now name.now email.now (S.history disk.old))
         (S.history disk.old) (S.history disk.new) result }
-    ensures words { KeepsToWords (bad_person name.now email.now) result }
     ensures reads { IsTrue S.tells
         → ReadsVersions (files_of (S.history disk.old)) env.entry.now.folder (IsOk result)
         (S.object_reads disk.old) (S.object_reads disk.new) }
@@ -111,13 +125,11 @@ fn plan_edited_user<S: Store>(
     alloc: Global,
     disk: &mut S,
     env: &Env,
-    name: &str,
-    email: &str,
+    name: &Title,
+    email: &Line,
 ) -> Result<Plan, Stop>
-    requires moment { env.now.now ≤ GREATEST_TIME }
     ensures answers { IsTrue S.tells
         → Plans (edited_user env.entry.now name.now email.now (S.history disk.old)) result }
-    ensures words { KeepsToWords (bad_person name.now email.now) result }
     ensures unwritten { IsTrue S.tells → S.history disk.new ≡ S.history disk.old }
     ensures reads { IsTrue S.tells
         → ReadsVersions (files_of (S.history disk.old)) env.entry.now.folder (IsOk result)
@@ -125,29 +137,32 @@ fn plan_edited_user<S: Store>(
     ensures caused { KeepsFaults S.never_fails S.faults (IsErrOf result Stop.Disk)
         disk.old disk.new }
 {
-    if let Some(place) = bad_person(name, email) {
-        return Err(Stop::Refused(Refusal::BadText(place)));
-    }
     let Some(user) = user_head(alloc, disk, &env.folder)? else {
         return Err(Stop::Refused(Refusal::NoUser));
     };
     check_room(alloc, disk, &env.folder, &user)?;
-    let nonce = nonce_from(&env.seed);
-    let version = plan_version(alloc, Some(user.name), name, email, &nonce, env.now)?;
-    let writes = version_writes(alloc, disk, &env.folder, &user.id, &version)?;
+    let version = plan_new_version(alloc, env, Some(user.name), name, email)?;
+    let writes = head_writes(
+        alloc,
+        disk,
+        &env.folder,
+        &Side::Identities,
+        &user.id,
+        &version.made.head,
+        &version.objects,
+    )?;
     Ok(Plan {
         writes: List::from_vec(writes),
         id: user.id,
     })
 }
 
-/// Makes the identity that the word names the user, by one write. Answers its id. `NotFound` exactly
-/// where the word finds none. The user file isn't read.
+/// Makes the identity that the word names the user, by one write. Answers its id. `NotFound`
+/// exactly where the word finds none. The user file isn't read.
 pub fn user_set<S: Store>(alloc: Global, disk: &mut S, env: &Env, word: &str) -> Result<Id, Stop>
     ensures answers { IsTrue S.tells
         → EditAnswers env.entry.now (UserSet word.now) (S.history disk.old)
         (S.history disk.new) result }
-    ensures words { KeepsToWords None result }
     ensures reads { S.object_reads disk.new ≡ S.object_reads disk.old }
     ensures caused { KeepsFaults S.never_fails S.faults (IsErrOf result Stop.Disk)
         disk.old disk.new }
@@ -160,7 +175,6 @@ pub fn user_set<S: Store>(alloc: Global, disk: &mut S, env: &Env, word: &str) ->
 fn plan_set_user<S: Store>(alloc: Global, disk: &mut S, env: &Env, word: &str) -> Result<Plan, Stop>
     ensures answers { IsTrue S.tells
         → SetPlans env.entry.now word.now (S.history disk.old) result }
-    ensures words { KeepsToWords None result }
     ensures unwritten { IsTrue S.tells → S.history disk.new ≡ S.history disk.old }
     ensures reads { S.object_reads disk.new ≡ S.object_reads disk.old }
     ensures caused { KeepsFaults S.never_fails S.faults (IsErrOf result Stop.Disk)

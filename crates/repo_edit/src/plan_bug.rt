@@ -1,39 +1,39 @@
 //! What an edit of a bug is to write.
-ghost use Rattle.std.specs.Prelude.{◌≡◌, ◌≤◌, ◌+◌, None, IsTrue, IsErrOf};
+ghost use Rattle.std.specs.Prelude.{◌≡◌, ◌≤◌, ◌+◌, IsTrue, IsErrOf};
 ghost use Rattle.gb_store.specs.Faults.{KeepsFaults};
 ghost use Rattle.gb_store.specs.Files.{files_of};
 ghost use Rattle.op_pack.specs.Heads.{IsClock};
-ghost use Rattle.repo_steps.specs.Answers.{KeepsToWords, Plans};
+ghost use Rattle.repo_steps.specs.Answers.{Plans};
 ghost use Rattle.repo_steps.specs.BugDoings.{begun_bug};
-ghost use Rattle.repo_steps.specs.BugEdits.{bad_edit};
-ghost use Rattle.repo_steps.specs.NewOps.{MayWriteOp};
 ghost use Rattle.repo_edit.specs.Growing.{Begins, EditPlans, GrownPlans};
 ghost use Rattle.repo_edit.specs.Reads.{ReadsEdit};
 
-use crate::addition::{commit_writes, plan_commit, with_clock, with_root_clocks};
+use crate::addition::{plan_commit, with_clock, with_root_clocks};
 use crate::growing::{Beginning, Growing, growing_bug, has_operation, room, root_of};
-use bug_ops::BugOp;
-use edit_ops::{edit_op, op_id};
+use crate::writes::head_writes;
+use bug_edits::{BugEdit, NewOp, edit_op, op_id};
 use gb_store::Store;
-use gb_text::{GREATEST_TIME, Id, List};
-use repo_state::{ClockFile, Env, Refusal, Side, Stop, stands};
-use repo_steps::{BugEdit, Plan};
+use gb_text::{Id, List};
+use repo_state::{ClockFile, Side, stands};
+use repo_steps::{Env, Plan, Refusal, Stop};
 use std::alloc::Global;
 
 /// What a command writes that begins a bug with an operation.
-pub fn plan_begun<S: Store>(alloc: Global, disk: &mut S, env: &Env, op: BugOp) -> Result<Plan, Stop>
-    requires moment { env.now.now ≤ GREATEST_TIME }
-    requires rules { MayWriteOp op }
+pub fn plan_begun<S: Store>(
+    alloc: Global,
+    disk: &mut S,
+    env: &Env,
+    new: NewOp,
+) -> Result<Plan, Stop>
     ensures answers { IsTrue S.tells
-        → Plans (begun_bug env.entry.now None op (S.history disk.old)) result }
-    ensures words { KeepsToWords None result }
+        → Plans (begun_bug env.entry.now new.op (S.history disk.old)) result }
     ensures unwritten { IsTrue S.tells → S.history disk.new ≡ S.history disk.old }
     ensures reads { S.object_reads disk.new ≤ S.object_reads disk.old + 4 }
     ensures caused { KeepsFaults S.never_fails S.faults (IsErrOf result Stop.Disk)
         disk.old disk.new }
 {
     let root = root_of(alloc, disk, &env.folder)?;
-    plan_root(alloc, disk, env, &root, op)
+    plan_root(alloc, disk, env, &root, new)
 }
 
 // What begins a bug with an operation of this author and these clocks.
@@ -42,27 +42,32 @@ fn plan_root<S: Store>(
     disk: &mut S,
     env: &Env,
     root: &Beginning,
-    op: BugOp,
+    new: NewOp,
 ) -> Result<Plan, Stop>
-    requires moment { env.now.now ≤ GREATEST_TIME }
-    requires rules { MayWriteOp op }
     ensures answers { IsTrue S.tells
         → Begins (files_of (S.history disk.old)) env.entry.now.folder root.now
-        → Plans (begun_bug env.entry.now None op (S.history disk.old)) result }
-    ensures words { KeepsToWords None result }
+        → Plans (begun_bug env.entry.now new.op (S.history disk.old)) result }
     ensures unwritten { IsTrue S.tells → S.history disk.new ≡ S.history disk.old }
     ensures reads { S.object_reads disk.new ≤ S.object_reads disk.old + 4 }
     ensures caused { KeepsFaults S.never_fails S.faults (IsErrOf result Stop.Disk)
         disk.old disk.new }
 {
-    let id = op_id(alloc, &op)?;
+    let id = op_id(alloc, &new.op)?;
     let edit = root.edit.root_time();
     let create = Some(root.create.root_time());
-    let commit = plan_commit(alloc, &[], &root.author, edit, create, op, env.now)?;
+    let commit = plan_commit(alloc, &[], &root.author, edit, create, new, env.moment.now)?;
     if stands(alloc, disk, &env.folder, &Side::Bugs, &id)? {
         return Err(Stop::Refused(Refusal::EntityExists(id)));
     }
-    let writes = commit_writes(alloc, disk, &env.folder, &id, &commit)?;
+    let writes = head_writes(
+        alloc,
+        disk,
+        &env.folder,
+        &Side::Bugs,
+        &id,
+        &commit.head,
+        &commit.objects,
+    )?;
     let writes = with_root_clocks(alloc, &env.folder, root.create, root.edit, writes)?;
     Ok(Plan {
         writes: List::from_vec(writes),
@@ -78,11 +83,8 @@ pub fn plan_edit<S: Store>(
     word: &str,
     edit: &BugEdit,
 ) -> Result<Plan, Stop>
-    requires moment { env.now.now ≤ GREATEST_TIME }
-    requires words { bad_edit edit.now ≡ None }
     ensures answers { IsTrue S.tells
         → EditPlans env.entry.now edit.now word.now (S.history disk.old) result }
-    ensures words { KeepsToWords None result }
     ensures unwritten { IsTrue S.tells → S.history disk.new ≡ S.history disk.old }
     ensures reads { IsTrue S.tells
         → ReadsEdit (files_of (S.history disk.old)) env.entry.now.folder word.now
@@ -91,9 +93,9 @@ pub fn plan_edit<S: Store>(
         disk.old disk.new }
 {
     let bug = growing_bug(alloc, disk, &env.folder, word)?;
-    let op = edit_op(alloc, env, edit, bug.ops.as_slice())?;
+    let new = edit_op(alloc, &env.moment, edit, bug.ops.as_slice())?;
     let clock = room(&bug)?;
-    plan_grown(alloc, disk, env, &bug, clock, op)
+    plan_grown(alloc, disk, env, &bug, clock, new)
 }
 
 // What adds an operation with this edit clock to a bug.
@@ -103,26 +105,39 @@ fn plan_grown<S: Store>(
     env: &Env,
     bug: &Growing,
     edit: u64,
-    op: BugOp,
+    new: NewOp,
 ) -> Result<Plan, Stop>
-    requires moment { env.now.now ≤ GREATEST_TIME }
-    requires rules { MayWriteOp op }
     requires clock { IsClock edit }
     ensures answers { IsTrue S.tells
-        → GrownPlans env.entry.now bug.now edit op (S.history disk.old) result }
-    ensures words { KeepsToWords None result }
+        → GrownPlans env.entry.now bug.now edit new.op (S.history disk.old) result }
     ensures unwritten { IsTrue S.tells → S.history disk.new ≡ S.history disk.old }
     ensures reads { S.object_reads disk.new ≤ S.object_reads disk.old + 4 }
     ensures caused { KeepsFaults S.never_fails S.faults (IsErrOf result Stop.Disk)
         disk.old disk.new }
 {
-    let id = op_id(alloc, &op)?;
+    let id = op_id(alloc, &new.op)?;
     let parents = [bug.head.name];
-    let commit = plan_commit(alloc, &parents, &bug.author, edit, None, op, env.now)?;
+    let commit = plan_commit(
+        alloc,
+        &parents,
+        &bug.author,
+        edit,
+        None,
+        new,
+        env.moment.now,
+    )?;
     if has_operation(bug.ops.as_slice(), &id) {
         return Err(Stop::Refused(Refusal::RepeatedOperation(id)));
     }
-    let writes = commit_writes(alloc, disk, &env.folder, &bug.head.id, &commit)?;
+    let writes = head_writes(
+        alloc,
+        disk,
+        &env.folder,
+        &Side::Bugs,
+        &bug.head.id,
+        &commit.head,
+        &commit.objects,
+    )?;
     let which = ClockFile::BugsEdit;
     let writes = with_clock(alloc, &env.folder, which, bug.seen, edit, writes)?;
     Ok(Plan {

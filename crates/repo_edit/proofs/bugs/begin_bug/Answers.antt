@@ -1,6 +1,6 @@
-use Rattle.std.proofs.Common.{◌≡◌, None, Result, Err, sym, subst, rules}
+use Rattle.std.proofs.Common.{◌≡◌, Result, Err, sym, subst, rules}
 use Rattle.gb_text.specs.declared.id.Id.{Id}
-use Rattle.repo_state.specs.declared.refusal.Stop.{Stop}
+use Rattle.repo_steps.specs.declared.refusal.Stop.{Stop}
 use Rattle.repo_steps.specs.Answers.{DoingAnswers}
 use Rattle.repo_steps.specs.BugDoings.{begun_bug}
 use Rattle.repo_edit.proofs.PlanLemmas.{not_planned}
@@ -10,7 +10,7 @@ pub returns-in_err-plan-clause-answers : goal.returns-in_err-plan-clause-answers
 returns-in_err-plan-clause-answers g c = λ tells.
     let old = g.S.Store.history c.args.disk.now in
     let new = g.S.Store.history c.plan_begun.new.disk in
-    let doing = begun_bug c.args.env.now None c.args.op old in
+    let doing = begun_bug c.args.env.now c.args.new.op old in
     let answer : Result Id Stop = Err c.in_err-plan.field-0.0 in
     let is : c.from_residual.result ≡ answer = search rules in
     subst (DoingAnswers doing old new) (sym is)

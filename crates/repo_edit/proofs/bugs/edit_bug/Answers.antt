@@ -1,11 +1,10 @@
-use Rattle.std.proofs.Common.{◌≡◌, ◌∙◌, ℕ, Result, Err, inl, refl, sym, subst, rules}
+use Rattle.std.proofs.Common.{◌≡◌, ℕ, Result, Err, sym, subst, rules}
 use Rattle.gb_text.specs.declared.id.Id.{Id}
 use Rattle.gb_store.specs.Files.{files_of}
-use Rattle.repo_state.specs.declared.refusal.Stop.{Stop}
+use Rattle.repo_steps.specs.declared.refusal.Stop.{Stop}
 use Rattle.repo_steps.specs.BugDoings.{longer_bug}
 use Rattle.repo_steps.specs.Doings.{BugEditAnswers}
 use Rattle.repo_edit.specs.Reads.{ReadsEdit}
-use Rattle.repo_steps.proofs.PickLemmas.{no_pick}
 use Rattle.repo_edit.proofs.PlanLemmas.{carried, not_planned}
 use Rattle.repo_edit.proofs.bugs.edit_bug.Goals as goal
 
@@ -34,6 +33,3 @@ pub returns-clause-reads : goal.returns-clause-reads
 returns-clause-reads g c = λ tells.
     subst (λ (after : ℕ). ReadsEdit (files_of (g.S.Store.history c.args.disk.now)) c.args.env.now.folder c.args.bug.now (g.S.Store.object_reads c.args.disk.now) after)
     (sym c.carry_out.ensures.reads) (c.plan_edit.ensures.reads tells)
-
-pub returns-in-Some-clause-answers : goal.returns-in-Some-clause-answers
-returns-in-Some-clause-answers g c = λ tells. (no_pick c.args.env.now, (inl (c.in-Some.place, sym c.bad_edit.ensures ∙ c.in-Some.is, refl), refl))

@@ -4,11 +4,13 @@ use Rattle.repo_state.specs.Bugs.{BugRefused, FindsBug, IsBug}
 use Rattle.repo_state.specs.Clocks.{clock_at}
 use Rattle.repo_state.specs.declared.clocks.ClockFile.TheVariants as file
 use Rattle.repo_state.specs.Finds.{FinderAnswers, bug_finder}
-use Rattle.repo_state.specs.declared.refusal.Stop.{Stop}
+use Rattle.repo_steps.specs.declared.refusal.Stop.{Stop}
 use Rattle.repo_state.specs.declared.side.HeadEntry.{HeadEntry}
 use Rattle.repo_edit.specs.Growing.{GrowingAnswers}
 use Rattle.repo_edit.specs.declared.growing.Growing.{Growing}
 use Rattle.repo_edit.proofs.GrowingLemmas.{growing_broken, growing_grows, growing_lost, growing_nobody}
+use Rattle.repo_state.specs.declared.stop.FindStop.{FindStop}
+use Rattle.repo_steps.specs.Stops.{stop_of_find, stop_of_read}
 use Rattle.repo_edit.proofs.growing.growing_bug.Goals as goal
 
 pub returns-clause-answers : goal.returns-clause-answers
@@ -40,9 +42,9 @@ returns-in_err-head-clause-answers g c = λ tells.
     let word = c.args.word.now in
     let s = c.in_err-head.field-0.0 in
     let one = c.edit_author.ensures.unwritten tells in
-    let answer : Result Growing Stop = Err s in
+    let answer : Result Growing Stop = Err (stop_of_find s) in
     let is : c.from_residual-in_err-head.result ≡ answer = search rules in
-    let lost : Result HeadEntry Stop = Err s in
+    let lost : Result HeadEntry FindStop = Err s in
     subst (GrowingAnswers files folder word) (sym is)
     (growing_lost files folder word c.in_ok-author.author (c.in_ok-author.ensures.answers tells) s
     (subst (λ (h : History). FinderAnswers (bug_finder (files_of h) folder word) lost) one (c.in_err-head.ensures.answers tells)))
@@ -56,7 +58,7 @@ returns-in_err-entity-clause-answers g c = λ tells.
     let s = c.in_err-entity.field-0.0 in
     let one = c.edit_author.ensures.unwritten tells in
     let two = c.find_head.ensures.unwritten tells ∙ one in
-    let answer : Result Growing Stop = Err s in
+    let answer : Result Growing Stop = Err (stop_of_read s) in
     let is : c.from_residual-in_err-entity.result ≡ answer = search rules in
     subst (GrowingAnswers files folder word) (sym is)
     (growing_broken files folder word c.in_ok-author.author (c.in_ok-author.ensures.answers tells)

@@ -2,37 +2,35 @@ use Rattle.std.proofs.Common.{◌≡◌, ◌∙◌, ℕ, List, length, Option, S
 use Rattle.gb_store.specs.Files.{Files, History, files_of}
 use Rattle.identity.specs.declared.making.VersionPlan.{VersionPlan}
 use Rattle.repo_state.specs.Answers.{FindsUser}
-use Rattle.repo_state.specs.Stops.{stop_of_put}
-use Rattle.repo_state.specs.declared.refusal.Stop.{Stop}
+use Rattle.repo_steps.specs.Stops.{stop_of_put, stop_of_read}
+use Rattle.repo_steps.specs.declared.refusal.Stop.{Stop}
 use Rattle.repo_state.specs.declared.side.HeadEntry.{HeadEntry}
 use Rattle.repo_steps.specs.Answers.{Plans}
 use Rattle.repo_steps.specs.PeopleDoings.{edited_user}
-use Rattle.repo_steps.specs.declared.edit.Plan.{Plan}
+use Rattle.repo_steps.specs.declared.plan.Plan.{Plan}
 use Rattle.repo_edit.specs.Reads.{ReadsRoom}
 use Rattle.repo_state.proofs.EntryLemmas.{entry_is}
-use Rattle.repo_edit.proofs.PlanLemmas.{edit_damaged, edit_full, edit_nobody, edit_planned, edit_refused, edit_taken, good_words, plan_at}
+use Rattle.repo_edit.proofs.PlanLemmas.{edit_damaged, edit_full, edit_nobody, edit_planned, edit_refused, edit_taken}
 use Rattle.repo_edit.proofs.people.plan_edited_user.Goals as goal
 
 pub returns-in_err-user-clause-answers : goal.returns-in_err-user-clause-answers
 returns-in_err-user-clause-answers g c = λ tells.
     let old = g.S.Store.history c.args.disk.now in
-    let answer : Result Plan Stop = Err c.in_err-user.field-0.0 in
+    let answer : Result Plan Stop = Err (stop_of_read c.in_err-user.field-0.0) in
     let is : c.from_residual.result ≡ answer = search rules in
     subst (Plans (edited_user c.args.env.now c.args.name.now c.args.email.now old)) (sym is)
     (edit_damaged c.args.env.now c.args.name.now c.args.email.now old
-    (good_words c.args.env.now c.args.name.now c.args.email.now (sym c.bad_person.ensures ∙ c.in_default.is) c.utf8.name c.utf8.email c.requires.moment)
     c.in_err-user.field-0.0 (c.in_err-user.ensures.answers tells))
 
 -- the user that was found
 found_user : (folder : List ℕ) (files : Files) (user : HeadEntry) (o : Option HeadEntry) → o ≡ Some user → FindsUser files folder (Ok o) → FindsUser files folder (Ok (Some user))
 found_user folder files user o is = subst (λ (x : Option HeadEntry). FindsUser files folder (Ok x)) is
 
-pub returns-in_default-2-clause-answers : goal.returns-in_default-2-clause-answers
-returns-in_default-2-clause-answers g c = λ tells.
+pub returns-in_default-clause-answers : goal.returns-in_default-clause-answers
+returns-in_default-clause-answers g c = λ tells.
     let old = g.S.Store.history c.args.disk.now in
     edit_nobody c.args.env.now c.args.name.now c.args.email.now old
-    (good_words c.args.env.now c.args.name.now c.args.email.now (sym c.bad_person.ensures ∙ c.in_default.is) c.utf8.name c.utf8.email c.requires.moment)
-    (subst (λ (o : Option HeadEntry). FindsUser (files_of old) c.args.env.now.folder (Ok o)) c.in_default-2.is (c.in_ok-user.ensures.answers tells))
+    (subst (λ (o : Option HeadEntry). FindsUser (files_of old) c.args.env.now.folder (Ok o)) c.in_default.is (c.in_ok-user.ensures.answers tells))
 
 pub returns-in_err-check_room-clause-answers : goal.returns-in_err-check_room-clause-answers
 returns-in_err-check_room-clause-answers g c = λ tells.
@@ -41,8 +39,7 @@ returns-in_err-check_room-clause-answers g c = λ tells.
     let is : c.from_residual-in_err-check_room.result ≡ answer = search rules in
     subst (Plans (edited_user c.args.env.now c.args.name.now c.args.email.now old)) (sym is)
     (edit_full c.args.env.now c.args.name.now c.args.email.now old
-    (good_words c.args.env.now c.args.name.now c.args.email.now (sym c.bad_person.ensures ∙ c.in_default.is) c.utf8.name c.utf8.email c.requires.moment)
-    c.in-Some-2.user (found_user c.args.env.now.folder (files_of old) c.in-Some-2.user c.in_ok-user.field-0 c.in-Some-2.is (c.in_ok-user.ensures.answers tells)) (g.S.Store.history c.user_head.new.disk) (c.user_head.ensures.unwritten tells)
+    c.in-Some.user (found_user c.args.env.now.folder (files_of old) c.in-Some.user c.in_ok-user.field-0 c.in-Some.is (c.in_ok-user.ensures.answers tells)) (g.S.Store.history c.user_head.new.disk) (c.user_head.ensures.unwritten tells)
     c.in_err-check_room.field-0.0 (c.in_err-check_room.ensures.answers tells))
 
 pub returns-in_err-version-clause-answers : goal.returns-in_err-version-clause-answers
@@ -52,22 +49,20 @@ returns-in_err-version-clause-answers g c = λ tells.
     let is : c.from_residual-in_err-version.result ≡ answer = search rules in
     subst (Plans (edited_user c.args.env.now c.args.name.now c.args.email.now old)) (sym is)
     (edit_refused c.args.env.now c.args.name.now c.args.email.now old
-    (good_words c.args.env.now c.args.name.now c.args.email.now (sym c.bad_person.ensures ∙ c.in_default.is) c.utf8.name c.utf8.email c.requires.moment)
-    c.in-Some-2.user (found_user c.args.env.now.folder (files_of old) c.in-Some-2.user c.in_ok-user.field-0 c.in-Some-2.is (c.in_ok-user.ensures.answers tells)) (g.S.Store.history c.user_head.new.disk) (c.user_head.ensures.unwritten tells) (c.in_ok-check_room.ensures.answers tells)
+    c.in-Some.user (found_user c.args.env.now.folder (files_of old) c.in-Some.user c.in_ok-user.field-0 c.in-Some.is (c.in_ok-user.ensures.answers tells)) (g.S.Store.history c.user_head.new.disk) (c.user_head.ensures.unwritten tells) (c.in_ok-check_room.ensures.answers tells)
     c.in_err-version.field-0.0
-    (plan_at c.args.env.now c.args.name.now c.args.email.now c.nonce_from-nonce.result (Some c.in-Some-2.user.name) (Err c.in_err-version.field-0.0) c.nonce_from-nonce.ensures c.in_err-version.ensures))
+    c.in_err-version.ensures)
 
 pub returns-in_err-writes-clause-answers : goal.returns-in_err-writes-clause-answers
 returns-in_err-writes-clause-answers g c = λ tells.
     let old = g.S.Store.history c.args.disk.now in
-    let answer : Result Plan Stop = Err c.in_err-writes.field-0.0 in
+    let answer : Result Plan Stop = Err (stop_of_put c.in_err-writes.field-0.0) in
     let is : c.from_residual-in_err-writes.result ≡ answer = search rules in
     subst (Plans (edited_user c.args.env.now c.args.name.now c.args.email.now old)) (sym is)
     (edit_taken c.args.env.now c.args.name.now c.args.email.now old
-    (good_words c.args.env.now c.args.name.now c.args.email.now (sym c.bad_person.ensures ∙ c.in_default.is) c.utf8.name c.utf8.email c.requires.moment)
-    c.in-Some-2.user (found_user c.args.env.now.folder (files_of old) c.in-Some-2.user c.in_ok-user.field-0 c.in-Some-2.is (c.in_ok-user.ensures.answers tells)) (g.S.Store.history c.user_head.new.disk) (c.user_head.ensures.unwritten tells) (c.in_ok-check_room.ensures.answers tells)
+    c.in-Some.user (found_user c.args.env.now.folder (files_of old) c.in-Some.user c.in_ok-user.field-0 c.in-Some.is (c.in_ok-user.ensures.answers tells)) (g.S.Store.history c.user_head.new.disk) (c.user_head.ensures.unwritten tells) (c.in_ok-check_room.ensures.answers tells)
     c.in_ok-version.version
-    (plan_at c.args.env.now c.args.name.now c.args.email.now c.nonce_from-nonce.result (Some c.in-Some-2.user.name) (Ok c.in_ok-version.version) c.nonce_from-nonce.ensures c.in_ok-version.ensures)
+    c.in_ok-version.ensures
     (g.S.Store.history c.check_room.new.disk) (c.check_room.ensures.unwritten tells ∙ c.user_head.ensures.unwritten tells) c.in_err-writes.field-0.0
     (c.in_err-writes.ensures.answers tells))
 
@@ -75,10 +70,9 @@ pub returns-clause-answers : goal.returns-clause-answers
 returns-clause-answers g c = λ tells.
     let old = g.S.Store.history c.args.disk.now in
     edit_planned c.args.env.now c.args.name.now c.args.email.now old
-    (good_words c.args.env.now c.args.name.now c.args.email.now (sym c.bad_person.ensures ∙ c.in_default.is) c.utf8.name c.utf8.email c.requires.moment)
-    c.in-Some-2.user (found_user c.args.env.now.folder (files_of old) c.in-Some-2.user c.in_ok-user.field-0 c.in-Some-2.is (c.in_ok-user.ensures.answers tells)) (g.S.Store.history c.user_head.new.disk) (c.user_head.ensures.unwritten tells) (c.in_ok-check_room.ensures.answers tells)
+    c.in-Some.user (found_user c.args.env.now.folder (files_of old) c.in-Some.user c.in_ok-user.field-0 c.in-Some.is (c.in_ok-user.ensures.answers tells)) (g.S.Store.history c.user_head.new.disk) (c.user_head.ensures.unwritten tells) (c.in_ok-check_room.ensures.answers tells)
     c.in_ok-version.version
-    (plan_at c.args.env.now c.args.name.now c.args.email.now c.nonce_from-nonce.result (Some c.in-Some-2.user.name) (Ok c.in_ok-version.version) c.nonce_from-nonce.ensures c.in_ok-version.ensures)
+    c.in_ok-version.ensures
     (g.S.Store.history c.check_room.new.disk) (c.check_room.ensures.unwritten tells ∙ c.user_head.ensures.unwritten tells) c.in_ok-writes.writes c.from_vec.result
     (c.in_ok-writes.ensures.answers tells) c.from_vec.ensures
 
@@ -86,18 +80,18 @@ pub returns-clause-reads : goal.returns-clause-reads
 returns-clause-reads g c = λ tells.
     let files = files_of (g.S.Store.history c.args.disk.now) in
     let folder = c.args.env.now.folder in
-    let user = c.in-Some-2.user in
-    let found = found_user folder files user c.in_ok-user.field-0 c.in-Some-2.is (c.in_ok-user.ensures.answers tells) in
+    let user = c.in-Some.user in
+    let found = found_user folder files user c.in_ok-user.field-0 c.in-Some.is (c.in_ok-user.ensures.answers tells) in
     let room : ReadsRoom files folder user (g.S.Store.object_reads c.user_head.new.disk) (g.S.Store.object_reads c.check_room.new.disk) =
     subst (λ (h : History). ReadsRoom (files_of h) folder user (g.S.Store.object_reads c.user_head.new.disk) (g.S.Store.object_reads c.check_room.new.disk))
     (c.user_head.ensures.unwritten tells) (c.in_ok-check_room.ensures.once tells) in
     let three : length c.in_ok-version.version.objects ≡ 3 = ap (λ (v : VersionPlan). length v.objects) c.in_ok-version.ensures.0 in
     record {
-      most = omega (arith, room.room, room.few, three, c.user_head.ensures.reads, c.version_writes.ensures.reads);
+      most = omega (arith, room.room, room.few, three, c.user_head.ensures.reads, c.head_writes.ensures.reads);
       made = λ is. record {
         user = user;
         is_user = entry_is files folder user.id user.name found.0 found.1;
         chain = room.chain;
-        few = omega (arith, room.few, three, c.user_head.ensures.reads, c.version_writes.ensures.reads);
+        few = omega (arith, room.few, three, c.user_head.ensures.reads, c.head_writes.ensures.reads);
       };
     }

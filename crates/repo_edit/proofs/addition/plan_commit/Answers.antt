@@ -1,0 +1,10 @@
+use Rattle.std.proofs.Common.{refl, sym, subst}
+use Rattle.bug_ops.specs.Kind.{bug_kind}
+use Rattle.dag_entity.specs.Appending.{MayBeAppended}
+use Rattle.repo_edit.proofs.KeepsLemmas.{keeps}
+use Rattle.repo_edit.proofs.addition.plan_commit.Goals as goal
+
+pub plan_append-requires : goal.plan_append-requires
+plan_append-requires c =
+    subst (MayBeAppended bug_kind) (sym c.in_ok-pack.ensures)
+    (record { version = refl; edit = c.requires.edit; create = c.requires.create; rules = (keeps c.args.new.op c.args.new.rules, tt) })
