@@ -4,23 +4,27 @@ use Rattle.std.specs.Prelude.{codes}
 use Rattle.hex.specs.Hex.{encode_lower}
 use Rattle.gb_text.specs.declared.id.Id.{Id}
 use Rattle.gb_store.specs.Files.{Files, History, files_of}
-use Rattle.repo_state.specs.declared.env.Env.{Env}
-use Rattle.repo_state.specs.declared.refusal.Refusal.{Refusal}
-use Rattle.repo_state.specs.declared.refusal.Stop.TheVariants as stop
+use Rattle.repo_steps.specs.declared.env.Env.{Env}
+use Rattle.repo_steps.specs.declared.refusal.Refusal.{Refusal}
+use Rattle.repo_steps.specs.declared.refusal.Refusal.TheVariants as refusal
+use Rattle.repo_steps.specs.Stops.{of_missed}
+use Rattle.repo_state.specs.declared.stop.FindStop.TheVariants as find
+use Rattle.repo_state.specs.declared.stop.ReadStop.TheVariants as read
+use Rattle.repo_steps.specs.declared.refusal.Stop.TheVariants as stop
 use Rattle.repo_steps.proofs.ClearLemmas.{never_refused}
 use Rattle.repo_steps.proofs.DoneLemmas.{done_steps}
 use Rattle.repo_steps.proofs.StepLemmas.{steps-same}
 use Rattle.repo_steps.specs.Steps.{Steps}
-use Rattle.repo_steps.specs.declared.edit.Edit.{Edit as Edits}
+use Rattle.words.specs.declared.edit.Edit.{Edit as Edits}
 use Rattle.repo_view.specs.Log.{LogAnswers}
 use Rattle.repo_view.specs.Shown.{ShowAnswers, UsersAnswers}
-use Rattle.repo_view.proofs.LawLemmas.{no_refusal, one_log}
-use Rattle.repo_view.proofs.RefusalLemmas.{one_log_refusal, one_show_refusal, one_users_refusal}
-use Rattle.repo_view.proofs.ShownLemmas.{one_show, one_users, show_not_refused, users_not_refused}
+use Rattle.repo_view.proofs.LawLemmas.{log_not_missed, one_log}
+use Rattle.repo_view.proofs.MissedLemmas.{one_log_missed, one_show_missed, one_users_damage}
+use Rattle.repo_view.proofs.ShownLemmas.{one_show, one_users, show_not_missed, shown_not_damaged}
 use Rattle.bug_run.specs.Run.{CommandAnswers}
 use Rattle.bug_run.specs.Told.{Said}
-use Rattle.bug_run.specs.declared.words.Command.{Command}
-use Rattle.bug_run.specs.declared.words.Command.TheVariants.{Edit, Log, Show, Users}
+use Rattle.words.specs.declared.words.Command.{Command}
+use Rattle.words.specs.declared.words.Command.TheVariants.{Edit, Log, Show, Users}
 
 -- answers with the same text, none of whose lines is a refusal, are one
 same_said : (first second : Said) → first.text ≡ second.text → first.refused ≡ 0 → second.refused ≡ 0 → first ≡ second
@@ -46,20 +50,23 @@ one_told env (Edit edit) old elder one two first second same (id, here, is) (oth
 -- and has no refusal
 pub done_not_refused : (env : Env) (command : Command) (old one two : History) (said : Said) (r : Refusal)
     → CommandAnswers env command old one (Ok said) → CommandAnswers env command old two (Err (stop.Refused r)) → ⊥
-done_not_refused env Users old one two said r here there = users_not_refused (files_of old) env.folder said.text r here.0.0 there.0
-done_not_refused env (Show bug) old one two said r here there = show_not_refused (files_of old) env.folder bug said.text r here.0.0 there.0
-done_not_refused env (Log bug) old one two said r here there = no_refusal (files_of old) env.folder bug said.text r here.0.0 there.0
+done_not_refused env Users old one two said r here ((path, there, is), same) = shown_not_damaged (files_of old) env.folder said.text path here.0.0 there
+done_not_refused env (Show bug) old one two said r here ((why, there, is), same) = show_not_missed (files_of old) env.folder bug said.text why here.0.0 there
+done_not_refused env (Log bug) old one two said r here ((why, there, is), same) = log_not_missed (files_of old) env.folder bug said.text why here.0.0 there
 done_not_refused env (Edit edit) old one two said r (id, (op, done), is) (other, refused) = never_refused env edit old r (op, done.may) (other, refused.0)
 
 -- one that edits nothing has one refusal
 pub one_refusal : (env : Env) (command : Command) (old elder one two : History) (first second : Refusal) → files_of old ≡ files_of elder
     → ((edit : Edits) → command ≡ Edit edit → ⊥) → CommandAnswers env command old one (Err (stop.Refused first)) → CommandAnswers env command elder two (Err (stop.Refused second)) → first ≡ second
-one_refusal env Users old elder one two first second same reads here there =
-    one_users_refusal (files_of old) env.folder first second here.0 (subst (λ (files : Files). UsersAnswers files env.folder (Err (stop.Refused second))) (sym same) there.0)
-one_refusal env (Show bug) old elder one two first second same reads here there =
-    one_show_refusal (files_of old) env.folder bug first second here.0 (subst (λ (files : Files). ShowAnswers files env.folder bug (Err (stop.Refused second))) (sym same) there.0)
-one_refusal env (Log bug) old elder one two first second same reads here there =
-    one_log_refusal (files_of old) env.folder bug first second here.0 (subst (λ (files : Files). LogAnswers files env.folder bug (Err (stop.Refused second))) (sym same) there.0)
+one_refusal env Users old elder one two first second same reads ((path, here, is), _) ((other, there, also), _) =
+    let told = one_users_damage (files_of old) env.folder path other here (subst (λ (files : Files). UsersAnswers files env.folder (Err (read.Damaged other))) (sym same) there) in
+    is ∙ ap refusal.Damaged told ∙ sym also
+one_refusal env (Show bug) old elder one two first second same reads ((why, here, is), _) ((other, there, also), _) =
+    let told = one_show_missed (files_of old) env.folder bug why other here (subst (λ (files : Files). ShowAnswers files env.folder bug (Err (find.Missed other))) (sym same) there) in
+    is ∙ ap of_missed told ∙ sym also
+one_refusal env (Log bug) old elder one two first second same reads ((why, here, is), _) ((other, there, also), _) =
+    let told = one_log_missed (files_of old) env.folder bug why other here (subst (λ (files : Files). LogAnswers files env.folder bug (Err (find.Missed other))) (sym same) there) in
+    is ∙ ap of_missed told ∙ sym also
 one_refusal env (Edit edit) old elder one two first second same reads here there = absurd (reads edit refl)
 
 -- one that edits and is done tells the line of the id of its step

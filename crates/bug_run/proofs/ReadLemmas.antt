@@ -1,22 +1,20 @@
 -- What is read for a command is read by a run.
-use Rattle.std.proofs.Common.{◌≡◌, inl, inr, ℕ, Bool, List, Option, Result, Ok, Err, IsOk, refl}
+use Rattle.std.proofs.Common.{◌≡◌, inl, inr, ℕ, Bool, List, Result, Ok, Err, IsOk, refl}
 use Rattle.gb_store.specs.Files.{Files}
-use Rattle.repo_state.specs.declared.refusal.Stop.{Stop}
-use Rattle.repo_state.specs.declared.refusal.Stop.TheVariants as stop
-use Rattle.repo_steps.specs.declared.edit.Edit.{Edit as Edits}
-use Rattle.repo_steps.specs.declared.edit.Edit.TheVariants.{New, OfBug, UserEdit, UserNew, UserSet}
+use Rattle.repo_steps.specs.declared.refusal.Stop.{Stop}
+use Rattle.repo_steps.specs.declared.refusal.Stop.TheVariants as stop
+use Rattle.words.specs.declared.edit.Edit.{Edit as Edits}
+use Rattle.words.specs.declared.edit.Edit.TheVariants.{New, OfBug, UserEdit, UserNew, UserSet}
 use Rattle.repo_edit.specs.Reads.{ReadsFor}
-use Rattle.bug_run.specs.Asked.{written_in}
 use Rattle.bug_run.specs.Printed.{Printed}
-use Rattle.bug_run.specs.Reads.{ReadsAsked, ReadsCommand}
+use Rattle.bug_run.specs.Reads.{ReadsCommand}
 use Rattle.bug_run.specs.Run.{status_of, text_of}
 use Rattle.bug_run.specs.Told.{as_said}
 use Rattle.bug_run.specs.declared.status.Status.{Status}
 use Rattle.bug_run.specs.declared.status.Status.TheVariants as status
 use Rattle.bug_run.specs.declared.told.Answer.{Answer}
-use Rattle.bug_run.specs.declared.words.Command.{Command}
-use Rattle.bug_run.specs.declared.words.Command.TheVariants.{Edit, Log, Show, Users}
-use Rattle.bug_run.specs.declared.words.Request.{Request}
+use Rattle.words.specs.declared.words.Command.{Command}
+use Rattle.words.specs.declared.words.Command.TheVariants.{Edit, Log, Show, Users}
 
 -- a run that is told as done answered a text
 pub done_was_ok : (tells takes_memory : Bool) (before after : List ℕ) (r : Result Answer Stop) (answer : Status)
@@ -45,8 +43,3 @@ command_narrower files folder Users P Q before after less reads = reads
 command_narrower files folder (Show bug) P Q before after less reads = reads
 command_narrower files folder (Log bug) P Q before after less reads = reads
 command_narrower files folder (Edit edit) P Q before after less reads = edit_narrower files folder edit P Q before after less reads
-
-pub asked_narrower : (asked : Option Request) (files : Files) (P Q : Type 0) (before after : ℕ) → (Q → P) → ReadsAsked asked files P before after → ReadsAsked asked files Q before after
-asked_narrower asked files P Q before after less (inl same) = inl same
-asked_narrower asked files P Q before after less (inr (at, asks, reads)) =
-    inr (at, asks, command_narrower files (written_in asks.request.command at) asks.request.command P Q before after less reads)

@@ -1,6 +1,5 @@
 -- Whatever runs, and wherever each stops, folders apart stay sound and lose nothing.
 use Rattle.std.proofs.Common.{◌≡◌, ◌≢◌, ◌⊎◌, inl, inr, ℕ, List, [], Contains, true, refl, sym, subst}
-use Rattle.gb_text.specs.Folder.{joined}
 use Rattle.gb_text.specs.Overlap.{Overlap}
 use Rattle.gb_store.specs.Files.{History, files_of}
 use Rattle.gb_store.specs.Moments.{AllMoments, Wrote, WroteBy}
@@ -14,6 +13,7 @@ use Rattle.repo_writes.proofs.SoundLemmas.{keeps_parts, keeps_sound}
 use Rattle.bug_run.specs.Asked.{AsksIn, Folders, written_in}
 use Rattle.bug_run.specs.Run.{Call, RunWrites, call_of}
 use Rattle.bug_run.specs.Runs.{AreApart, IsAmong, IsRun, Runs, nothing, one_more}
+use Rattle.words.specs.Words.{asked_of}
 use Rattle.bug_run.proofs.RunLemmas.{in_folder, nowhere, request_asks, run_wrote}
 
 -- what writes keep of a folder
@@ -57,7 +57,7 @@ module _ (folders : List (List ℕ)) (apart : AreApart folders) (folder : List �
   -- a run keeps each of these folders at the moment where it stops
   run_keeps : (old new : History) → IsRun folders old new → (IsSound folder (files_of old) → IsSound folder (files_of new)) × LosesNothing folder (files_of old) (files_of new)
   run_keeps old new run =
-      let call = call_of true run.sink_tells run.takes_memory run.words run.now run.seed in
+      let call = call_of true run.sink_tells run.takes_memory (asked_of run.words) run.moment in
       let kept = asked_keeps call folder old run.end (λ at asks. this_or_apart (written_in asks.request.command at) (run.place at asks))
       (run_wrote call old run.end run.before run.after run.status refl run.answers) in
       ((λ sound. (keeps_sound folder old run.end kept.parts sound).each new run.stop), kept.kept.each new run.stop)

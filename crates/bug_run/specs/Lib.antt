@@ -1,4 +1,5 @@
 pub mod Asked
+pub mod Moments
 pub mod Printed
 pub mod Reads
 pub mod Refusals
@@ -6,4 +7,3 @@ pub mod Run
 pub mod Runs
 pub mod Served
 pub mod Told
-pub mod Words

@@ -1,14 +1,14 @@
 -- How many objects a run reads.
-use Rattle.std.specs.Prelude.{◌≡◌, ◌⊎◌, ℕ, List, Option}
+use Rattle.std.specs.Prelude.{◌≡◌, ◌⊎◌, ℕ, List}
 use Rattle.gb_store.specs.Files.{Files}
 use Rattle.repo_state.specs.Answers.{ReadsPeople}
 use Rattle.repo_edit.specs.Reads.{ReadsFor}
 use Rattle.repo_view.specs.Log.{ReadsLog}
 use Rattle.repo_view.specs.Shown.{ReadsShow}
 use Rattle.bug_run.specs.Asked.{AsksIn, Folders, written_in}
-use Rattle.bug_run.specs.declared.words.Command.{Command}
-use Rattle.bug_run.specs.declared.words.Command.TheVariants.{Edit, Log, Show, Users}
-use Rattle.bug_run.specs.declared.words.Request.{Request}
+use Rattle.words.specs.declared.words.Command.{Command}
+use Rattle.words.specs.declared.words.Command.TheVariants.{Edit, Log, Show, Users}
+use Rattle.words.specs.declared.words.Asked.{Asked}
 
 -- of a command, those of the one call that it makes, by whether it was done
 abbrev pub ReadsCommand : Files → List ℕ → Command → Type 0 → ℕ → ℕ → Type 0
@@ -18,6 +18,6 @@ ReadsCommand files folder (Log bug) IsDone before after = ReadsLog files folder 
 ReadsCommand files folder (Edit edit) IsDone before after = ReadsFor files folder edit IsDone before after
 
 -- of words that ask this, or nothing: none, or those of the command in the folder in which it writes
-abbrev pub ReadsAsked : Option Request → Files → Type 0 → ℕ → ℕ → Type 0
+abbrev pub ReadsAsked : Asked → Files → Type 0 → ℕ → ℕ → Type 0
 ReadsAsked asked files IsDone before after =
     (after ≡ before) ⊎ ((at : Folders) × (asks : AsksIn asked at) × ReadsCommand files (written_in asks.request.command at) asks.request.command IsDone before after)

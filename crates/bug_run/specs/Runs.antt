@@ -1,11 +1,12 @@
 -- Runs of the program one after another over several folders, each by whatever words and stopped at whatever moment.
-use Rattle.std.specs.Prelude.{◌≡◌, ◌⊎◌, ℕ, ℤ, Bool, true, List, Contains}
+use Rattle.std.specs.Prelude.{◌≡◌, ◌⊎◌, ℕ, Bool, true, List, Contains}
 use Rattle.gb_text.specs.Overlap.{Overlap}
 use Rattle.gb_store.specs.Files.{History}
 use Rattle.gb_store.specs.Moments.{IsMoment}
+use Rattle.bug_edits.specs.declared.moment.Moment.{Moment}
 use Rattle.bug_run.specs.Asked.{AsksIn, Folders, written_in}
 use Rattle.bug_run.specs.Run.{RunAnswers, call_of}
-use Rattle.bug_run.specs.Words.{request_of}
+use Rattle.words.specs.Words.{asked_of}
 use Rattle.bug_run.specs.declared.status.Status.{Status}
 
 -- no two of these folders overlap: those that do are one
@@ -21,16 +22,15 @@ IsAmong folders place = Contains folders place ⊎ ((folder : List ℕ) → Cont
 -- any seed, whatever was printed and answered
 pub record IsRun (folders : List (List ℕ)) (old new : History) : Type 0 where
   pub words : List (List ℕ)
-  pub place : (at : Folders) → (asks : AsksIn (request_of words) at) → IsAmong folders (written_in asks.request.command at)
-  pub now : ℤ
-  pub seed : List ℕ
+  pub place : (at : Folders) → (asks : AsksIn (asked_of words) at) → IsAmong folders (written_in asks.request.command at)
+  pub moment : Moment
   pub end : History
   pub sink_tells : Bool
   pub takes_memory : Bool
   pub before : List ℕ
   pub after : List ℕ
   pub status : Status
-  pub answers : RunAnswers (call_of true sink_tells takes_memory words now seed) old end before after status
+  pub answers : RunAnswers (call_of true sink_tells takes_memory (asked_of words) moment) old end before after status
   pub stop : IsMoment old end new
 
 -- any number of such runs

@@ -10,14 +10,14 @@ use Rattle.render.specs.Show.{show_text_of}
 use Rattle.repo_state.specs.Bugs.{FindsBug}
 use Rattle.repo_state.specs.Finds.{Finds, Nothing}
 use Rattle.repo_state.specs.People.{ArePeople}
-use Rattle.repo_state.specs.declared.env.Env.{Env}
-use Rattle.repo_state.specs.declared.refusal.Refusal.{Refusal}
+use Rattle.repo_steps.specs.declared.env.Env.{Env}
+use Rattle.repo_steps.specs.declared.refusal.Refusal.{Refusal}
 use Rattle.repo_state.specs.declared.side.HeadEntry.{HeadEntry}
 use Rattle.repo_state.specs.declared.side.Side.TheVariants as side
 use Rattle.repo_steps.specs.Doings.{Refused}
 use Rattle.snapshot.specs.LastMention.{snapshot_of}
-use Rattle.bug_run.specs.declared.words.Command.{Command}
-use Rattle.bug_run.specs.declared.words.Command.TheVariants.{Edit, Log, Show, Users}
+use Rattle.words.specs.declared.words.Command.{Command}
+use Rattle.words.specs.declared.words.Command.TheVariants.{Edit, Log, Show, Users}
 
 -- a command has a cause to be refused: a check of an edit fails, or the word of a command that reads a bug finds none
 abbrev pub HasCause : Env → Command → History → Type 0

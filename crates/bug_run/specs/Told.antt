@@ -1,7 +1,7 @@
 -- What a command answers, as the text that it prints.
 use Rattle.std.specs.Prelude.{ℕ, List, Result, Ok, Err}
 use Rattle.repo_state.specs.Users.{id_line}
-use Rattle.repo_state.specs.declared.refusal.Stop.{Stop}
+use Rattle.repo_steps.specs.declared.refusal.Stop.{Stop}
 use Rattle.bug_run.specs.declared.told.Answer.{Answer}
 use Rattle.bug_run.specs.declared.told.Told.{Told}
 use Rattle.bug_run.specs.declared.told.Told.TheVariants as told

@@ -1,29 +1,33 @@
 //! Laws of runs, each the contract of a function that does nothing.
-ghost use Rattle.std.specs.Prelude.{◌≡◌, ◌⊎◌, ◌≤◌, ◌+◌, ◌++◌, [], true, IsTrue, Contains, List, ℕ, Some, None, Ok, Err, codes};
+ghost use Rattle.std.specs.Prelude.{◌≡◌, ◌⊎◌, ◌≤◌, ◌+◌, ◌++◌, [], IsTrue, Contains, List, ℕ, Ok, Err, codes};
 ghost use Rattle.hex.specs.Hex.{encode_lower};
-ghost use Rattle.gb_text.specs.Folder.{folder_of};
 ghost use Rattle.gb_text.specs.declared.id.Id.{Id};
+ghost use Rattle.gb_text.specs.declared.ruled.Line.{Line};
+ghost use Rattle.gb_text.specs.declared.ruled.Message.{Message};
+ghost use Rattle.gb_text.specs.declared.ruled.Title.{Title};
 ghost use Rattle.gb_store.specs.Files.{Files, History, files_of};
 ghost use Rattle.repo_state.specs.Sound.{IsSound};
 ghost use Rattle.repo_writes.specs.Kept.{LosesNothing};
 ghost use Rattle.repo_steps.specs.Steps.{Steps};
-ghost use Rattle.repo_steps.specs.declared.edit.Edit.{Edit as Edits};
-ghost use Rattle.repo_steps.specs.declared.edit.Edit.TheVariants as edits;
-ghost use Rattle.repo_state.specs.declared.env.Env.{Env};
-ghost use Rattle.repo_state.specs.declared.refusal.Refusal.{Refusal};
-ghost use Rattle.repo_state.specs.declared.refusal.Stop.TheVariants as stop;
-ghost use Rattle.bug_run.specs.Asked.{is_by_words, word_refusal};
+ghost use Rattle.words.specs.declared.edit.Edit.{Edit as Edits};
+ghost use Rattle.words.specs.declared.edit.Edit.TheVariants as edits;
+ghost use Rattle.repo_steps.specs.declared.env.Env.{Env};
+ghost use Rattle.repo_steps.specs.declared.refusal.Refusal.{Refusal};
+ghost use Rattle.repo_steps.specs.declared.refusal.Stop.TheVariants as stop;
 ghost use Rattle.bug_run.specs.Printed.{IsTold};
 ghost use Rattle.bug_run.specs.Reads.{ReadsCommand};
 ghost use Rattle.bug_run.specs.Run.{Call, CommandAnswers, RunAnswers, env_at};
 ghost use Rattle.bug_run.specs.Runs.{AreApart, Runs};
 ghost use Rattle.bug_run.specs.Served.{HasCause, ShowsOperations};
 ghost use Rattle.bug_run.specs.Told.{Said};
+ghost use Rattle.bug_run.specs.declared.status.Refused.TheVariants as refused;
 ghost use Rattle.bug_run.specs.declared.status.Status.{Status as StatusValue};
 ghost use Rattle.bug_run.specs.declared.status.Status.TheVariants as status;
-ghost use Rattle.bug_run.specs.declared.words.Command.{Command};
-ghost use Rattle.bug_run.specs.declared.words.Command.TheVariants as ask;
-ghost use Rattle.bug_run.specs.declared.words.Request.{Request};
+ghost use Rattle.words.specs.declared.words.Asked.TheVariants as asked;
+ghost use Rattle.words.specs.declared.words.BadWord.{BadWord as BadWordValue};
+ghost use Rattle.words.specs.declared.words.Command.{Command};
+ghost use Rattle.words.specs.declared.words.Command.TheVariants as ask;
+ghost use Rattle.words.specs.declared.words.Request.{Request};
 
 /// Whatever is run over folders of which no two overlap, by whatever words, and wherever each run
 /// stops: each of them that is sound stays sound, no object is lost, everything below the head of an
@@ -45,13 +49,12 @@ pub fn runs_from_nothing_are_sound()
 
 /// In a sound folder a command is done wherever nothing is a cause to refuse it, but where the store
 /// fails, the output fails or memory runs out. An edit has a cause where a check of it fails, a command
-/// that reads a bug where its word finds none, and the list of people has none.
+/// that reads a bug where its argument finds none, and the list of people has none.
 pub fn sound_folders_are_served()
     ensures { (call : Call) (old new : History) (before after : List ℕ) (answer : StatusValue)
-        (request : Request) (folder : List ℕ) → IsTrue call.store_tells
-        → call.asked ≡ Some request → folder_of request.folder ≡ Some folder
-        → IsSound folder (files_of old)
-        → (HasCause (env_at call.now call.seed folder) request.command old → ⊥)
+        (request : Request) → IsTrue call.store_tells → call.asked ≡ asked.Request request
+        → IsSound request.folder (files_of old)
+        → (HasCause (env_at call.moment request.folder) request.command old → ⊥)
         → RunAnswers call old new before after answer
         → (answer ≡ status.Done) ⊎ ((answer ≡ status.Memory)
         ⊎ ((answer ≡ status.DiskFault) ⊎ (answer ≡ status.OutFault))) }
@@ -61,10 +64,10 @@ pub fn sound_folders_are_served()
 /// the bug's head give, in order of edit clock, pack id and name, with the names of the folder's people.
 /// It writes nothing.
 pub fn show_prints_the_operations_in_order()
-    ensures { (call : Call) (old new : History) (before after word words folder : List ℕ)
+    ensures { (call : Call) (old new : History) (before after word folder : List ℕ)
         → IsTrue call.store_tells → IsTrue call.sink_tells
-        → call.asked ≡ Some (record { folder = words; command = ask.Show word })
-        → folder_of words ≡ Some folder → RunAnswers call old new before after status.Done
+        → call.asked ≡ asked.Request (record { folder = folder; command = ask.Show word })
+        → RunAnswers call old new before after status.Done
         → (text : List ℕ) × ShowsOperations (files_of old) folder word text
         × (after ≡ before ++ text) × (new ≡ old) }
 {}
@@ -99,10 +102,12 @@ pub fn edits_tell_what_they_made()
 /// Commands that read no chain and no bug read few objects: `user-new` at most three, `new` four,
 /// `user-set` none.
 pub fn edits_read_few_objects()
-    ensures person { (files : Files) (folder name email : List ℕ) (before after : ℕ)
+    ensures person { (files : Files) (folder : List ℕ) (name : Title) (email : Line)
+        (before after : ℕ)
         → ReadsCommand files folder (ask.Edit (edits.UserNew name email)) ⊥ before after
         → after ≤ before + 3 }
-    ensures bug { (files : Files) (folder title message : List ℕ) (before after : ℕ)
+    ensures bug { (files : Files) (folder : List ℕ) (title : Title) (message : Message)
+        (before after : ℕ)
         → ReadsCommand files folder (ask.Edit (edits.New title message)) ⊥ before after
         → after ≤ before + 4 }
     ensures user { (files : Files) (folder id : List ℕ) (before after : ℕ)
@@ -110,23 +115,21 @@ pub fn edits_read_few_objects()
         → after ≡ before }
 {}
 
-/// What the words alone decide, over every store: the usage is reported if and only if they give no
-/// command. Where they give one, a refusal by words is reported if and only if the words alone give it:
-/// `bad folder` where the folder's word is not one, else `bad text` with the place of the first word of
-/// the command that breaks its rule. Only the sink and a lack of memory may keep each from being told.
+/// What the arguments alone decide, over every store: the usage is reported if and only if they give no
+/// command, and a refusal by arguments if and only if they alone give it. Only the sink and a lack of
+/// memory may keep each from being told.
 pub fn words_decide_first()
     ensures usage { (call : Call) (old new : History) (before after : List ℕ)
-        (answer : StatusValue) → call.asked ≡ None → RunAnswers call old new before after answer
-        → IsTold status.Usage answer }
+        (answer : StatusValue) → call.asked ≡ asked.Nothing
+        → RunAnswers call old new before after answer → IsTold status.Usage answer }
     ensures only_usage { (call : Call) (old new : History) (before after : List ℕ)
-        → RunAnswers call old new before after status.Usage → call.asked ≡ None }
+        → RunAnswers call old new before after status.Usage → call.asked ≡ asked.Nothing }
     ensures refused { (call : Call) (old new : History) (before after : List ℕ)
-        (answer : StatusValue) (request : Request) (refused : Refusal)
-        → call.asked ≡ Some request → word_refusal request ≡ Some refused
-        → RunAnswers call old new before after answer → IsTold (status.Refused refused) answer }
+        (answer : StatusValue) (bad : BadWordValue) → call.asked ≡ asked.Refused bad
+        → RunAnswers call old new before after answer
+        → IsTold (status.Refused (refused.ByWords bad)) answer }
     ensures only_refused { (call : Call) (old new : History) (before after : List ℕ)
-        (request : Request) (refused : Refusal) → call.asked ≡ Some request
-        → is_by_words refused ≡ true
-        → RunAnswers call old new before after (status.Refused refused)
-        → word_refusal request ≡ Some refused }
+        (bad : BadWordValue)
+        → RunAnswers call old new before after (status.Refused (refused.ByWords bad))
+        → call.asked ≡ asked.Refused bad }
 {}

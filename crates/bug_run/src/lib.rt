@@ -2,22 +2,20 @@
 #![tactic(auto)]
 
 mod laws;
+mod moment;
 mod print;
 mod refusal;
 mod status;
 mod told;
 mod top;
 mod usage;
-mod words;
 
 pub use laws::{
     answers_are_determined, edits_read_few_objects, edits_tell_what_they_made,
     runs_from_nothing_are_sound, runs_keep_folders, show_prints_the_operations_in_order,
     sound_folders_are_served, words_decide_first,
 };
-pub use status::Status;
+pub use moment::moment_of;
+pub use status::{Refused, Status};
 pub use top::run;
-pub use usage::{
-    commands_ask_for_what_they_name, edits_of_bugs_ask_for_what_they_name,
-    failed_output_is_cut_short, only_these_are_commands, reads_are_bounded_by_factors,
-};
+pub use usage::{failed_output_is_cut_short, reads_are_bounded_by_factors};

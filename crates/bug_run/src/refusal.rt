@@ -1,34 +1,60 @@
 //! The lines that tell refusals.
-ghost use Rattle.std.specs.Prelude.{◌≡◌, ◌++◌, IfOk, OnOk, codes, decimal, string_bytes};
+ghost use Rattle.std.specs.Prelude.{◌≡◌, ◌++◌, IfOk, OnOk, decimal, string_bytes};
 ghost use Rattle.hex.specs.Hex.{encode_lower};
-ghost use Rattle.bug_run.specs.Refusals.{refusal_line, refusal_words};
+ghost use Rattle.bug_run.specs.Refusals.{number_of, refusal_line, refusal_words, words_of};
 
+use crate::status::Refused;
 use gb_text::{Id, Memory, Name, Text, push_id, push_name, push_number};
-use repo_state::Refusal;
+use repo_steps::Refusal;
 use std::alloc::{AllocError, Global};
+use words::BadWord;
 
 /// The line of a refusal: `refused`, its number, and what it says.
-pub fn refusal_line(alloc: Global, refusal: &Refusal) -> Result<Text, Memory>
-    ensures { IfOk result (λ line. line ≡ refusal_line refusal.now) }
+pub fn refusal_line(alloc: Global, refused: &Refused) -> Result<Text, Memory>
+    ensures { IfOk result (λ line. line ≡ refusal_line refused.now) }
 {
     let mut line = String::new(alloc);
     line.push_str("refused ")?;
-    push_number(&mut line, refusal.number())?;
+    push_number(&mut line, number(refused))?;
     line.push_str(" ")?;
-    push_words(&mut line, refusal)?;
+    push_words(&mut line, refused)?;
     line.push_str("\n")?;
     Ok(Text::from_string(line))
 }
 
+// The number of a refusal.
+fn number(refused: &Refused) -> u64
+    ensures { result ≡ number_of refused.now }
+{
+    match refused {
+        Refused::ByWords(BadWord::BadText(_)) => 4,
+        Refused::ByCommand(refusal) => refusal.number(),
+        Refused::SomeLines(_) => 15,
+        Refused::ByWords(BadWord::BadFolder) => 17,
+    }
+}
+
 // Adds what a refusal says behind its number.
-fn push_words(line: &mut String, refusal: &Refusal) -> Result<(), AllocError>
+fn push_words(line: &mut String, refused: &Refused) -> Result<(), AllocError>
+    ensures { OnOk result (string_bytes line.new
+        ≡ string_bytes line.old ++ words_of refused.now) }
+{
+    match refused {
+        Refused::ByWords(BadWord::BadFolder) => line.push_str("bad folder"),
+        Refused::ByWords(BadWord::BadText(place)) => push_counted(line, "bad text ", *place),
+        Refused::ByCommand(refusal) => push_refusal(line, refusal),
+        Refused::SomeLines(count) => push_counted(line, "some refused ", *count),
+    }
+}
+
+// Adds what the refusal of a command says.
+fn push_refusal(line: &mut String, refusal: &Refusal) -> Result<(), AllocError>
     ensures { OnOk result (string_bytes line.new
         ≡ string_bytes line.old ++ refusal_words refusal.now) }
 {
     match refusal {
         Refusal::NoUser => line.push_str("no user"),
         Refusal::NotFound => line.push_str("not found"),
-        Refusal::BadText(place) => push_counted(line, "bad text ", *place),
         Refusal::NoLabelChange => line.push_str("no label change"),
         Refusal::SameStatus => line.push_str("same status"),
         Refusal::ClockFull(name) => push_with_name(line, "clock full ", name),
@@ -40,8 +66,6 @@ fn push_words(line: &mut String, refusal: &Refusal) -> Result<(), AllocError>
             line.push_str("damaged ")?;
             line.push_str(path.as_str())
         }
-        Refusal::SomeRefused(count) => push_counted(line, "some refused ", *count),
-        Refusal::BadFolder => line.push_str("bad folder"),
     }
 }
 

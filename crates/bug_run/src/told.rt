@@ -4,18 +4,17 @@ ghost use Rattle.repo_state.specs.Users.{id_line};
 
 use gb_text::{Id, Text};
 
-/// What a command tells: a text, or the line of an id, which takes no memory.
+/// What a command prints: a text, or the line of an id, which takes no memory.
 #[derive(Debug, Drop)]
 pub enum Told {
     Text(Text),
     Id(Id),
 }
 
-/// What a command answers where it is done.
+/// What a command answers where it is done: what it prints, and how many of its lines are refusals.
 #[derive(Debug, Drop)]
 pub struct Answer {
     pub told: Told,
-    /// How many of its lines tell refusals.
     pub refused: u64,
 }
 

@@ -1,8 +1,9 @@
 //! The calls of `repo_edit` that each add one operation to a bug.
 use bug_ops::BugStatus;
+use bug_run::moment_of;
 use fixtures::{Disk, id};
-use gb_text::{Folder, Id, Text};
-use repo_state::{Env, Refusal, Stop};
+use gb_text::{Folder, Id, List, Memory, Message, Title};
+use repo_steps::{Env, Refusal, Stop};
 use run_fixtures::Row::{self, Done};
 use run_fixtures::hold;
 use std::alloc::Global;
@@ -25,80 +26,75 @@ const BEGUN: &[Row] = &[
     ),
 ];
 
+// A moment of a run with this number.
+fn env(folder: Folder, number: u8) -> Env {
+    Env {
+        folder,
+        moment: moment_of(100 + i64::from(number), [number; 32]),
+    }
+}
+
+fn title_of(alloc: Global, text: &str) -> Result<Title, Stop> {
+    Title::read(alloc, text)?.ok_or(Stop::Memory)
+}
+
+fn message_of(alloc: Global, text: &str) -> Result<Message, Stop> {
+    Message::read(alloc, text)?.ok_or(Stop::Memory)
+}
+
+fn titles_of(alloc: Global, texts: &[&str]) -> Result<List<Title>, Stop> {
+    let mut titles = Vec::new(alloc);
+    for text in texts {
+        titles.push(title_of(alloc, text)?).map_err(|_| Memory)?;
+    }
+    Ok(List::from_vec(titles))
+}
+
 // The contracts of the calls are long, so nothing goes on behind one here.
 fn comment(disk: &mut Disk, folder: Folder) -> Result<Id, Stop> {
-    let env = Env {
-        folder,
-        now: 103,
-        seed: [3; 32],
-    };
-    repo_edit::comment(disk.alloc, &mut disk.store, &env, BUG, "hi")
+    let message = message_of(disk.alloc, "hi")?;
+    repo_edit::comment(disk.alloc, &mut disk.store, &env(folder, 3), BUG, message)
 }
 
 fn noop(disk: &mut Disk, folder: Folder) -> Result<Id, Stop> {
-    let env = Env {
-        folder,
-        now: 104,
-        seed: [4; 32],
-    };
-    repo_edit::noop(disk.alloc, &mut disk.store, &env, BUG)
+    repo_edit::noop(disk.alloc, &mut disk.store, &env(folder, 4), BUG)
 }
 
-fn title(disk: &mut Disk, folder: Folder, text: &str) -> Result<Id, Stop> {
-    let env = Env {
-        folder,
-        now: 105,
-        seed: [5; 32],
-    };
-    repo_edit::title(disk.alloc, &mut disk.store, &env, BUG, text)
+fn title(disk: &mut Disk, folder: Folder) -> Result<Id, Stop> {
+    let title = title_of(disk.alloc, "Login works")?;
+    repo_edit::title(disk.alloc, &mut disk.store, &env(folder, 5), BUG, title)
 }
 
 fn close(disk: &mut Disk, folder: Folder) -> Result<Id, Stop> {
-    let env = Env {
-        folder,
-        now: 107,
-        seed: [7; 32],
-    };
+    let env = env(folder, 7);
     repo_edit::set_status(disk.alloc, &mut disk.store, &env, BUG, BugStatus::Closed)
 }
 
-fn label_add(disk: &mut Disk, folder: Folder, labels: &[Text]) -> Result<Id, Stop> {
-    let env = Env {
-        folder,
-        now: 111,
-        seed: [11; 32],
-    };
-    repo_edit::label_add(disk.alloc, &mut disk.store, &env, BUG, labels)
+fn label_add(disk: &mut Disk, folder: Folder, labels: &[&str]) -> Result<Id, Stop> {
+    let labels = titles_of(disk.alloc, labels)?;
+    repo_edit::label_add(disk.alloc, &mut disk.store, &env(folder, 11), BUG, labels)
 }
 
-fn label_rm(disk: &mut Disk, folder: Folder, labels: &[Text]) -> Result<Id, Stop> {
-    let env = Env {
-        folder,
-        now: 112,
-        seed: [12; 32],
-    };
-    repo_edit::label_rm(disk.alloc, &mut disk.store, &env, BUG, labels)
+fn label_rm(disk: &mut Disk, folder: Folder, labels: &[&str]) -> Result<Id, Stop> {
+    let labels = titles_of(disk.alloc, labels)?;
+    repo_edit::label_rm(disk.alloc, &mut disk.store, &env(folder, 12), BUG, labels)
 }
 
 fn meta(disk: &mut Disk, folder: Folder) -> Result<Id, Stop> {
-    let env = Env {
-        folder,
-        now: 116,
-        seed: [16; 32],
-    };
-    repo_edit::meta(disk.alloc, &mut disk.store, &env, BUG, "k", "v")
+    let key = title_of(disk.alloc, "k")?;
+    let value = message_of(disk.alloc, "v")?;
+    repo_edit::meta(
+        disk.alloc,
+        &mut disk.store,
+        &env(folder, 16),
+        BUG,
+        key,
+        value,
+    )
 }
 
 fn folder(disk: &Disk) -> Result<Folder, Fail> {
     Ok(Folder::read(disk.alloc, "f")?)
-}
-
-fn texts(alloc: Global, words: &[&str]) -> Result<Vec<Text>, Fail> {
-    let mut texts = Vec::new(alloc);
-    for word in words {
-        texts.push(Text::from_str(alloc, word)?)?;
-    }
-    Ok(texts)
 }
 
 // Ids are those of the same edits by words, which a script apart from the program makes of the
@@ -120,7 +116,7 @@ fn each_call_adds_its_operation(rt: HostRuntime) -> Result<(), Fail> {
     );
     let f = folder(&disk)?;
     assert_eq!(rt;
-        title(&mut disk, f, "Login works")?,
+        title(&mut disk, f)?,
         id("86515501d98b9f562fb5d727c51b3664e9f2c2c09e4fdae57246dca31859f383")?
     );
     let f = folder(&disk)?;
@@ -142,7 +138,7 @@ fn labels_are_put_on_and_taken_off(rt: HostRuntime) -> Result<(), Fail> {
     let alloc = rt.alloc();
     let mut disk = Disk::new(alloc)?;
     hold(&mut disk, BEGUN)?;
-    let labels = texts(alloc, &["b", "a", "b"])?;
+    let labels = ["b", "a", "b"];
     let f = folder(&disk)?;
     assert_eq!(rt;
         label_add(&mut disk, f, &labels)?,
@@ -158,29 +154,5 @@ fn labels_are_put_on_and_taken_off(rt: HostRuntime) -> Result<(), Fail> {
             Err(Stop::Refused(Refusal::NoLabelChange))
         )
     );
-    Ok(())
-}
-
-#[test]
-fn a_bad_word_is_refused(rt: HostRuntime) -> Result<(), Fail> {
-    let alloc = rt.alloc();
-    let mut disk = Disk::new(alloc)?;
-    hold(&mut disk, BEGUN)?;
-    let f = folder(&disk)?;
-    assert!(rt;
-        matches!(
-            title(&mut disk, f, "a\nb"),
-            Err(Stop::Refused(Refusal::BadText(2)))
-        )
-    );
-    let labels = texts(alloc, &["a", ""])?;
-    let f = folder(&disk)?;
-    assert!(rt;
-        matches!(
-            label_add(&mut disk, f, &labels),
-            Err(Stop::Refused(Refusal::BadText(3)))
-        )
-    );
-    assert_eq!(rt; disk.store.writes(), 12);
     Ok(())
 }

@@ -3,7 +3,7 @@
 use crate::bugs::{BEGUN, SHOWN};
 use fixtures::{Disk, id};
 use gb_text::Id;
-use repo_state::{Refusal, Stop, read_bug};
+use repo_state::{FindStop, Missed, read_bug};
 use run_fixtures::Row::{self, Done, Refused};
 use run_fixtures::{DONE, REFUSED, hold, run_into, run_words, sink};
 use std::alloc::Global;
@@ -215,7 +215,7 @@ fn a_folder_with_a_long_word_is_read(rt: HostRuntime) -> Result<(), Fail> {
 
 // How many packs the bug with an id has. The contract of `read_bug` is long, so nothing goes on behind
 // it here.
-fn packs(disk: &mut Disk, bug: &Id) -> Result<usize, Stop> {
+fn packs(disk: &mut Disk, bug: &Id) -> Result<usize, FindStop> {
     let entity = read_bug(disk.alloc, &mut disk.store, &disk.folder, bug)?;
     Ok(entity.packs.as_slice().len())
 }
@@ -230,7 +230,7 @@ fn a_bug_is_read_by_its_id(rt: HostRuntime) -> Result<(), Fail> {
     assert!(rt;
         matches!(
             packs(&mut disk, &other),
-            Err(Stop::Refused(Refusal::NotFound))
+            Err(FindStop::Missed(Missed::NotFound))
         )
     );
     disk.put(
@@ -240,7 +240,7 @@ fn a_bug_is_read_by_its_id(rt: HostRuntime) -> Result<(), Fail> {
     assert!(rt;
         matches!(
             packs(&mut disk, &bug),
-            Err(Stop::Refused(Refusal::Damaged(_)))
+            Err(FindStop::Missed(Missed::Damaged(_)))
         )
     );
     Ok(())

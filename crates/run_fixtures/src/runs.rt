@@ -1,10 +1,11 @@
 //! Runs by words, and how they end.
-use bug_run::{Status, run};
+use bug_run::{Status, moment_of, run};
 use fixtures::Disk;
 use gb_store::{MemSink, MemStore};
 use gb_text::List;
 use std::alloc::Global;
 use std::test::Fail;
+use words::read_words;
 
 /// How a run ends, by the status with which the program does.
 pub const DONE: u8 = 0;
@@ -42,7 +43,10 @@ fn run_all(
     now: i64,
     seed: u8,
 ) -> Status {
-    run(alloc, words, store, sink, now, [seed; 32])
+    match read_words(alloc, words) {
+        Ok(asked) => run(alloc, words, asked, store, sink, moment_of(now, [seed; 32])),
+        Err(_) => Status::Memory,
+    }
 }
 
 /// A sink that takes seven bytes a write.

@@ -1,70 +1,83 @@
-use Rattle.std.proofs.Common.{◌≡◌, rules, ℕ, List, Option, Some, None, IsOk, map, string_bytes, refl, sym, subst}
+use Rattle.std.proofs.Common.{◌≡◌, inr, ℕ, List, map, IsOk, rules, refl, sym, subst}
+use Rattle.std.specs.Prelude.{string_bytes}
 use Rattle.gb_store.specs.Files.{files_of}
 use Rattle.gb_store.proofs.MomentLemmas.{WroteBy-none}
+use Rattle.bug_run.specs.Asked.{folders_of}
 use Rattle.bug_run.specs.Printed.{Printed}
-use Rattle.bug_run.specs.Reads.{ReadsAsked}
 use Rattle.bug_run.specs.Refusals.{usage_text}
-use Rattle.bug_run.specs.Run.{RequestAnswers, RunWrites, call_of, moment}
+use Rattle.bug_run.specs.Run.{AskedAnswers, RunWrites, call_of}
 use Rattle.bug_run.specs.Told.{as_said}
-use Rattle.bug_run.specs.Words.{request_of}
 use Rattle.bug_run.specs.declared.status.Status.TheVariants as status
-use Rattle.bug_run.specs.declared.words.Request.{Request}
-use Rattle.bug_run.proofs.ReadLemmas.{asked_narrower, done_was_ok}
-use Rattle.bug_run.proofs.RunLemmas.{answered, run_stays_sound, run_wrote, unasked, unread}
+use Rattle.words.specs.Words.{asked_of}
+use Rattle.words.specs.declared.words.Asked.{Asked}
+use Rattle.words.specs.declared.words.Asked.TheVariants as asked
+use Rattle.bug_run.proofs.ReadLemmas.{command_narrower, done_was_ok}
+use Rattle.bug_run.proofs.RunLemmas.{run_stays_sound, run_wrote}
 use Rattle.bug_run.proofs.top.run.Goals as goal
 
-pub returns-in-Ok-Some-clause-answers : goal.returns-in-Ok-Some-clause-answers
-returns-in-Ok-Some-clause-answers g c =
-    let old = g.S.Store.history c.args.disk.now in
-    let new = g.S.Store.history c.perform-outcome.new.disk in
-    let request = c.in-Ok-Some.request in
-    let said = as_said c.perform-outcome.result in
-    let is : request_of (map string_bytes c.args.words.now) ≡ Some request = search rules in
-    let value : c.moment_of.result ≡ moment c.args.now = search rules in
-    answered (call_of g.S.Store.tells g.K.Sink.tells g.K.Sink.takes_memory (map string_bytes c.args.words.now) c.args.now c.args.seed) request old new
-    (g.K.Sink.written c.args.out.now) (g.K.Sink.written c.tell.new.out) c.tell.result said is
-    (subst (λ (n : ℕ). RequestAnswers g.S.Store.tells request n c.args.seed old new said) value c.perform-outcome.ensures.answers)
-    c.tell.ensures.answers
+pub returns-in-Request-clause-answers : goal.returns-in-Request-clause-answers
+returns-in-Request-clause-answers g c =
+    let asks = asked_of (map string_bytes c.args.words.now) in
+    let call = call_of g.S.Store.tells g.K.Sink.tells g.K.Sink.takes_memory asks c.args.moment in
+    let is : asks ≡ asked.Request c.in-Request.request = search rules in
+    subst (λ (asks : Asked). AskedAnswers asks call (g.S.Store.history c.args.disk.now) (g.S.Store.history c.perform-outcome.new.disk)
+    (g.K.Sink.written c.args.out.now) (g.K.Sink.written c.tell.new.out) c.tell.result) (sym is)
+    (as_said c.perform-outcome.result, c.perform-outcome.ensures.answers, c.tell.ensures.answers)
 
-pub returns-in-Ok-Some-clause-wrote : goal.returns-in-Ok-Some-clause-wrote
-returns-in-Ok-Some-clause-wrote g c = record {
+pub returns-in-Request-clause-wrote : goal.returns-in-Request-clause-wrote
+returns-in-Request-clause-wrote g c = record {
   wrote = λ tells.
-      run_wrote (call_of g.S.Store.tells g.K.Sink.tells g.K.Sink.takes_memory (map string_bytes c.args.words.now) c.args.now c.args.seed) (g.S.Store.history c.args.disk.now)
+      run_wrote (call_of g.S.Store.tells g.K.Sink.tells g.K.Sink.takes_memory (asked_of (map string_bytes c.args.words.now)) c.args.moment) (g.S.Store.history c.args.disk.now)
       (g.S.Store.history c.perform-outcome.new.disk) (g.K.Sink.written c.args.out.now) (g.K.Sink.written c.tell.new.out) c.tell.result tells
-      (returns-in-Ok-Some-clause-answers g c);
+      (returns-in-Request-clause-answers g c);
 }
 
-pub returns-in-Ok-Some-clause-sound : goal.returns-in-Ok-Some-clause-sound
-returns-in-Ok-Some-clause-sound g c = λ tells.
-    run_stays_sound (call_of g.S.Store.tells g.K.Sink.tells g.K.Sink.takes_memory (map string_bytes c.args.words.now) c.args.now c.args.seed) (g.S.Store.history c.args.disk.now) (g.S.Store.history c.perform-outcome.new.disk)
-    ((returns-in-Ok-Some-clause-wrote g c).wrote tells)
+pub returns-in-Request-clause-sound : goal.returns-in-Request-clause-sound
+returns-in-Request-clause-sound g c = λ tells.
+    run_stays_sound (call_of g.S.Store.tells g.K.Sink.tells g.K.Sink.takes_memory (asked_of (map string_bytes c.args.words.now)) c.args.moment)
+    (g.S.Store.history c.args.disk.now) (g.S.Store.history c.perform-outcome.new.disk) ((returns-in-Request-clause-wrote g c).wrote tells)
 
-pub returns-in-Ok-Some-clause-reads : goal.returns-in-Ok-Some-clause-reads
-returns-in-Ok-Some-clause-reads g c = λ tells.
-    let asked = request_of (map string_bytes c.args.words.now) in
-    let files = files_of (g.S.Store.history c.args.disk.now) in
-    let before = g.S.Store.object_reads c.args.disk.now in
-    let after = g.S.Store.object_reads c.perform-outcome.new.disk in
-    let is : request_of (map string_bytes c.args.words.now) ≡ Some c.in-Ok-Some.request = search rules in
-    let read = subst (λ (o : Option Request). ReadsAsked o files (IsOk c.perform-outcome.result) before after) (sym is) (c.perform-outcome.ensures.reads tells) in
-    asked_narrower asked files (IsOk c.perform-outcome.result) (c.tell.result ≡ status.Done) before after
-    (done_was_ok g.K.Sink.tells g.K.Sink.takes_memory (g.K.Sink.written c.args.out.now) (g.K.Sink.written c.tell.new.out) c.perform-outcome.result c.tell.result c.tell.ensures.answers) read
+pub returns-in-Request-clause-reads : goal.returns-in-Request-clause-reads
+returns-in-Request-clause-reads g c = λ tells.
+    let request = c.in-Request.request in
+    let is : asked_of (map string_bytes c.args.words.now) ≡ asked.Request request = search rules in
+    let was_ok = done_was_ok g.K.Sink.tells g.K.Sink.takes_memory (g.K.Sink.written c.args.out.now) (g.K.Sink.written c.tell.new.out) c.perform-outcome.result c.tell.result c.tell.ensures.answers in
+    inr (
+      folders_of request,
+      record { request = request; is_asked = is; are_folders = refl },
+      command_narrower (files_of (g.S.Store.history c.args.disk.now)) request.folder request.command (IsOk c.perform-outcome.result) (c.tell.result ≡ status.Done)
+          (g.S.Store.object_reads c.args.disk.now) (g.S.Store.object_reads c.perform-outcome.new.disk) was_ok (c.perform-outcome.ensures.reads tells),
+    )
 
-pub returns-in-Ok-None-clause-answers : goal.returns-in-Ok-None-clause-answers
-returns-in-Ok-None-clause-answers g c =
-    let none : request_of (map string_bytes c.args.words.now) ≡ None = search rules in
-    let text : c.as_bytes.result.now ≡ usage_text = search rules in
-    unasked (call_of g.S.Store.tells g.K.Sink.tells g.K.Sink.takes_memory (map string_bytes c.args.words.now) c.args.now c.args.seed) (g.S.Store.history c.args.disk.now)
-    (g.K.Sink.written c.args.out.now) (g.K.Sink.written c.print.new.out) c.print.result none
-    (subst (λ (t : List ℕ). Printed g.K.Sink.tells g.K.Sink.takes_memory t status.Usage (g.K.Sink.written c.args.out.now) (g.K.Sink.written c.print.new.out) c.print.result) text c.print.ensures.printed)
-
-pub returns-in-Err-clause-answers : goal.returns-in-Err-clause-answers
-returns-in-Err-clause-answers g c =
-    unread (call_of g.S.Store.tells g.K.Sink.tells g.K.Sink.takes_memory (map string_bytes c.args.words.now) c.args.now c.args.seed) (g.S.Store.history c.args.disk.now)
-    (g.K.Sink.written c.args.out.now) c.in-Err.ensures.memory
-
-pub returns-in-Err-clause-sound : goal.returns-in-Err-clause-sound
-returns-in-Err-clause-sound g c = λ tells.
+pub returns-in-Refused-clause-answers : goal.returns-in-Refused-clause-answers
+returns-in-Refused-clause-answers g c =
+    let asks = asked_of (map string_bytes c.args.words.now) in
+    let call = call_of g.S.Store.tells g.K.Sink.tells g.K.Sink.takes_memory asks c.args.moment in
     let old = g.S.Store.history c.args.disk.now in
-    let call = (call_of g.S.Store.tells g.K.Sink.tells g.K.Sink.takes_memory (map string_bytes c.args.words.now) c.args.now c.args.seed) in
+    let is : asks ≡ asked.Refused c.in-Refused.bad = search rules in
+    subst (λ (asks : Asked). AskedAnswers asks call old old (g.K.Sink.written c.args.out.now) (g.K.Sink.written c.print_refusal.new.out) c.print_refusal.result) (sym is)
+    ((λ tells. refl), c.print_refusal.ensures.answers)
+
+pub returns-in-Refused-clause-sound : goal.returns-in-Refused-clause-sound
+returns-in-Refused-clause-sound g c = λ tells.
+    let call = call_of g.S.Store.tells g.K.Sink.tells g.K.Sink.takes_memory (asked_of (map string_bytes c.args.words.now)) c.args.moment in
+    let old = g.S.Store.history c.args.disk.now in
+    run_stays_sound call old old (WroteBy-none (RunWrites call) old old refl)
+
+pub returns-in-Nothing-clause-answers : goal.returns-in-Nothing-clause-answers
+returns-in-Nothing-clause-answers g c =
+    let asks = asked_of (map string_bytes c.args.words.now) in
+    let call = call_of g.S.Store.tells g.K.Sink.tells g.K.Sink.takes_memory asks c.args.moment in
+    let old = g.S.Store.history c.args.disk.now in
+    let before = g.K.Sink.written c.args.out.now in
+    let after = g.K.Sink.written c.print.new.out in
+    let is : asks ≡ asked.Nothing = search rules in
+    let text : c.as_bytes.result.now ≡ usage_text = search rules in
+    subst (λ (asks : Asked). AskedAnswers asks call old old before after c.print.result) (sym is)
+    ((λ tells. refl), subst (λ (t : List ℕ). Printed g.K.Sink.tells g.K.Sink.takes_memory t status.Usage before after c.print.result) text c.print.ensures.printed)
+
+pub returns-in-Nothing-clause-sound : goal.returns-in-Nothing-clause-sound
+returns-in-Nothing-clause-sound g c = λ tells.
+    let call = call_of g.S.Store.tells g.K.Sink.tells g.K.Sink.takes_memory (asked_of (map string_bytes c.args.words.now)) c.args.moment in
+    let old = g.S.Store.history c.args.disk.now in
     run_stays_sound call old old (WroteBy-none (RunWrites call) old old refl)
