@@ -1,18 +1,19 @@
--- What a command does in the folder that it names.
-use Rattle.std.specs.Prelude.{ℕ, ◌≡◌, if◌then◌else◌, List, [], ◌∷◌, All, codes}
-use Rattle.std.specs.Str.{bytes_eq}
+-- What a command does in the folder that it is for.
+use Rattle.std.specs.Prelude.{◌≡◌, List, [], All}
 use Rattle.folder_store.specs.declared.claim.Claim.{Claim}
 use Rattle.folder_store.specs.declared.claim.Purpose.{Purpose}
 use Rattle.folder_store.specs.declared.claim.Purpose.TheVariants.{Read, Write}
+use Rattle.words.specs.declared.words.Asked.{Asked}
+use Rattle.words.specs.declared.words.Asked.TheVariants as asked
+use Rattle.words.specs.declared.words.Command.{Command}
+use Rattle.words.specs.declared.words.Command.TheVariants.{Edit}
 
--- what a command of a name does: three read, and any other writes
-abbrev pub purpose_of : List ℕ → Purpose
-purpose_of name =
-    if bytes_eq name (codes "log") then Read
-    else (if bytes_eq name (codes "show") then Read
-    else (if bytes_eq name (codes "users") then Read else Write))
+-- an edit writes, and any other command reads
+abbrev pub purpose_of : Command → Purpose
+purpose_of (Edit edit) = Write
+purpose_of _ = Read
 
--- claims are made for what the command does; without a folder and a name there are none
-abbrev pub AreClaimsOf : List (List ℕ) → List Claim → Type 0
-AreClaimsOf (folder ∷ name ∷ arguments) claims = All (λ claim. claim.purpose ≡ purpose_of name) claims
+-- claims are made for what the command does; without a request there are none
+abbrev pub AreClaimsOf : Asked → List Claim → Type 0
+AreClaimsOf (asked.Request request) claims = All (λ claim. claim.purpose ≡ purpose_of request.command) claims
 AreClaimsOf _ claims = claims ≡ []

@@ -1,14 +1,14 @@
 //! The edge of the program: it gives real folders, standard output, the clock, random bytes and the arguments to `run`.
 #![tactic(auto)]
 
+mod claims;
 mod exit;
 mod guard;
 mod note;
 mod start;
 mod usage;
-mod words;
 mod writer;
 
 pub use exit::{exit_code, numbers_are_fixed};
 pub use start::{run_over_folders, run_words};
-pub use usage::{COMMANDS, VERSION};
+pub use usage::VERSION;

@@ -2,17 +2,18 @@
 ghost use Rattle.std.specs.Prelude.{◌≡◌, ◌/◌};
 ghost use Rattle.std.specs.Duration.{as_nanos};
 
+use crate::claims::claims_of;
 use crate::guard::look_at;
 use crate::note::noted;
-use crate::usage::{explain_usage, give_command};
-use crate::words::claims_of;
+use crate::usage::explain_usage;
 use crate::writer::SteadyWriter;
-use bug_run::{Status, run};
+use bug_run::{Status, moment_of, run};
 use folder_store::{Claim, FolderStore, Locking, again};
 use gb_store::{Sink, WriteSink};
 use std::rt::{Clock, Env, Runtime};
 use std::time::Duration;
 use std::{env, io};
+use words::{Asked, read_words};
 
 /// Does what the words of the command line ask, over real folders and standard output. An error says that it was not begun.
 /// Standard error says, for people, why a run was not begun, and why it ended with another status than done or refused.
@@ -30,24 +31,27 @@ pub fn run_over_folders<R: Runtime + AllocGlobal + Locking, K: Sink>(
 ) -> io::Result<Status> {
     let now = noted(rt, "the clock cannot be read", seconds(rt))?;
     let seed = noted(rt, "random bytes cannot be had", random_bytes(rt))?;
-    let mut disk = FolderStore::new(rt.clone()?, claims_looked_at(rt, words)?);
-    let status = run(rt.alloc(), words, &mut disk, out, now, seed);
+    let Ok(asked) = read_words(rt.alloc(), words) else {
+        let _ = explain_memory(rt);
+        return Ok(Status::Memory);
+    };
+    let mut disk = FolderStore::new(rt.clone()?, claims_looked_at(rt, &asked)?);
+    let moment = moment_of(now, seed);
+    let status = run(rt.alloc(), words, asked, &mut disk, out, moment);
     explain(rt, words, &status, &disk);
     disk.leave();
     Ok(status)
 }
 
-// The folders that the words name, if the run may work in them.
-fn claims_looked_at<R: Runtime + AllocGlobal>(rt: &R, words: &[String]) -> io::Result<Vec<Claim>> {
+// The folders in which the arguments ask for something, if the run may work in them.
+fn claims_looked_at<R: Runtime + AllocGlobal>(rt: &R, asked: &Asked) -> io::Result<Vec<Claim>> {
     let alloc = rt.alloc();
     let claims = noted(
         rt,
         "the folder cannot be read",
-        claims_of(alloc, words).map_err(io::Error::from),
+        claims_of(alloc, asked).map_err(io::Error::from),
     )?;
-    if give_command(words) {
-        look_at(rt, alloc, &claims)?;
-    }
+    look_at(rt, alloc, &claims)?;
     Ok(claims)
 }
 
@@ -60,13 +64,17 @@ fn explain<R: Runtime + AllocGlobal + Locking>(
 ) {
     let _ = match status {
         Status::Usage => explain_usage(rt, words),
-        Status::Memory => eprintln!(rt; "gitbug: out of memory"),
+        Status::Memory => explain_memory(rt),
         Status::DiskFault => match disk.failure() {
             Some(failure) => eprintln!(rt; "gitbug: {failure}"),
             None => Ok(()),
         },
         Status::Done | Status::Refused(_) | Status::OutFault => Ok(()),
     };
+}
+
+fn explain_memory<R: Eprint>(rt: &R) -> io::Result<()> {
+    eprintln!(rt; "gitbug: out of memory")
 }
 
 // The words after the program's name.

@@ -4,11 +4,12 @@ use crate::system::{Testing, count, is_free, link, make_dir, write};
 use bug_run::Status;
 use gb_store::MemSink;
 use gb_text::List;
-use gitbug_edge::{COMMANDS, VERSION, run_over_folders};
+use gitbug_edge::{VERSION, run_over_folders};
 use std::os::unix::fs::PermissionsExt;
 use std::test::Fail;
 use std::time::Duration;
 use std::{fs, io};
+use words::VERBS;
 
 /// Tries each.
 pub fn try_all<R: Testing>(rt: &R) -> Result<(), Fail> {
@@ -56,8 +57,9 @@ fn run_at<R: Testing>(rt: &R, words: &[&str]) -> Result<Ran, Fail> {
 
 // Each command is one with as many arguments as the list says, and none with one more or one less.
 fn each_command_takes_its_arguments<R: Testing>(rt: &R) -> Result<(), Fail> {
-    for (name, takes) in &COMMANDS {
-        let mut words = vec![in rt.alloc(); "e", *name]?;
+    for verb in VERBS {
+        let takes = verb.takes();
+        let mut words = vec![in rt.alloc(); "e", verb.name()]?;
         for argument in takes.split(' ').filter(|argument| !argument.is_empty()) {
             words.push(argument)?;
         }

@@ -4,12 +4,11 @@ use crate::system::{
     remove, store_over, write,
 };
 use crate::{explained, planted};
-use bug_run::Status;
+use bug_run::{Refused, Status};
 use folder_store::FolderStore;
 use gb_store::MemSink;
 use gb_text::List;
 use gitbug_edge::{exit_code, run_over_folders};
-use repo_state::Refusal;
 use std::process::ExitCode;
 use std::test::Fail;
 use std::time::{SystemTime, UNIX_EPOCH};
@@ -19,7 +18,7 @@ use std::{env, fs, io, process};
 fn each_status_has_its_number(rt: HostRuntime) {
     let statuses = [
         Status::Done,
-        Status::Refused(Refusal::NotFound),
+        Status::Refused(Refused::SomeLines(1)),
         Status::Usage,
         Status::DiskFault,
         Status::Memory,
