@@ -1,6 +1,6 @@
 -- What a fold keeps of a bug, so that no operation searches a list: the labels and the metadata in order, which persons were met, and the last edit of each id.
 use Rattle.std.specs.Prelude.{◌≡◌, ⊤, ℕ, suc, ◌≤◌, nat_lt, not, length, List, [], ◌∷◌, map, filter, Option, Some, None, if◌then◌else◌}
-use Rattle.std.specs.BTreeMap.{get}
+use Rattle.std.specs.BTreeMap.{get, Updates}
 use Rattle.std.specs.BTreeSet.{contains, IsOrdered}
 use Rattle.std.specs.BTreeMap.{BTreeMap}
 use Rattle.std.specs.BTreeSet.{BTreeSet}
@@ -9,7 +9,7 @@ use Rattle.gb_text.specs.declared.id.Id.{Id}
 use Rattle.op_kind.specs.Metadata.{pair_of}
 use Rattle.op_kind.specs.Pairs.{AreInKeyOrder}
 use Rattle.op_kind.specs.declared.place.Pair.{Pair}
-use Rattle.bug_ops.specs.Snapshots.{by_bytes, Marks, is_seen}
+use Rattle.bug_ops.specs.Snapshots.{by_bytes, Marks, is_seen, joined_pairs}
 use Rattle.bug_ops.specs.declared.comments.Edit.{Edit}
 use Rattle.bug_ops.specs.declared.snapshot.Comment.{Comment}
 use Rattle.bug_ops.specs.declared.snapshot.Excerpt.{Excerpt}
@@ -40,6 +40,10 @@ before_of (Some e) = e.before
 abbrev pub ArePast : BTreeMap (List ℕ) Edit → List Comment → Type 0
 ArePast edits list = (bytes : List ℕ) → before_of (get by_bytes edits bytes) ≤ length list
 
+-- the edits with one more: of a target, with a message, of so many comments
+abbrev pub KeepsEdit : BTreeMap (List ℕ) Edit → BTreeMap (List ℕ) Edit → Id → List ℕ → ℕ → Type 0
+KeepsEdit old new target message before = Updates by_bytes old new target.bytes (Some (record { message = message; before = before }))
+
 -- those that were met are the persons of a list
 abbrev pub AreMet : BTreeSet (List ℕ) → List Id → Type 0
 AreMet met ids = (id : Id) → contains by_bytes met id.bytes ≡ is_seen ids id
@@ -61,6 +65,10 @@ without_each ts (r ∷ rs) = without_each (filter (λ t. not (bytes_eq t r)) ts)
 abbrev pub pairs_in : Metadata → List Pair
 pairs_in (Created pairs) = pairs
 pairs_in (Joined entries) = map pair_of entries.entries
+
+-- the pairs that are kept with further ones
+abbrev pub joined_to : Metadata → List Pair → List Pair
+joined_to metadata pairs = joined_pairs (pairs_in metadata) pairs
 
 -- once keys were set, the pairs are in byte order of their keys
 abbrev pub AreJoined : Metadata → Type 0

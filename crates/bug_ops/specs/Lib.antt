@@ -1,6 +1,8 @@
 pub mod BugForms
 pub mod BugTable
 pub mod FormsKeep
+pub mod Readers
+pub mod Writers
 pub mod Snapshots
 pub mod Folds
 pub mod Kind

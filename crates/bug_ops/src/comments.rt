@@ -1,9 +1,8 @@
 //! The comments of a bug.
-ghost use Rattle.std.specs.Prelude.{◌≡◌, ◌∷◌, [], ◌++◌, Some, IfOk, OnOk};
-ghost use Rattle.std.specs.BTreeMap.{get, Updates};
-ghost use Rattle.bug_ops.specs.Folds.{ArePast, by_edit, comments_in};
+ghost use Rattle.std.specs.Prelude.{◌≡◌, ◌∷◌, [], ◌++◌, IfOk, OnOk};
+ghost use Rattle.std.specs.BTreeMap.{get};
+ghost use Rattle.bug_ops.specs.Folds.{ArePast, KeepsEdit, by_edit, comments_in};
 ghost use Rattle.bug_ops.specs.Snapshots.{by_bytes, comment_of, list_after};
-ghost use Rattle.bug_ops.specs.declared.comments.Edit.{Edit as EditValue};
 
 use crate::copies::copy_text;
 use crate::op::BugOp;
@@ -63,8 +62,7 @@ fn keep_edit(
     target: &Id,
     message: &Text,
 ) -> Result<(), Memory>
-    ensures { let edit : EditValue = record { message = message.now; before = before } in
-        OnOk result (Updates by_bytes edits.old edits.new target.now.bytes (Some edit)) }
+    ensures { OnOk result (KeepsEdit edits.old edits.new target.now message.now before) }
 {
     let message = copy_text(alloc, message)?;
     edits.insert(target.bytes, Edit { message, before })?;

@@ -1,13 +1,11 @@
 //! The members that operations of bugs have beside those that every operation has.
 ghost use Rattle.std.specs.Prelude.{◌≡◌, codes, IfOk};
-ghost use Rattle.op_kind.specs.FieldLists.{fields_in};
 ghost use Rattle.std.specs.List.{list_all};
 ghost use Rattle.gb_text.specs.Rules.{is_title_text};
-ghost use Rattle.op_kind.specs.Answers.{Answers};
-ghost use Rattle.op_kind.specs.MemberForms.{value_in, MemberFault};
 ghost use Rattle.bug_ops.specs.BugForms.{status_of, status_at, names_of, names_at};
 ghost use Rattle.bug_ops.specs.BugForms.{title_form, was_form, message_form, files_form};
 ghost use Rattle.bug_ops.specs.BugForms.{status_form, labels_form, target_form, pairs_form};
+ghost use Rattle.bug_ops.specs.Readers.{AnswersMember};
 
 use crate::BugStatus;
 use gb_text::{Id, List, Memory, Name, Text, is_message, is_title, read_decimal};
@@ -17,8 +15,7 @@ use op_kind::{
 use std::alloc::Global;
 
 pub(crate) fn title_in(alloc: Global, fields: &[Field]) -> Result<Text, OpFault>
-    ensures { Answers (value_in title_form (fields_in fields.now))
-        (MemberFault title_form (fields_in fields.now)) result }
+    ensures { AnswersMember title_form fields.now result }
 {
     let title = text_in(alloc, fields, "title", 5)?;
     if is_title(title.as_str()) {
@@ -29,16 +26,14 @@ pub(crate) fn title_in(alloc: Global, fields: &[Field]) -> Result<Text, OpFault>
 }
 
 pub(crate) fn was_in(alloc: Global, fields: &[Field]) -> Result<Text, OpFault>
-    ensures { Answers (value_in was_form (fields_in fields.now))
-        (MemberFault was_form (fields_in fields.now)) result }
+    ensures { AnswersMember was_form fields.now result }
 {
     let was = optional_text_in(alloc, fields, "was", 6)?;
     Ok(was)
 }
 
 pub(crate) fn message_in(alloc: Global, fields: &[Field]) -> Result<Text, OpFault>
-    ensures { Answers (value_in message_form (fields_in fields.now))
-        (MemberFault message_form (fields_in fields.now)) result }
+    ensures { AnswersMember message_form fields.now result }
 {
     let message = text_in(alloc, fields, "message", 7)?;
     if is_message(message.as_str()) {
@@ -68,8 +63,7 @@ fn read_status(json: &[u8]) -> Option<BugStatus>
 }
 
 pub(crate) fn status_in(fields: &[Field]) -> Result<BugStatus, OpFault>
-    ensures { Answers (value_in status_form (fields_in fields.now))
-        (MemberFault status_form (fields_in fields.now)) result }
+    ensures { AnswersMember status_form fields.now result }
 {
     match find(fields, "status") {
         None => Err(OpFault::BadMember(9)),
@@ -103,8 +97,7 @@ fn read_names(alloc: Global, json: &[u8]) -> Result<Option<List<Name>>, Memory>
 }
 
 pub(crate) fn files_in(alloc: Global, fields: &[Field]) -> Result<List<Name>, OpFault>
-    ensures { Answers (value_in files_form (fields_in fields.now))
-        (MemberFault files_form (fields_in fields.now)) result }
+    ensures { AnswersMember files_form fields.now result }
 {
     match find(fields, "files") {
         None => Err(OpFault::BadMember(8)),
@@ -114,16 +107,14 @@ pub(crate) fn files_in(alloc: Global, fields: &[Field]) -> Result<List<Name>, Op
 }
 
 pub(crate) fn target_in(alloc: Global, fields: &[Field]) -> Result<Id, OpFault>
-    ensures { Answers (value_in target_form (fields_in fields.now))
-        (MemberFault target_form (fields_in fields.now)) result }
+    ensures { AnswersMember target_form fields.now result }
 {
     let target = id_in(alloc, fields, "target", 12)?;
     Ok(target)
 }
 
 pub(crate) fn pairs_given(alloc: Global, fields: &[Field]) -> Result<List<Pair>, OpFault>
-    ensures { Answers (value_in pairs_form (fields_in fields.now))
-        (MemberFault pairs_form (fields_in fields.now)) result }
+    ensures { AnswersMember pairs_form fields.now result }
 {
     let pairs = pairs_in(alloc, fields, "new_metadata", 13)?;
     Ok(pairs)
@@ -142,9 +133,7 @@ pub(crate) fn labels_in(
     name: &str,
     number: u8,
 ) -> Result<List<Text>, OpFault>
-    ensures { Answers
-        (value_in (labels_form name.now number) (fields_in fields.now))
-        (MemberFault (labels_form name.now number) (fields_in fields.now)) result }
+    ensures { AnswersMember (labels_form name.now number) fields.now result }
 {
     let labels = texts_in(alloc, fields, name, number)?;
     if are_labels(labels.as_slice()) {

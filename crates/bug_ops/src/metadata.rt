@@ -1,7 +1,7 @@
 //! The metadata of a bug, while it is folded.
 ghost use Rattle.std.specs.Prelude.{◌≡◌, [], IfOk, OnOk};
-ghost use Rattle.bug_ops.specs.Folds.{AreJoined, pairs_in};
-ghost use Rattle.bug_ops.specs.Snapshots.{joined_pairs, metadata_after, with_pairs};
+ghost use Rattle.bug_ops.specs.Folds.{AreJoined, joined_to, pairs_in};
+ghost use Rattle.bug_ops.specs.Snapshots.{metadata_after, with_pairs};
 
 use crate::copies::copy_pairs;
 use crate::op::BugOp;
@@ -37,8 +37,7 @@ fn into_entries(alloc: Global, metadata: Metadata) -> Result<BTreeMap<Text, Text
 // Sets the keys that are not set.
 fn join(alloc: Global, metadata: &mut Metadata, pairs: &[Pair]) -> Result<(), Memory>
     requires { AreJoined metadata.old }
-    ensures pairs { OnOk result (pairs_in metadata.new
-        ≡ joined_pairs (pairs_in metadata.old) pairs.now) }
+    ensures pairs { OnOk result (pairs_in metadata.new ≡ joined_to metadata.old pairs.now) }
     ensures ascend { OnOk result (AreJoined metadata.new) }
 {
     let before = std::mem::replace(metadata, Metadata::Created(List::new(alloc)));

@@ -1,9 +1,10 @@
 //! Operations are written as lists of members, in byte order of their names.
 ghost use Rattle.std.specs.Prelude.{◌≡◌, map, IfOk};
 ghost use Rattle.op_kind.specs.FieldLists.{fields_for};
-ghost use Rattle.op_kind.specs.Tables.{members_with, members_of_op, op_text};
+ghost use Rattle.op_kind.specs.Tables.{members_of_op, op_text};
 ghost use Rattle.bug_ops.specs.BugForms.{digits_of, names_text, id_text, status_number};
 ghost use Rattle.bug_ops.specs.BugTable.{bug_table};
+ghost use Rattle.bug_ops.specs.Writers.{WritesType};
 ghost use Rattle.bug_ops.specs.declared.op.OpType.TheVariants as types;
 
 use crate::op::{BugOp, BugStatus};
@@ -70,9 +71,8 @@ fn create_members<'a>(
     message: &Text,
     files: &List<Name>,
 ) -> Result<Vec<Written<'a>>, Memory>
-    ensures { IfOk result (λ v. fields_for v.items
-        ≡ members_with bug_table types.Creation common.now
-        (title.now, (message.now, (files.now, tt)))) }
+    ensures { WritesType types.Creation common.now
+        (title.now, (message.now, (files.now, tt))) result }
 {
     let mut members = common_members(alloc, common)?;
     let value = quote(alloc, title.as_str())?;
@@ -90,8 +90,7 @@ fn set_title_members<'a>(
     title: &Text,
     was: &Text,
 ) -> Result<Vec<Written<'a>>, Memory>
-    ensures { IfOk result (λ v. fields_for v.items
-        ≡ members_with bug_table types.Title common.now (title.now, (was.now, tt))) }
+    ensures { WritesType types.Title common.now (title.now, (was.now, tt)) result }
 {
     let mut members = common_members(alloc, common)?;
     let value = quote(alloc, title.as_str())?;
@@ -107,8 +106,7 @@ fn add_comment_members<'a>(
     message: &Text,
     files: &List<Name>,
 ) -> Result<Vec<Written<'a>>, Memory>
-    ensures { IfOk result (λ v. fields_for v.items
-        ≡ members_with bug_table types.Comment common.now (message.now, (files.now, tt))) }
+    ensures { WritesType types.Comment common.now (message.now, (files.now, tt)) result }
 {
     let mut members = common_members(alloc, common)?;
     let value = quote(alloc, message.as_str())?;
@@ -123,8 +121,7 @@ fn set_status_members<'a>(
     common: &Common,
     status: BugStatus,
 ) -> Result<Vec<Written<'a>>, Memory>
-    ensures { IfOk result (λ v. fields_for v.items
-        ≡ members_with bug_table types.Status common.now (status, tt)) }
+    ensures { WritesType types.Status common.now (status, tt) result }
 {
     let mut members = common_members(alloc, common)?;
     let value = print_decimal(alloc, status_number(status))?;
@@ -138,8 +135,7 @@ fn label_change_members<'a>(
     added: &List<Text>,
     removed: &List<Text>,
 ) -> Result<Vec<Written<'a>>, Memory>
-    ensures { IfOk result (λ v. fields_for v.items
-        ≡ members_with bug_table types.Labels common.now (added.now, (removed.now, tt))) }
+    ensures { WritesType types.Labels common.now (added.now, (removed.now, tt)) result }
 {
     let mut members = common_members(alloc, common)?;
     let value = quote_texts(alloc, added.as_slice())?;
@@ -156,9 +152,8 @@ fn edit_comment_members<'a>(
     message: &Text,
     files: &List<Name>,
 ) -> Result<Vec<Written<'a>>, Memory>
-    ensures { IfOk result (λ v. fields_for v.items
-        ≡ members_with bug_table types.Edit common.now
-        (target.now, (message.now, (files.now, tt)))) }
+    ensures { WritesType types.Edit common.now
+        (target.now, (message.now, (files.now, tt))) result }
 {
     let mut members = common_members(alloc, common)?;
     let value = quote_id(alloc, target)?;
@@ -176,8 +171,7 @@ fn set_metadata_members<'a>(
     target: &Id,
     pairs: &List<Pair>,
 ) -> Result<Vec<Written<'a>>, Memory>
-    ensures { IfOk result (λ v. fields_for v.items
-        ≡ members_with bug_table types.Metadata common.now (target.now, (pairs.now, tt))) }
+    ensures { WritesType types.Metadata common.now (target.now, (pairs.now, tt)) result }
 {
     let mut members = common_members(alloc, common)?;
     let value = quote_id(alloc, target)?;
