@@ -1,6 +1,7 @@
 //! The lines that tell refusals.
-ghost use Rattle.std.specs.Prelude.{◌≡◌, ◌++◌, IfOk, OnOk, decimal, string_bytes};
+ghost use Rattle.std.specs.Prelude.{◌≡◌, ◌++◌, IfOk, decimal};
 ghost use Rattle.hex.specs.Hex.{encode_lower};
+ghost use Rattle.render.specs.Lines.{Adds};
 ghost use Rattle.bug_run.specs.Refusals.{number_of, refusal_line, refusal_words, words_of};
 
 use crate::status::Refused;
@@ -36,8 +37,7 @@ fn number(refused: &Refused) -> u64
 
 // Adds what a refusal says behind its number.
 fn push_words(line: &mut String, refused: &Refused) -> Result<(), AllocError>
-    ensures { OnOk result (string_bytes line.new
-        ≡ string_bytes line.old ++ words_of refused.now) }
+    ensures { Adds result line.old line.new (words_of refused.now) }
 {
     match refused {
         Refused::ByWords(BadWord::BadFolder) => line.push_str("bad folder"),
@@ -49,8 +49,7 @@ fn push_words(line: &mut String, refused: &Refused) -> Result<(), AllocError>
 
 // Adds what the refusal of a command says.
 fn push_refusal(line: &mut String, refusal: &Refusal) -> Result<(), AllocError>
-    ensures { OnOk result (string_bytes line.new
-        ≡ string_bytes line.old ++ refusal_words refusal.now) }
+    ensures { Adds result line.old line.new (refusal_words refusal.now) }
 {
     match refusal {
         Refusal::NoUser => line.push_str("no user"),
@@ -71,8 +70,7 @@ fn push_refusal(line: &mut String, refusal: &Refusal) -> Result<(), AllocError>
 
 // Adds words and a number.
 fn push_counted(line: &mut String, words: &str, number: u64) -> Result<(), AllocError>
-    ensures { OnOk result (string_bytes line.new
-        ≡ string_bytes line.old ++ (words.now ++ decimal number)) }
+    ensures { Adds result line.old line.new (words.now ++ decimal number) }
 {
     line.push_str(words)?;
     push_number(line, number)
@@ -80,8 +78,7 @@ fn push_counted(line: &mut String, words: &str, number: u64) -> Result<(), Alloc
 
 // Adds words and an id.
 fn push_with_id(line: &mut String, words: &str, id: &Id) -> Result<(), AllocError>
-    ensures { OnOk result (string_bytes line.new
-        ≡ string_bytes line.old ++ (words.now ++ encode_lower id.now.bytes)) }
+    ensures { Adds result line.old line.new (words.now ++ encode_lower id.now.bytes) }
 {
     line.push_str(words)?;
     push_id(line, id)
@@ -89,8 +86,7 @@ fn push_with_id(line: &mut String, words: &str, id: &Id) -> Result<(), AllocErro
 
 // Adds words and a name.
 fn push_with_name(line: &mut String, words: &str, name: &Name) -> Result<(), AllocError>
-    ensures { OnOk result (string_bytes line.new
-        ≡ string_bytes line.old ++ (words.now ++ encode_lower name.now.bytes)) }
+    ensures { Adds result line.old line.new (words.now ++ encode_lower name.now.bytes) }
 {
     line.push_str(words)?;
     push_name(line, name)

@@ -1,9 +1,14 @@
 -- Lines, and how persons are named in them.
-use Rattle.std.specs.Prelude.{ℕ, List, [], ◌∷◌, ◌++◌, codes, take, if◌then◌else◌}
+use Rattle.std.specs.Prelude.{◌≡◌, ℕ, List, [], ◌∷◌, ◌++◌, String, string_bytes, Result, OnOk, codes, take, if◌then◌else◌}
+use Rattle.std.specs.declared.alloc.Global.{Global}
 use Rattle.hex.specs.Hex.{encode_lower}
 use Rattle.gb_text.specs.declared.id.Id.{Id}
 use Rattle.bug_ops.specs.Snapshots.{same_id}
 use Rattle.identity.specs.declared.chain.Person.{Person}
+
+-- A text got these bytes at its end, if the result is no fault.
+abbrev pub Adds : {A E : Type 0} → Result A E → String Global → String Global → List ℕ → Type 0
+Adds result old new bytes = OnOk result (string_bytes new ≡ string_bytes old ++ bytes)
 
 -- a line: a word, a space and what it tells
 abbrev pub told_line : List ℕ → List ℕ → List ℕ

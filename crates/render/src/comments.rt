@@ -1,6 +1,6 @@
 //! The comments of a bug.
-ghost use Rattle.std.specs.Prelude.{◌≡◌, ◌++◌, OnOk, string_bytes};
 ghost use Rattle.std.specs.List.{flat_map};
+ghost use Rattle.render.specs.Lines.{Adds};
 ghost use Rattle.render.specs.Show.{comment_line, comment_lines, message_line, message_lines};
 
 use crate::lines::push_named;
@@ -17,8 +17,7 @@ pub(crate) fn push_comments(
     bug: &Id,
     list: &[Comment],
 ) -> Result<(), AllocError>
-    ensures { OnOk result (string_bytes text.new
-        ≡ string_bytes text.old ++ flat_map (comment_lines names.now bug.now) list.now) }
+    ensures { Adds result text.old text.new (flat_map (comment_lines names.now bug.now) list.now) }
 {
     for comment in list {
         push_head(text, names, bug, comment)?;
@@ -34,8 +33,7 @@ fn push_head(
     bug: &Id,
     comment: &Comment,
 ) -> Result<(), AllocError>
-    ensures { OnOk result (string_bytes text.new
-        ≡ string_bytes text.old ++ comment_line names.now bug.now comment.now) }
+    ensures { Adds result text.old text.new (comment_line names.now bug.now comment.now) }
 {
     text.push_str("comment ")?;
     push_id(text, &combine(bug, &comment.id))?;
@@ -48,8 +46,7 @@ fn push_head(
 
 // Adds the lines of a message.
 fn push_message(text: &mut String, message: &str) -> Result<(), AllocError>
-    ensures { OnOk result
-        (string_bytes text.new ≡ string_bytes text.old ++ message_lines message.now) }
+    ensures { Adds result text.old text.new (message_lines message.now) }
 {
     for line in message.split('\n') {
         push_indented(text, line)?;
@@ -59,8 +56,7 @@ fn push_message(text: &mut String, message: &str) -> Result<(), AllocError>
 
 // Adds a line of a message.
 fn push_indented(text: &mut String, line: &str) -> Result<(), AllocError>
-    ensures { OnOk result
-        (string_bytes text.new ≡ string_bytes text.old ++ message_line line.now) }
+    ensures { Adds result text.old text.new (message_line line.now) }
 {
     text.push_str("    ")?;
     text.push_str(line)?;

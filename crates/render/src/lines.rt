@@ -1,6 +1,5 @@
 //! Lines, and how persons are named in them.
-ghost use Rattle.std.specs.Prelude.{◌≡◌, ◌++◌, OnOk, codes, decimal, string_bytes};
-ghost use Rattle.render.specs.Lines.{name_among, short_of, told_line};
+ghost use Rattle.render.specs.Lines.{Adds, name_among, short_of, told_line};
 ghost use Rattle.render.specs.Show.{moment_line, person_line};
 
 use gb_text::{Id, push_ascii, push_line_end, push_number};
@@ -9,8 +8,7 @@ use std::alloc::AllocError;
 
 /// Adds a line of a word and a text.
 pub(crate) fn push_told(text: &mut String, word: &str, told: &str) -> Result<(), AllocError>
-    ensures { OnOk result
-        (string_bytes text.new ≡ string_bytes text.old ++ told_line word.now told.now) }
+    ensures { Adds result text.old text.new (told_line word.now told.now) }
 {
     text.push_str(word)?;
     text.push_str(" ")?;
@@ -25,8 +23,7 @@ pub(crate) fn push_person(
     word: &str,
     id: &Id,
 ) -> Result<(), AllocError>
-    ensures { OnOk result
-        (string_bytes text.new ≡ string_bytes text.old ++ person_line names.now word.now id.now) }
+    ensures { Adds result text.old text.new (person_line names.now word.now id.now) }
 {
     text.push_str(word)?;
     text.push_str(" ")?;
@@ -41,8 +38,7 @@ pub(crate) fn push_moment(
     clock: u64,
     time: u64,
 ) -> Result<(), AllocError>
-    ensures { OnOk result
-        (string_bytes text.new ≡ string_bytes text.old ++ moment_line word.now clock time) }
+    ensures { Adds result text.old text.new (moment_line word.now clock time) }
 {
     text.push_str(word)?;
     text.push_str(" ")?;
@@ -54,8 +50,7 @@ pub(crate) fn push_moment(
 
 /// Adds the name of the first person with this id, or the id's first digits where there is none.
 pub(crate) fn push_named(text: &mut String, names: &[Person], id: &Id) -> Result<(), AllocError>
-    ensures { OnOk result
-        (string_bytes text.new ≡ string_bytes text.old ++ name_among names.now id.now) }
+    ensures { Adds result text.old text.new (name_among names.now id.now) }
 {
     for person in names {
         if person.id == *id {
@@ -67,7 +62,7 @@ pub(crate) fn push_named(text: &mut String, names: &[Person], id: &Id) -> Result
 
 // Adds the first seven digits of an id.
 fn push_short(text: &mut String, id: &Id) -> Result<(), AllocError>
-    ensures { OnOk result (string_bytes text.new ≡ string_bytes text.old ++ short_of id.now) }
+    ensures { Adds result text.old text.new (short_of id.now) }
 {
     push_ascii(text, &id.text()[..7])
 }

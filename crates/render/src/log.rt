@@ -1,5 +1,6 @@
 //! The log of a bug.
-ghost use Rattle.std.specs.Prelude.{◌≡◌, ◌++◌, IfOk, OnOk, string_bytes};
+ghost use Rattle.std.specs.Prelude.{◌≡◌, IfOk};
+ghost use Rattle.render.specs.Lines.{Adds};
 ghost use Rattle.render.specs.Log.{log_line, log_text_of};
 
 use bug_ops::BugOp;
@@ -27,7 +28,7 @@ fn packs_text(alloc: Global, packs: &[Placed<BugOp>]) -> Result<Text, Memory>
 
 // Adds the line of a pack.
 fn push_line(text: &mut String, placed: &Placed<BugOp>) -> Result<(), AllocError>
-    ensures { OnOk result (string_bytes text.new ≡ string_bytes text.old ++ log_line placed.now) }
+    ensures { Adds result text.old text.new (log_line placed.now) }
 {
     push_number(text, placed.pack.edit)?;
     text.push_str(" ")?;

@@ -1,8 +1,8 @@
 //! A bug as text.
-ghost use Rattle.std.specs.Prelude.{◌≡◌, ◌++◌, IfOk, OnOk, codes, string_bytes};
+ghost use Rattle.std.specs.Prelude.{◌≡◌, IfOk, codes};
 ghost use Rattle.std.specs.List.{flat_map};
 ghost use Rattle.hex.specs.Hex.{encode_lower};
-ghost use Rattle.render.specs.Lines.{told_line};
+ghost use Rattle.render.specs.Lines.{Adds, told_line};
 ghost use Rattle.render.specs.Show.{label_line, metadata_line, person_line, person_lines, show_text_of, status_word, title_lines};
 
 use crate::comments::push_comments;
@@ -28,7 +28,7 @@ pub fn show_text(alloc: Global, bug: &Snapshot, names: &[Person]) -> Result<Text
 
 // Adds the lines of the id, the title, the status and the labels.
 fn push_titles(text: &mut String, row: &Excerpt) -> Result<(), AllocError>
-    ensures { OnOk result (string_bytes text.new ≡ string_bytes text.old ++ title_lines row.now) }
+    ensures { Adds result text.old text.new (title_lines row.now) }
 {
     push_bug(text, &row.id)?;
     push_told(text, "title", row.title.as_str())?;
@@ -38,8 +38,7 @@ fn push_titles(text: &mut String, row: &Excerpt) -> Result<(), AllocError>
 
 // Adds the line of the id.
 fn push_bug(text: &mut String, id: &Id) -> Result<(), AllocError>
-    ensures { OnOk result (string_bytes text.new
-        ≡ string_bytes text.old ++ told_line (codes "bug") (encode_lower id.now.bytes)) }
+    ensures { Adds result text.old text.new (told_line (codes "bug") (encode_lower id.now.bytes)) }
 {
     text.push_str("bug ")?;
     push_id(text, id)?;
@@ -48,8 +47,7 @@ fn push_bug(text: &mut String, id: &Id) -> Result<(), AllocError>
 
 // Adds the line of the status.
 fn push_status(text: &mut String, status: BugStatus) -> Result<(), AllocError>
-    ensures { OnOk result (string_bytes text.new
-        ≡ string_bytes text.old ++ told_line (codes "status") (status_word status)) }
+    ensures { Adds result text.old text.new (told_line (codes "status") (status_word status)) }
 {
     match status {
         BugStatus::Opened => push_told(text, "status", "open"),
@@ -59,8 +57,7 @@ fn push_status(text: &mut String, status: BugStatus) -> Result<(), AllocError>
 
 // Adds the lines of some labels.
 fn push_labels(text: &mut String, labels: &[Text]) -> Result<(), AllocError>
-    ensures { OnOk result
-        (string_bytes text.new ≡ string_bytes text.old ++ flat_map label_line labels.now) }
+    ensures { Adds result text.old text.new (flat_map label_line labels.now) }
 {
     for label in labels {
         push_told(text, "label", label.as_str())?;
@@ -70,8 +67,7 @@ fn push_labels(text: &mut String, labels: &[Text]) -> Result<(), AllocError>
 
 // Adds the lines of the author, the clocks, the actors and the participants.
 fn push_persons(text: &mut String, names: &[Person], row: &Excerpt) -> Result<(), AllocError>
-    ensures { OnOk result
-        (string_bytes text.new ≡ string_bytes text.old ++ person_lines names.now row.now) }
+    ensures { Adds result text.old text.new (person_lines names.now row.now) }
 {
     push_person(text, names, "author", &row.author)?;
     push_moment(text, "created", row.create, row.first)?;
@@ -82,8 +78,7 @@ fn push_persons(text: &mut String, names: &[Person], row: &Excerpt) -> Result<()
 
 // Adds a line for each of some persons.
 fn push_each(text: &mut String, names: &[Person], word: &str, ids: &[Id]) -> Result<(), AllocError>
-    ensures { OnOk result (string_bytes text.new
-        ≡ string_bytes text.old ++ flat_map (person_line names.now word.now) ids.now) }
+    ensures { Adds result text.old text.new (flat_map (person_line names.now word.now) ids.now) }
 {
     for id in ids {
         push_person(text, names, word, id)?;
@@ -93,8 +88,7 @@ fn push_each(text: &mut String, names: &[Person], word: &str, ids: &[Id]) -> Res
 
 // Adds the lines of some pairs of metadata.
 fn push_metadata(alloc: Global, text: &mut String, pairs: &[Pair]) -> Result<(), Memory>
-    ensures { OnOk result
-        (string_bytes text.new ≡ string_bytes text.old ++ flat_map metadata_line pairs.now) }
+    ensures { Adds result text.old text.new (flat_map metadata_line pairs.now) }
 {
     for pair in pairs {
         push_pair(alloc, text, pair)?;
@@ -104,7 +98,7 @@ fn push_metadata(alloc: Global, text: &mut String, pairs: &[Pair]) -> Result<(),
 
 // Adds the line of a pair.
 fn push_pair(alloc: Global, text: &mut String, pair: &Pair) -> Result<(), Memory>
-    ensures { OnOk result (string_bytes text.new ≡ string_bytes text.old ++ metadata_line pair.now) }
+    ensures { Adds result text.old text.new (metadata_line pair.now) }
 {
     text.push_str("metadata ")?;
     text.push_str(quote(alloc, pair.key.as_str())?.as_str())?;

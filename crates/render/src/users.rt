@@ -1,5 +1,6 @@
 //! The list of persons.
-ghost use Rattle.std.specs.Prelude.{◌≡◌, ◌++◌, IfOk, OnOk, codes, string_bytes};
+ghost use Rattle.std.specs.Prelude.{◌≡◌, ◌++◌, IfOk, codes};
+ghost use Rattle.render.specs.Lines.{Adds};
 ghost use Rattle.render.specs.Users.{is_user, star, user_line, users_text_of};
 
 use gb_text::{Id, Memory, Text, push_id, push_line_end};
@@ -30,7 +31,7 @@ fn is_user(user: Option<Id>, id: Id) -> bool
 
 // Adds the line of a person.
 fn push_user(text: &mut String, person: &Person, user: Option<Id>) -> Result<(), AllocError>
-    ensures { OnOk result (string_bytes text.new ≡ string_bytes text.old ++ user_line user person.now) }
+    ensures { Adds result text.old text.new (user_line user person.now) }
 {
     push_id(text, &person.id)?;
     push_part(text, person.name.as_str())?;
@@ -41,8 +42,7 @@ fn push_user(text: &mut String, person: &Person, user: Option<Id>) -> Result<(),
 
 // Adds a TAB and a part.
 fn push_part(text: &mut String, part: &str) -> Result<(), AllocError>
-    ensures { OnOk result
-        (string_bytes text.new ≡ string_bytes text.old ++ (codes "\t" ++ part.now)) }
+    ensures { Adds result text.old text.new (codes "\t" ++ part.now) }
 {
     text.push_str("\t")?;
     text.push_str(part)
@@ -50,7 +50,7 @@ fn push_part(text: &mut String, part: &str) -> Result<(), AllocError>
 
 // Adds the part of the user's line that others have not.
 fn push_star(text: &mut String, is_user: bool) -> Result<(), AllocError>
-    ensures { OnOk result (string_bytes text.new ≡ string_bytes text.old ++ star is_user) }
+    ensures { Adds result text.old text.new (star is_user) }
 {
     if is_user {
         text.push_str("\t*")?;
