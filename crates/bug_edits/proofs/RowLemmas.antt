@@ -1,11 +1,23 @@
--- The laws of the row of each edit.
-use Rattle.std.proofs.Common.{◌≡◌, ◌||◌, ◌&&◌, Bool, true, false, not, ℕ, List, [], ◌∷◌, Option, Some, None, refl, sym, ◌∙◌, ap, arith}
+-- The rules of the operation of each edit, and the laws of its row.
+use Rattle.std.proofs.Common.{◌≡◌, ◌||◌, ◌&&◌, Bool, true, false, not, IsUtf8, ℕ, List, [], ◌∷◌, Option, Some, None, refl, sym, ◌∙◌, ap, arith}
 use Rattle.std.specs.Prelude.{if◌then◌else◌}
+use Rattle.std.specs.List.Sorted.{IsStrictlySortedBy}
+use Rattle.std.specs.Str.{is_utf8}
 use Rattle.std.proofs.lemmas.Slice.Eq.{bytes_eq-Decides}
+use Rattle.std.proofs.lemmas.Str.{IsUtf8-from_is_utf8}
+use Rattle.gb_text.specs.Digits.{IsId}
+use Rattle.gb_text.specs.Rules.{is_message_text, is_title_text}
+use Rattle.gb_text.specs.declared.id.Id.{Id}
+use Rattle.gb_text.specs.declared.id.Name.{Name}
+use Rattle.op_kind.specs.Bounds.{IsWithinBounds}
+use Rattle.op_kind.specs.Pairs.{AreInKeyOrder}
+use Rattle.op_kind.specs.declared.place.Common.{Common}
 use Rattle.op_kind.specs.declared.place.Pair.{Pair}
 use Rattle.bug_ops.specs.BugForms.{AreLabels}
+use Rattle.bug_ops.specs.Kind.{bug_kind}
 use Rattle.bug_ops.specs.Mentions.{is_among}
 use Rattle.bug_ops.specs.Snapshots.{joined_pairs, row_after}
+use Rattle.bug_ops.specs.declared.op.BugOp.TheVariants.{AddComment, LabelChange, NoOp, SetMetadata, SetStatus, SetTitle}
 use Rattle.bug_ops.specs.declared.op.BugStatus.{BugStatus}
 use Rattle.bug_ops.specs.declared.op.BugStatus.TheVariants.{Opened, Closed}
 use Rattle.bug_ops.proofs.LabelLaws.{label_change}
@@ -19,7 +31,7 @@ use Rattle.bug_edits.specs.declared.edit.BugEdit.TheVariants as edit
 use Rattle.bug_edits.specs.declared.edit.NoChange.{NoChange}
 use Rattle.bug_edits.specs.declared.edit.NoChange.TheVariants as no_change
 use Rattle.bug_edits.proofs.LabelLemmas.{where_are_labels, where_has}
-use Rattle.bug_edits.proofs.RuleLemmas.{comment_rules, is_within, labels_rules, metadata_rules, noop_rules, status_rules, title_rules}
+use Rattle.bug_edits.proofs.RuleLemmas.{is_within, no_names}
 
 -- ---- a status
 
@@ -91,6 +103,38 @@ taken_off true true = refl
 taken_off true false = refl
 taken_off false true = refl
 taken_off false false = refl
+
+-- ---- the rules of their operations
+
+module _ (common : Common) (within : IsWithinBounds common) where
+  pub comment_rules : (message : List ℕ) (files : List Name) → common.kind ≡ 3 → is_utf8 message ≡ true → is_message_text message ≡ true → files ≡ []
+      → bug_kind.KeepsRules (AddComment common message files)
+  comment_rules message files kind utf8 is_message none = record { within = within; kind = kind; values = (record { utf8 = IsUtf8-from_is_utf8 message utf8; message = is_message }, (no_names files none, tt)) }
+
+  pub noop_rules : common.kind ≡ 7 → bug_kind.KeepsRules (NoOp common)
+  noop_rules kind = record { within = within; kind = kind; values = tt }
+
+  pub title_rules : (title was : List ℕ) → common.kind ≡ 2 → is_utf8 title ≡ true → is_title_text title ≡ true → IsUtf8 was → bug_kind.KeepsRules (SetTitle common title was)
+  title_rules title was kind utf8 is_title was_utf8 = record { within = within; kind = kind; values = (record { utf8 = IsUtf8-from_is_utf8 title utf8; title = is_title }, (was_utf8, tt)) }
+
+  pub status_rules : (status : BugStatus) → common.kind ≡ 4 → bug_kind.KeepsRules (SetStatus common status)
+  status_rules status kind = record { within = within; kind = kind; values = (tt, tt) }
+
+  pub labels_rules : (added removed : List (List ℕ)) → common.kind ≡ 5 → AreLabels added → AreLabels removed → bug_kind.KeepsRules (LabelChange common added removed)
+  labels_rules added removed kind are_added are_removed = record { within = within; kind = kind; values = (are_added, (are_removed, tt)) }
+
+  -- one pair is in order
+  one_in_order : (pair : Pair) → AreInKeyOrder (pair ∷ [])
+  unfolding IsStrictlySortedBy
+  one_in_order pair = (tt, tt)
+
+  pub metadata_rules : (target : Id) (key value : List ℕ) → common.kind ≡ 8 → IsId target → is_utf8 key ≡ true → is_utf8 value ≡ true
+      → bug_kind.KeepsRules (SetMetadata common target (record { key = key; value = value } ∷ []))
+  metadata_rules target key value kind is_id key_utf8 value_utf8 = record {
+    within = within;
+    kind = kind;
+    values = (is_id, (record { order = one_in_order (record { key = key; value = value }); texts = (IsUtf8-from_is_utf8 key key_utf8, IsUtf8-from_is_utf8 value value_utf8, tt) }, tt));
+  }
 
 -- ---- the rows
 

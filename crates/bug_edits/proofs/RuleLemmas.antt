@@ -1,28 +1,22 @@
--- Operations of which the parts keep the rules of bugs' operations.
-use Rattle.std.proofs.Common.{◌≡◌, ◌<◌, ◌^◌, ℕ, zero, suc, true, IsUtf8, List, [], ◌∷◌, ◌++◌, sym, subst, arith}
+-- What operations of a moment have in common keeps the rules of bugs' operations, and the one that begins a bug does.
+use Rattle.std.proofs.Common.{◌≡◌, ◌<◌, ◌^◌, ℕ, zero, suc, true, List, [], ◌∷◌, ◌++◌, sym, subst, arith}
 use Rattle.std.specs.Prelude.{slice_index}
 use Rattle.std.specs.Int.{w32, to_be_bytes}
-use Rattle.std.specs.List.Sorted.{IsStrictlySortedBy}
 use Rattle.std.specs.Str.{is_utf8}
 use Rattle.std.proofs.lemmas.Str.{IsUtf8-from_is_utf8}
 use Rattle.hex.specs.Hex.{IsBytes}
 use Rattle.sha2.specs.Sha256.{digest_bytes, sha256}
 use Rattle.sha2.proofs.Facts256.{length-sha256}
-use Rattle.gb_text.specs.Digits.{IsId}
 use Rattle.gb_text.specs.Rules.{is_message_text, is_title_text}
-use Rattle.gb_text.specs.declared.id.Id.{Id}
 use Rattle.gb_text.specs.declared.id.Name.{Name}
 use Rattle.git_object.proofs.NameLaws.{IsBytes-append, word_bytes}
 use Rattle.op_kind.specs.Bounds.{IsWithinBounds}
 use Rattle.op_kind.specs.Nonces.{IsNonce}
-use Rattle.op_kind.specs.Pairs.{AreInKeyOrder}
 use Rattle.op_kind.specs.declared.place.Common.{Common}
-use Rattle.op_kind.specs.declared.place.Pair.{Pair}
 use Rattle.op_kind.proofs.PairLemmas.{none_in_order}
-use Rattle.bug_ops.specs.BugForms.{AreLabels, AreNames}
+use Rattle.bug_ops.specs.BugForms.{AreNames}
 use Rattle.bug_ops.specs.Kind.{bug_kind}
-use Rattle.bug_ops.specs.declared.op.BugOp.TheVariants.{AddComment, Create, LabelChange, NoOp, SetMetadata, SetStatus, SetTitle}
-use Rattle.bug_ops.specs.declared.op.BugStatus.{BugStatus}
+use Rattle.bug_ops.specs.declared.op.BugOp.TheVariants.{Create}
 use Rattle.bug_edits.specs.NewOps.{new_common, nonce_from}
 use Rattle.bug_edits.specs.declared.moment.Moment.{Moment}
 
@@ -47,9 +41,9 @@ is_nonce seed =
 pub is_within : (moment : Moment) (kind : ℕ) → kind < 2 ^ 64 → IsWithinBounds (new_common moment kind)
 is_within moment kind small = record { kind = small; time = moment.within; nonce = is_nonce moment.seed; order = none_in_order; texts = tt }
 
--- ---- the operations
+-- ---- the operation that begins a bug
 
-no_names : (files : List Name) → files ≡ [] → AreNames files
+pub no_names : (files : List Name) → files ≡ [] → AreNames files
 no_names files none = subst AreNames (sym none) tt
 
 module _ (common : Common) (within : IsWithinBounds common) where
@@ -59,33 +53,4 @@ module _ (common : Common) (within : IsWithinBounds common) where
     within = within;
     kind = kind;
     values = (record { utf8 = IsUtf8-from_is_utf8 title title_utf8; title = is_title }, (record { utf8 = IsUtf8-from_is_utf8 message message_utf8; message = is_message }, (no_names files none, tt)));
-  }
-
-  pub comment_rules : (message : List ℕ) (files : List Name) → common.kind ≡ 3 → is_utf8 message ≡ true → is_message_text message ≡ true → files ≡ []
-      → bug_kind.KeepsRules (AddComment common message files)
-  comment_rules message files kind utf8 is_message none = record { within = within; kind = kind; values = (record { utf8 = IsUtf8-from_is_utf8 message utf8; message = is_message }, (no_names files none, tt)) }
-
-  pub noop_rules : common.kind ≡ 7 → bug_kind.KeepsRules (NoOp common)
-  noop_rules kind = record { within = within; kind = kind; values = tt }
-
-  pub title_rules : (title was : List ℕ) → common.kind ≡ 2 → is_utf8 title ≡ true → is_title_text title ≡ true → IsUtf8 was → bug_kind.KeepsRules (SetTitle common title was)
-  title_rules title was kind utf8 is_title was_utf8 = record { within = within; kind = kind; values = (record { utf8 = IsUtf8-from_is_utf8 title utf8; title = is_title }, (was_utf8, tt)) }
-
-  pub status_rules : (status : BugStatus) → common.kind ≡ 4 → bug_kind.KeepsRules (SetStatus common status)
-  status_rules status kind = record { within = within; kind = kind; values = (tt, tt) }
-
-  pub labels_rules : (added removed : List (List ℕ)) → common.kind ≡ 5 → AreLabels added → AreLabels removed → bug_kind.KeepsRules (LabelChange common added removed)
-  labels_rules added removed kind are_added are_removed = record { within = within; kind = kind; values = (are_added, (are_removed, tt)) }
-
-  -- one pair is in order
-  one_in_order : (pair : Pair) → AreInKeyOrder (pair ∷ [])
-  unfolding IsStrictlySortedBy
-  one_in_order pair = (tt, tt)
-
-  pub metadata_rules : (target : Id) (key value : List ℕ) → common.kind ≡ 8 → IsId target → is_utf8 key ≡ true → is_utf8 value ≡ true
-      → bug_kind.KeepsRules (SetMetadata common target (record { key = key; value = value } ∷ []))
-  metadata_rules target key value kind is_id key_utf8 value_utf8 = record {
-    within = within;
-    kind = kind;
-    values = (is_id, (record { order = one_in_order (record { key = key; value = value }); texts = (IsUtf8-from_is_utf8 key key_utf8, IsUtf8-from_is_utf8 value value_utf8, tt) }, tt));
   }

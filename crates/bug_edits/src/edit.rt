@@ -32,28 +32,6 @@ pub enum BugEdit {
     Metadata { key: Title, value: Message },
 }
 
-impl BugEdit {
-    ghost use Rattle.bug_edits.specs.EditTable.{row_of};
-
-    /// The name of its command.
-    pub fn name(&self) -> &'static str
-        ensures { result.now ≡ (row_of self.now).name }
-    {
-        match self {
-            BugEdit::Comment { .. } => "comment",
-            BugEdit::Noop => "noop",
-            BugEdit::Title { .. } => "title",
-            BugEdit::Status { status } => match status {
-                BugStatus::Opened => "open",
-                BugStatus::Closed => "close",
-            },
-            BugEdit::AddLabels { .. } => "label-add",
-            BugEdit::RemoveLabels { .. } => "label-rm",
-            BugEdit::Metadata { .. } => "meta",
-        }
-    }
-}
-
 /// Why an edit adds nothing, by what the bug says.
 #[derive(Clone, Copy, Debug, PartialEq, Eq)]
 pub enum NoChange {

@@ -1,8 +1,7 @@
 //! Labels that are named, and those of them that change.
 ghost use Rattle.std.specs.Prelude.{◌≡◌, IfOk};
 ghost use Rattle.bug_ops.specs.BugForms.{AreLabels};
-ghost use Rattle.snapshot.specs.LastMention.{snapshot_of};
-ghost use Rattle.bug_edits.specs.EditTable.{named_off, named_on, named_where};
+ghost use Rattle.bug_edits.specs.EditTable.{labels_on, named_off, named_on, named_where};
 ghost use Rattle.bug_edits.specs.NewOps.{texts_of};
 
 use bug_ops::{BugOp, copy_text};
@@ -13,8 +12,7 @@ use std::collections::BTreeSet;
 
 /// The labels that are named and that a bug does not have, in byte order, each once.
 pub(crate) fn named_off(alloc: Global, named: &[Title], ops: &[BugOp]) -> Result<List<Text>, Memory>
-    ensures labels { IfOk result (λ labels. labels
-        ≡ named_off (snapshot_of ops.now).row.labels (texts_of named.now)) }
+    ensures labels { IfOk result (λ l. l ≡ named_off (labels_on ops.now) (texts_of named.now)) }
     ensures rules { IfOk result (λ labels. AreLabels labels) }
 {
     named_where(alloc, false, named, ops)
@@ -22,8 +20,7 @@ pub(crate) fn named_off(alloc: Global, named: &[Title], ops: &[BugOp]) -> Result
 
 /// The labels that are named and that a bug has, in byte order, each once.
 pub(crate) fn named_on(alloc: Global, named: &[Title], ops: &[BugOp]) -> Result<List<Text>, Memory>
-    ensures labels { IfOk result (λ labels. labels
-        ≡ named_on (snapshot_of ops.now).row.labels (texts_of named.now)) }
+    ensures labels { IfOk result (λ l. l ≡ named_on (labels_on ops.now) (texts_of named.now)) }
     ensures rules { IfOk result (λ labels. AreLabels labels) }
 {
     named_where(alloc, true, named, ops)
@@ -36,8 +33,8 @@ fn named_where(
     named: &[Title],
     ops: &[BugOp],
 ) -> Result<List<Text>, Memory>
-    ensures labels { IfOk result (λ labels. labels
-        ≡ named_where on (snapshot_of ops.now).row.labels (texts_of named.now)) }
+    ensures labels { IfOk result (λ l. l
+        ≡ named_where on (labels_on ops.now) (texts_of named.now)) }
     ensures rules { IfOk result (λ labels. AreLabels labels) }
 {
     let mut found = BTreeSet::new(alloc);

@@ -34,7 +34,7 @@ pub fn create_op(
 }
 
 /// A comment.
-#[tactic(auto, using(crate::proofs::RuleLemmas::comment_rules))]
+#[tactic(auto, using(crate::proofs::RowLemmas::comment_rules))]
 pub(crate) fn comment_op(alloc: Global, moment: &Moment, message: &Message) -> Result<NewOp, Memory>
     ensures { IfOk result (λ new. new.op ≡ comment_op moment.entry.now message.now) }
 {
@@ -47,7 +47,7 @@ pub(crate) fn comment_op(alloc: Global, moment: &Moment, message: &Message) -> R
 }
 
 /// An operation that changes nothing.
-#[tactic(auto, using(crate::proofs::RuleLemmas::noop_rules))]
+#[tactic(auto, using(crate::proofs::RowLemmas::noop_rules))]
 pub(crate) fn noop_op(alloc: Global, moment: &Moment) -> Result<NewOp, Memory>
     ensures { IfOk result (λ new. new.op ≡ noop_op moment.entry.now) }
 {
@@ -58,7 +58,7 @@ pub(crate) fn noop_op(alloc: Global, moment: &Moment) -> Result<NewOp, Memory>
 }
 
 /// Another title, and the one before.
-#[tactic(auto, using(crate::proofs::RuleLemmas::title_rules))]
+#[tactic(auto, using(crate::proofs::RowLemmas::title_rules))]
 pub(crate) fn title_op(
     alloc: Global,
     moment: &Moment,
@@ -76,7 +76,7 @@ pub(crate) fn title_op(
 }
 
 /// Another status.
-#[tactic(auto, using(crate::proofs::RuleLemmas::status_rules))]
+#[tactic(auto, using(crate::proofs::RowLemmas::status_rules))]
 pub(crate) fn status_op(alloc: Global, moment: &Moment, status: BugStatus) -> Result<NewOp, Memory>
     ensures { IfOk result (λ new. new.op ≡ status_op moment.entry.now status) }
 {
@@ -88,7 +88,7 @@ pub(crate) fn status_op(alloc: Global, moment: &Moment, status: BugStatus) -> Re
 }
 
 /// Labels that are put on, and labels that are taken off.
-#[tactic(auto, using(crate::proofs::RuleLemmas::labels_rules))]
+#[tactic(auto, using(crate::proofs::RowLemmas::labels_rules))]
 pub(crate) fn labels_op(
     alloc: Global,
     moment: &Moment,

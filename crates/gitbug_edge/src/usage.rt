@@ -1,6 +1,7 @@
 //! The commands and their arguments, for people.
+use bug_edits::EDITS;
 use std::io;
-use words::{VERBS, Verb};
+use words::{FIRST_VERBS, LAST_VERBS, Verb};
 
 /// What the program is, and what it was proved with.
 pub const VERSION: &str = "gitbug 0.1.0, proved with rattle-kit-13f logic dac8208d650f15bf";
@@ -14,12 +15,27 @@ pub fn explain_usage<R: Eprint>(rt: &R, words: &[String]) -> io::Result<()> {
         explain_fault(rt, words)?;
     }
     eprintln!(rt; "commands:")?;
-    for verb in VERBS {
-        let (name, takes) = (verb.name(), verb.takes());
-        let space = if takes.is_empty() { "" } else { " " };
-        eprintln!(rt; "  gitbug FOLDER {name}{space}{takes}")?;
+    explain_each(rt, &FIRST_VERBS)?;
+    for edit in EDITS {
+        explain(rt, Verb::OfBug(edit))?;
     }
+    explain_each(rt, &LAST_VERBS)?;
     eprintln!(rt; "  gitbug --help\n  gitbug --version")
+}
+
+// These commands, each with its arguments.
+fn explain_each<R: Eprint>(rt: &R, verbs: &[Verb]) -> io::Result<()> {
+    for verb in verbs {
+        explain(rt, *verb)?;
+    }
+    Ok(())
+}
+
+// A command with its arguments.
+fn explain<R: Eprint>(rt: &R, verb: Verb) -> io::Result<()> {
+    let (name, takes) = (verb.name(), verb.takes());
+    let space = if takes.is_empty() { "" } else { " " };
+    eprintln!(rt; "  gitbug FOLDER {name}{space}{takes}")
 }
 
 // What is wrong with these words.

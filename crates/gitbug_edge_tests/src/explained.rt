@@ -1,6 +1,7 @@
 //! What standard error says, and what the program asks of a system whose clock and random bytes are given.
 use crate::fake::{Fake, Notes};
 use crate::system::{Testing, count, is_free, link, make_dir, write};
+use bug_edits::EDITS;
 use bug_run::Status;
 use gb_store::MemSink;
 use gb_text::List;
@@ -9,7 +10,7 @@ use std::os::unix::fs::PermissionsExt;
 use std::test::Fail;
 use std::time::Duration;
 use std::{fs, io};
-use words::VERBS;
+use words::{FIRST_VERBS, LAST_VERBS, Verb};
 
 /// Tries each.
 pub fn try_all<R: Testing>(rt: &R) -> Result<(), Fail> {
@@ -57,24 +58,35 @@ fn run_at<R: Testing>(rt: &R, words: &[&str]) -> Result<Ran, Fail> {
 
 // Each command is one with as many arguments as the list says, and none with one more or one less.
 fn each_command_takes_its_arguments<R: Testing>(rt: &R) -> Result<(), Fail> {
-    for verb in VERBS {
-        let takes = verb.takes();
-        let mut words = vec![in rt.alloc(); "e", verb.name()]?;
-        for argument in takes.split(' ').filter(|argument| !argument.is_empty()) {
-            words.push(argument)?;
-        }
-        assert!(rt; !is_usage(&run_at(rt, &words)?));
-        words.push("more")?;
-        assert_eq!(rt; is_usage(&run_at(rt, &words)?), !takes.ends_with(".."));
-        let _more = words.pop();
-        if !takes.is_empty() {
-            let _last = words.pop();
-            let ran = run_at(rt, &words)?;
-            assert!(rt; is_usage(&ran));
-            assert!(rt; ran.said.as_str().contains(takes));
-        }
+    for verb in FIRST_VERBS {
+        takes_its_arguments(rt, verb)?;
+    }
+    for edit in EDITS {
+        takes_its_arguments(rt, Verb::OfBug(edit))?;
+    }
+    for verb in LAST_VERBS {
+        takes_its_arguments(rt, verb)?;
     }
     fs::remove_dir_all(rt, "e")?;
+    Ok(())
+}
+
+fn takes_its_arguments<R: Testing>(rt: &R, verb: Verb) -> Result<(), Fail> {
+    let takes = verb.takes();
+    let mut words = vec![in rt.alloc(); "e", verb.name()]?;
+    for argument in takes.split(' ').filter(|argument| !argument.is_empty()) {
+        words.push(argument)?;
+    }
+    assert!(rt; !is_usage(&run_at(rt, &words)?));
+    words.push("more")?;
+    assert_eq!(rt; is_usage(&run_at(rt, &words)?), !takes.ends_with(".."));
+    let _more = words.pop();
+    if !takes.is_empty() {
+        let _last = words.pop();
+        let ran = run_at(rt, &words)?;
+        assert!(rt; is_usage(&ran));
+        assert!(rt; ran.said.as_str().contains(takes));
+    }
     Ok(())
 }
 

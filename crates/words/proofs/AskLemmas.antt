@@ -1,43 +1,26 @@
 -- What commands ask for, and in which order arguments are judged.
-use Rattle.std.proofs.Common.{◌≡◌, ◌≤◌, ◌<◌, ◌∙◌, ◌+◌, ◌-◌, refl, sym, ap, subst, ℕ, List, [], ◌∷◌, length, take, drop, get_or, map, codes, arith, IsSome, Option, Some, None, Result, Ok, Err}
+use Rattle.std.proofs.Common.{◌≡◌, ◌≤◌, ◌<◌, ◌∙◌, ◌-◌, refl, sym, ap, subst, ℕ, List, [], ◌∷◌, length, take, drop, get_or, map, codes, arith, IsSome, Option, Some, None, Result, Ok, Err}
 use Rattle.gb_text.specs.Folder.{folder_of}
 use Rattle.gb_text.specs.Ruled.{line_of, message_of, title_of}
 use Rattle.gb_text.specs.declared.ruled.Line.{Line}
 use Rattle.gb_text.specs.declared.ruled.Message.{Message}
 use Rattle.gb_text.specs.declared.ruled.Title.{Title}
 use Rattle.gb_text.proofs.RuledLemmas.{the_line, the_message, the_title}
-use Rattle.bug_ops.specs.declared.op.BugStatus.TheVariants.{Closed, Opened}
-use Rattle.bug_edits.specs.EditTable.{a_title, row_of}
+use Rattle.bug_edits.specs.EditTable.{name_of as name_of_edit, row_of}
+use Rattle.bug_edits.specs.Given.{HasTitles, given_texts, made}
 use Rattle.bug_edits.specs.declared.edit.BugEdit.{BugEdit}
-use Rattle.bug_edits.specs.declared.edit.BugEdit.TheVariants as bug_edit
-use Rattle.words.specs.WordRules.{NamesItsLabels, text_of}
-use Rattle.words.specs.Words.{IsCommand, asked_by, asked_in, asked_of, at, command_of, made, made_of_two, of_bug, titles_from}
+use Rattle.bug_edits.proofs.ArgumentLemmas.{begin_with_two}
+use Rattle.bug_edits.proofs.GivenLemmas.{both}
+use Rattle.bug_edits.proofs.ReadLemmas.{row_named}
+use Rattle.words.specs.Words.{IsCommand, asked_by, asked_in, asked_of, command_of, of_bug}
 use Rattle.words.specs.declared.edit.Edit.TheVariants as edits
 use Rattle.words.specs.declared.words.Asked.TheVariants as asked
 use Rattle.words.specs.declared.words.BadWord.TheVariants.{BadFolder, BadText}
 use Rattle.words.specs.declared.words.Command.{Command}
 use Rattle.words.specs.declared.words.Command.TheVariants as ask
-use Rattle.words.proofs.ArgumentLemmas.{begin_with_two}
+use Rattle.words.proofs.VerbLemmas.{edit_command}
 
--- ---- good arguments
-
--- two that are each of its type
-pub both : {A B C : Type 0} (here there : ℕ) (one : Option A) (two : Option B) (a : A) (b : B) (make : A → B → C) → one ≡ Some a → two ≡ Some b
-    → made_of_two (at here one) (at there two) make ≡ Ok (make a b)
-both here there one two a b make is_one is_two =
-    ap (λ o. made_of_two (at here o) (at there two) make) is_one ∙ ap (λ o. made_of_two (Ok a) (at there o) make) is_two
-
--- all titles
-titles_back : (place : ℕ) (labels : List Title) → titles_from place (map (λ (label : Title). label.text) labels) ≡ Ok labels
-titles_back place [] = refl
-titles_back place (label ∷ labels) =
-    ap (λ o. made_of_two (at place o) (titles_from (place + 1) (map (λ (other : Title). other.text) labels)) (λ title titles. title ∷ titles)) (the_title label)
-    ∙ ap (λ r. made_of_two (Ok label) r (λ title titles. title ∷ titles)) (titles_back (place + 1) labels)
-
--- the texts of labels
-texts_are : (labels : List Title) → map text_of (map a_title labels) ≡ map (λ (label : Title). label.text) labels
-texts_are [] = refl
-texts_are (label ∷ labels) = ap (λ texts. label.text ∷ texts) (texts_are labels)
+-- ---- commands
 
 pub user_new : (name : Title) (email : Line) → command_of (codes "user-new") (name.text ∷ email.text ∷ []) ≡ Some (Ok (ask.Edit (edits.UserNew name email)))
 user_new name email =
@@ -51,36 +34,9 @@ pub new : (title : Title) (message : Message) → command_of (codes "new") (titl
 new title message =
     ap Some (both 1 2 (title_of title.text) (message_of message.text) title message (λ t m. ask.Edit (edits.New t m)) (the_title title) (the_message message))
 
-pub comment : (bug : List ℕ) (message : Message) → command_of (codes "comment") (bug ∷ message.text ∷ []) ≡ Some (Ok (of_bug bug (bug_edit.Comment message)))
-comment bug message = ap (λ o. Some (made (at 2 o) (λ m. of_bug bug (bug_edit.Comment m)))) (the_message message)
-
-pub title : (bug : List ℕ) (other : Title) → command_of (codes "title") (bug ∷ other.text ∷ []) ≡ Some (Ok (of_bug bug (bug_edit.Title other)))
-title bug other = ap (λ o. Some (made (at 2 o) (λ t. of_bug bug (bug_edit.Title t)))) (the_title other)
-
-pub meta : (bug : List ℕ) (key : Title) (value : Message) → command_of (codes "meta") (bug ∷ key.text ∷ value.text ∷ []) ≡ Some (Ok (of_bug bug (bug_edit.Metadata key value)))
-meta bug key value =
-    ap Some (both 2 3 (title_of key.text) (message_of value.text) key value (λ k v. of_bug bug (bug_edit.Metadata k v)) (the_title key) (the_message value))
-
-pub label_add : (bug : List ℕ) (label : Title) (more : List Title)
-    → command_of (codes "label-add") (bug ∷ label.text ∷ map (λ (other : Title). other.text) more) ≡ Some (Ok (of_bug bug (bug_edit.AddLabels (label ∷ more))))
-label_add bug label more = ap (λ r. Some (made r (λ titles. of_bug bug (bug_edit.AddLabels titles)))) (titles_back 2 (label ∷ more))
-
-pub label_rm : (bug : List ℕ) (label : Title) (more : List Title)
-    → command_of (codes "label-rm") (bug ∷ label.text ∷ map (λ (other : Title). other.text) more) ≡ Some (Ok (of_bug bug (bug_edit.RemoveLabels (label ∷ more))))
-label_rm bug label more = ap (λ r. Some (made r (λ titles. of_bug bug (bug_edit.RemoveLabels titles)))) (titles_back 2 (label ∷ more))
-
 -- each edit is asked for by the name and the arguments of its row
-pub each : (bug : List ℕ) (e : BugEdit) → NamesItsLabels e → command_of (row_of e).name (bug ∷ map text_of (row_of e).words) ≡ Some (Ok (of_bug bug e))
-each bug (bug_edit.Comment message) some = comment bug message
-each bug bug_edit.Noop some = refl
-each bug (bug_edit.Title other) some = title bug other
-each bug (bug_edit.Status Opened) some = refl
-each bug (bug_edit.Status Closed) some = refl
-each bug (bug_edit.AddLabels []) some = absurd some
-each bug (bug_edit.AddLabels (label ∷ more)) some = ap (λ texts. command_of (codes "label-add") (bug ∷ label.text ∷ texts)) (texts_are more) ∙ label_add bug label more
-each bug (bug_edit.RemoveLabels []) some = absurd some
-each bug (bug_edit.RemoveLabels (label ∷ more)) some = ap (λ texts. command_of (codes "label-rm") (bug ∷ label.text ∷ texts)) (texts_are more) ∙ label_rm bug label more
-each bug (bug_edit.Metadata key value) some = meta bug key value
+pub each : (bug : List ℕ) (e : BugEdit) → HasTitles (row_of e).words → command_of (name_of_edit (row_of e).name) (bug ∷ given_texts (row_of e).words) ≡ Some (Ok (of_bug bug e))
+each bug e some = edit_command (name_of_edit (row_of e).name) bug (given_texts (row_of e).words) (Ok e) (row_named e some)
 
 -- ---- the order of refusals
 

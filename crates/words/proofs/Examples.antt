@@ -32,7 +32,7 @@ of_other_commands_alone : map (λ (word : List ℕ). asked_of (codes "f" ∷ wor
 of_other_commands_alone = refl
 
 bad_folder_first : asked_of (codes "a/../b" ∷ codes "title" ∷ codes "b" ∷ [] ∷ []) ≡ Refused BadFolder
-unfolding chars
+unfolding chars is_utf8
 bad_folder_first = refl
 
 second_argument : asked_of (codes "f" ∷ codes "title" ∷ codes "b" ∷ [] ∷ []) ≡ Refused (BadText 2)

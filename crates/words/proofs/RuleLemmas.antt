@@ -1,22 +1,29 @@
 -- The first argument that breaks its rule.
-use Rattle.std.proofs.Common.{◌≡◌, ◌∙◌, ◌+◌, ◌++◌, refl, sym, ap, subst, ℕ, Bool, true, false, List, [], ◌∷◌, length, codes, Option, Some, None, Result, Ok, Err, arith}
-use Rattle.std.specs.Prelude.{◌&&◌, is_some, IfSome}
-use Rattle.std.specs.Str.{is_utf8}
-use Rattle.gb_text.specs.Rules.{is_line_text, is_message_text, is_title_text}
-use Rattle.gb_text.specs.Ruled.{line_by, line_of, message_by, message_of, title_by, title_of}
+use Rattle.std.proofs.Common.{◌≡◌, ◌∙◌, refl, sym, ap, subst, ℕ, Bool, true, false, List, [], ◌∷◌, codes, Option, Some, None, Result, Ok, Err}
+use Rattle.std.specs.Prelude.{◌&&◌, ◌||◌, is_some, not, IfSome, if◌then◌else◌}
+use Rattle.std.specs.Str.{bytes_eq, is_utf8}
+use Rattle.gb_text.specs.Rules.{is_line_text}
+use Rattle.gb_text.specs.Ruled.{line_by, line_of, message_of, title_of}
 use Rattle.gb_text.specs.declared.ruled.Line.{Line}
-use Rattle.gb_text.specs.declared.ruled.Message.{Message}
 use Rattle.gb_text.specs.declared.ruled.Title.{Title}
+use Rattle.bug_edits.specs.EditTable.{edit_by, edit_from, name_of as name_of_edit}
+use Rattle.bug_edits.specs.EditWords.{IsFirstBad, all_keep, any_word, edit_keeps, is_message_word, is_title_word, kept_by, kept_of_bug}
+use Rattle.bug_edits.specs.Given.{at, made}
+use Rattle.bug_edits.specs.declared.edit.BugEdit.{BugEdit}
 use Rattle.bug_edits.specs.declared.edit.BugEdit.TheVariants as bug_edit
+use Rattle.bug_edits.specs.declared.given.Given.TheVariants as given
+use Rattle.bug_edits.specs.declared.names.EditName.{EditName}
+use Rattle.bug_edits.specs.declared.names.EditName.TheVariants as named
+use Rattle.bug_edits.proofs.GivenLemmas.{Judges, after_good, both, first_of_all, first_so, last_so, made_so, message_word, title_word}
+use Rattle.bug_edits.proofs.ReadLemmas.{each_name, edit_judged}
 use Rattle.words.specs.Verbs.{name_of}
-use Rattle.words.specs.WordRules.{IsFirstBad, IsRead, all_keep, is_line_word, is_message_word, is_title_word, kept_by, words_keep}
-use Rattle.words.specs.Words.{at, by_verb, command_of, made, made_of_two, of_bug, person, titles_from}
+use Rattle.words.specs.WordRules.{IsRead, is_line_word, words_keep}
+use Rattle.words.specs.Words.{by_verb, command_of, edit_of_bug, of_bug, person}
 use Rattle.words.specs.declared.edit.Edit.TheVariants as edits
 use Rattle.words.specs.declared.verb.Verb.{Verb}
 use Rattle.words.specs.declared.verb.Verb.TheVariants as verb
 use Rattle.words.specs.declared.words.Command.{Command}
 use Rattle.words.specs.declared.words.Command.TheVariants as ask
-use Rattle.words.proofs.AskLemmas.{both}
 use Rattle.words.proofs.VerbLemmas.{of_a_verb}
 
 -- ---- one argument
@@ -30,75 +37,7 @@ line_word word = by (is_utf8 word) (is_line_text word) refl refl
     by true false u g = refl
     by false good u g = refl
 
-title_word : (word : List ℕ) → is_title_word word ≡ is_some (title_of word)
-title_word word = by (is_utf8 word) (is_title_text word) refl refl
-  where
-    by : (utf8 good : Bool) (u : is_utf8 word ≡ utf8) (g : is_title_text word ≡ good) → (utf8 && good) ≡ is_some (title_by word utf8 good u g)
-    by true true u g = refl
-    by true false u g = refl
-    by false good u g = refl
-
-message_word : (word : List ℕ) → is_message_word word ≡ is_some (message_of word)
-message_word word = by (is_utf8 word) (is_message_text word) refl refl
-  where
-    by : (utf8 good : Bool) (u : is_utf8 word ≡ utf8) (g : is_message_text word ≡ good) → (utf8 && good) ≡ is_some (message_by word utf8 good u g)
-    by true true u g = refl
-    by true false u g = refl
-    by false good u g = refl
-
 -- ---- several
-
--- the first that is false is at this place, where the first of all is at another
-record Splits (kept : List Bool) (from place : ℕ) : Type 0 where
-  before : List Bool
-  after : List Bool
-  are : kept ≡ before ++ false ∷ after
-  all_before : all_keep before ≡ true
-  counted : place ≡ length before + from
-
--- what is read of arguments, of which the first is at a place, agrees with whether each satisfies its rule
-abbrev Judges : {A : Type 0} → ℕ → List Bool → Result A ℕ → Type 0
-Judges from kept (Ok read) = all_keep kept ≡ true
-Judges from kept (Err place) = Splits kept from place
-
--- after one that is good
-after_good : {A : Type 0} (from : ℕ) (kept : List Bool) (read : Result A ℕ) → Judges (from + 1) kept read → Judges from (true ∷ kept) read
-after_good from kept (Ok read) all = all
-after_good from kept (Err place) rest =
-    let counted : place ≡ length rest.before + (from + 1) = rest.counted in
-    record {
-      before = true ∷ rest.before;
-      after = rest.after;
-      are = ap (λ (others : List Bool). true ∷ others) rest.are;
-      all_before = rest.all_before;
-      counted = omega arith;
-    }
-
-made_so : {A B : Type 0} (from : ℕ) (kept : List Bool) (read : Result A ℕ) (make : A → B) → Judges from kept read → Judges from kept (made read make)
-made_so from kept (Ok read) make all = all
-made_so from kept (Err place) make split = split
-
--- the last
-last_so : {A : Type 0} (from : ℕ) (keeps : Bool) (o : Option A) → keeps ≡ is_some o → Judges from (keeps ∷ []) (at from o)
-last_so from true (Some a) is = refl
-last_so from false None is = record { before = []; after = []; are = refl; all_before = refl; counted = omega arith }
-last_so from true None is = absurd (cc is)
-last_so from false (Some a) is = absurd (cc is)
-
--- one before others
-first_so : {A B C : Type 0} (from : ℕ) (keeps : Bool) (kept : List Bool) (o : Option A) (read : Result B ℕ) (make : A → B → C) → keeps ≡ is_some o → Judges (from + 1) kept read
-    → Judges from (keeps ∷ kept) (made_of_two (at from o) read make)
-first_so from true kept (Some a) (Ok read) make is rest = rest
-first_so from true kept (Some a) (Err place) make is rest = after_good {A = ℕ} from kept (Err place) rest
-first_so from false kept None read make is rest = record { before = []; after = kept; are = refl; all_before = refl; counted = omega arith }
-first_so from true kept None read make is rest = absurd (cc is)
-first_so from false kept (Some a) read make is rest = absurd (cc is)
-
-titles_so : (place : ℕ) (labels : List (List ℕ)) → Judges place (kept_by [] is_title_word labels) (titles_from place labels)
-titles_so place [] = refl
-titles_so place (label ∷ labels) =
-    first_so place (is_title_word label) (kept_by [] is_title_word labels) (title_of label) (titles_from (place + 1) labels) (λ title titles. title ∷ titles) (title_word label)
-    (titles_so (place + 1) labels)
 
 -- a title and a line
 person_so : {A : Type 0} (one two : List ℕ) (make : Title × Line → A) → Judges 1 (is_title_word one ∷ is_line_word two ∷ []) (made (person one two) make)
@@ -106,6 +45,31 @@ person_so one two make =
     let pair : Title → Line → Title × Line = λ name email. (name, email) in
     made_so 1 (is_title_word one ∷ is_line_word two ∷ []) (person one two) make
     (first_so 1 (is_title_word one) (is_line_word two ∷ []) (title_of one) (at 2 (line_of two)) pair (title_word one) (last_so 2 (is_line_word two) (line_of two) (line_word two)))
+
+-- the rules of an edit are those that follow the bug's argument
+is_off : (b : Bool) → not b ≡ true → b ≡ false
+is_off true off = absurd (cc off)
+is_off false off = refl
+
+edit_rules : (edit : EditName) (bug : List ℕ) (words : List (List ℕ)) → words_keep (name_of_edit edit) (bug ∷ words) ≡ true ∷ edit_keeps (name_of_edit edit) words
+edit_rules edit bug words =
+    let name = name_of_edit edit in
+    let persons = is_off (bytes_eq name (codes "user-new") || bytes_eq name (codes "user-edit"))
+    (each_name (λ e. not (bytes_eq (name_of_edit e) (codes "user-new") || bytes_eq (name_of_edit e) (codes "user-edit"))) refl edit) in
+    let bugs = is_off (bytes_eq name (codes "new")) (each_name (λ e. not (bytes_eq (name_of_edit e) (codes "new"))) refl edit) in
+    let person_rules = kept_by (is_title_word ∷ is_line_word ∷ []) any_word (bug ∷ words) in
+    let bug_rules = kept_by (is_title_word ∷ is_message_word ∷ []) any_word (bug ∷ words) in
+    ap (λ b. if b then person_rules else (if bytes_eq name (codes "new") then bug_rules else kept_of_bug name (bug ∷ words))) persons
+    ∙ ap (λ b. if b then bug_rules else kept_of_bug name (bug ∷ words)) bugs
+
+edit_so : (edit : EditName) (bug : List ℕ) (words : List (List ℕ)) → IfSome (edit_of_bug bug (edit_from edit words)) (Judges 1 (words_keep (name_of_edit edit) (bug ∷ words)))
+edit_so edit bug words =
+    let kept = edit_keeps (name_of_edit edit) words in
+    subst (λ all. IfSome (edit_of_bug bug (edit_from edit words)) (Judges 1 all)) (sym (edit_rules edit bug words)) (by kept (edit_from edit words) (edit_judged edit words))
+  where
+    by : (kept : List Bool) (o : Option (Result BugEdit ℕ)) → IfSome o (Judges 2 kept) → IfSome (edit_of_bug bug o) (Judges 1 (true ∷ kept))
+    by kept None so = tt
+    by kept (Some read) so = made_so 1 (true ∷ kept) read (of_bug bug) (after_good 1 kept read so)
 
 -- what each command reads agrees with the rules of its arguments
 judged : (v : Verb) (arguments : List (List ℕ)) → IfSome (by_verb v arguments) (Judges 1 (words_keep (name_of v) arguments))
@@ -116,30 +80,7 @@ judged verb.Users [] = refl
 judged verb.New (one ∷ two ∷ []) =
     first_so 1 (is_title_word one) (is_message_word two ∷ []) (title_of one) (at 2 (message_of two)) (λ t m. ask.Edit (edits.New t m)) (title_word one)
     (last_so 2 (is_message_word two) (message_of two) (message_word two))
-judged verb.Comment (bug ∷ two ∷ []) =
-    let make : Message → Command = λ m. of_bug bug (bug_edit.Comment m) in
-    after_good 1 (is_message_word two ∷ []) (made (at 2 (message_of two)) make)
-    (made_so 2 (is_message_word two ∷ []) (at 2 (message_of two)) make (last_so 2 (is_message_word two) (message_of two) (message_word two)))
-judged verb.Title (bug ∷ two ∷ []) =
-    let make : Title → Command = λ t. of_bug bug (bug_edit.Title t) in
-    after_good 1 (is_title_word two ∷ []) (made (at 2 (title_of two)) make)
-    (made_so 2 (is_title_word two ∷ []) (at 2 (title_of two)) make (last_so 2 (is_title_word two) (title_of two) (title_word two)))
-judged verb.Close (one ∷ []) = refl
-judged verb.Open (one ∷ []) = refl
-judged verb.LabelAdd (bug ∷ label ∷ labels) =
-    let make : List Title → Command = λ titles. of_bug bug (bug_edit.AddLabels titles) in
-    let kept = kept_by [] is_title_word (label ∷ labels) in
-    after_good 1 kept (made (titles_from 2 (label ∷ labels)) make) (made_so 2 kept (titles_from 2 (label ∷ labels)) make (titles_so 2 (label ∷ labels)))
-judged verb.LabelRm (bug ∷ label ∷ labels) =
-    let make : List Title → Command = λ titles. of_bug bug (bug_edit.RemoveLabels titles) in
-    let kept = kept_by [] is_title_word (label ∷ labels) in
-    after_good 1 kept (made (titles_from 2 (label ∷ labels)) make) (made_so 2 kept (titles_from 2 (label ∷ labels)) make (titles_so 2 (label ∷ labels)))
-judged verb.Meta (bug ∷ two ∷ three ∷ []) =
-    let make : Title → Message → Command = λ k v. of_bug bug (bug_edit.Metadata k v) in
-    after_good 1 (is_title_word two ∷ is_message_word three ∷ []) (made_of_two (at 2 (title_of two)) (at 3 (message_of three)) make)
-    (first_so 2 (is_title_word two) (is_message_word three ∷ []) (title_of two) (at 3 (message_of three)) make (title_word two)
-    (last_so 3 (is_message_word three) (message_of three) (message_word three)))
-judged verb.Noop (one ∷ []) = refl
+judged (verb.OfBug edit) (bug ∷ words) = edit_so edit bug words
 judged verb.Show (one ∷ []) = refl
 judged verb.Log (one ∷ []) = refl
 judged _ _ = tt
@@ -151,9 +92,7 @@ told name arguments read is =
     (subst (λ o. IfSome o (Judges 1 (words_keep (name_of by.0) arguments))) by.2 (judged by.0 arguments))
 
 pub first_bad : (name : List ℕ) (arguments : List (List ℕ)) (place : ℕ) → command_of name arguments ≡ Some (Err place) → IsFirstBad (words_keep name arguments) place
-first_bad name arguments place is =
-    let found = told name arguments (Err place) is in
-    record { before = found.before; after = found.after; are = found.are; all_before = found.all_before; counted = found.counted }
+first_bad name arguments place is = first_of_all (words_keep name arguments) place (told name arguments (Err place) is)
 
 pub none_bad : (name : List ℕ) (arguments : List (List ℕ)) (command : Command) → command_of name arguments ≡ Some (Ok command) → all_keep (words_keep name arguments) ≡ true
 none_bad name arguments command is = told name arguments (Ok command) is
@@ -171,7 +110,10 @@ pub messages_are_read : (bug title message : List ℕ) → is_title_word title �
 messages_are_read bug title message is_title is_message =
     let t = read_is (title_of title) (sym is_title ∙ title_word title) in
     let m = read_is (message_of message) (sym is_message ∙ message_word message) in (
-      (of_bug bug (bug_edit.Comment m.0), ap (λ o. Some (made (at 2 o) (λ read. of_bug bug (bug_edit.Comment read)))) m.1),
+      (of_bug bug (bug_edit.Comment m.0), ap (λ o. edit_of_bug bug (edit_by named.Comment (Some (made (at 2 o) (λ read. given.Message read))))) m.1),
       (ask.Edit (edits.New t.0 m.0), ap Some (both 1 2 (title_of title) (message_of message) t.0 m.0 (λ one two. ask.Edit (edits.New one two)) t.1 m.1)),
-      (of_bug bug (bug_edit.Metadata t.0 m.0), ap Some (both 2 3 (title_of title) (message_of message) t.0 m.0 (λ one two. of_bug bug (bug_edit.Metadata one two)) t.1 m.1)),
+      (
+        of_bug bug (bug_edit.Metadata t.0 m.0),
+        ap (λ r. edit_of_bug bug (edit_by named.Meta (Some r))) (both 2 3 (title_of title) (message_of message) t.0 m.0 (λ one two. given.TitleAndMessage one two) t.1 m.1),
+      ),
     )

@@ -1,30 +1,49 @@
 -- Which command a name is, and which arguments give a command.
-use Rattle.std.proofs.Common.{◌≡◌, ◌≤◌, inl, inr, refl, sym, ap, subst, ℕ, zero, suc, Bool, true, false, List, [], ◌∷◌, length, codes, Contains, IsSome, Option, Some, None, Result, arith}
-use Rattle.std.specs.Prelude.{⊤, cond, find, option_and_then, IfSome}
+use Rattle.std.proofs.Common.{◌≡◌, ◌+◌, ◌∙◌, inl, inr, refl, sym, ap, subst, ℕ, zero, suc, true, List, [], ◌∷◌, length, codes, Contains, IsSome, Option, Some, None, Result, arith}
+use Rattle.std.specs.Prelude.{⊤, is_some, not, option_and_then, IfSome}
+use Rattle.std.specs.Option.{option_or}
 use Rattle.std.specs.Str.{bytes_eq}
 use Rattle.std.proofs.lemmas.Slice.Eq.{bytes_eq-Decides}
-use Rattle.words.specs.Verbs.{name_of, verb_of}
-use Rattle.words.specs.WordRules.{IsCounted, counted_commands, label_commands}
-use Rattle.words.specs.Words.{by_verb, command_of}
-use Rattle.words.specs.declared.verb.TheConstants.{VERBS}
+use Rattle.bug_edits.specs.EditTable.{edit_from, name_of as name_of_edit, name_read}
+use Rattle.bug_edits.specs.EditWords.{IsCountedEdit, edit_named}
+use Rattle.bug_edits.specs.declared.edit.BugEdit.{BugEdit}
+use Rattle.bug_edits.specs.declared.names.EditName.{EditName}
+use Rattle.bug_edits.proofs.ReadLemmas.{counted_edits_give, counted_of, each_name, found_passes, name_back, name_is, of_a_name, some_is}
+use Rattle.words.specs.Verbs.{name_of, of_edit, other_of, verb_among, verb_of}
+use Rattle.words.specs.WordRules.{IsCounted, counted_commands}
+use Rattle.words.specs.Words.{by_verb, command_of, edit_of_bug}
+use Rattle.words.specs.declared.verb.TheConstants.{FIRST_VERBS, LAST_VERBS}
 use Rattle.words.specs.declared.verb.Verb.{Verb}
 use Rattle.words.specs.declared.verb.Verb.TheVariants as verb
 use Rattle.words.specs.declared.words.Command.{Command}
 
 -- ---- names
 
--- what is found passes the test
-passed : {X : Type 0} (test : X → Bool) (x y : X) (rest : Option X) (b : Bool) → test y ≡ b → (rest ≡ Some x → test x ≡ true) → cond b (Some y) rest ≡ Some x → test x ≡ true
-passed test x y rest true passes later is = let same : y ≡ x = cc is in subst (λ z. test z ≡ true) same passes
-passed test x y rest false fails later is = later is
-
-found_passes : {X : Type 0} (test : X → Bool) (xs : List X) (x : X) → find test xs ≡ Some x → test x ≡ true
-found_passes test [] x is = absurd (cc is)
-found_passes test (y ∷ ys) x is = passed test x y (find test ys) (test y) refl (found_passes test ys x) is
-
 -- a name is that of the command that it is read as
+among_is : (verbs : List Verb) (name : List ℕ) (v : Verb) → verb_among verbs name ≡ Some v → name ≡ name_of v
+among_is verbs name v is = sym ((bytes_eq-Decides (name_of v) name).0 (found_passes (λ w. bytes_eq (name_of w) name) verbs v is))
+
+either_is : (one two : Option Verb) (v : Verb) (P : Type 0) → (one ≡ Some v → P) → (two ≡ Some v → P) → option_or one two ≡ Some v → P
+either_is None two v P of_one of_two is = of_two is
+either_is (Some w) two v P of_one of_two is = of_one is
+
+of_edit_is : (o : Option EditName) (name : List ℕ) (v : Verb) → name_read name ≡ o → of_edit o ≡ Some v → name ≡ name_of v
+of_edit_is None name v read is = absurd (cc is)
+of_edit_is (Some edit) name v read is = let same : verb.OfBug edit ≡ v = cc is in subst (λ w. name ≡ name_of w) same (name_is name edit read)
+
 pub is_named : (name : List ℕ) (v : Verb) → verb_of name ≡ Some v → name ≡ name_of v
-is_named name v is = sym ((bytes_eq-Decides (name_of v) name).0 (found_passes (λ w. bytes_eq (name_of w) name) VERBS v is))
+is_named name v is =
+    either_is (other_of name) (of_edit (name_read name)) v (name ≡ name_of v)
+    (λ other. either_is (verb_among FIRST_VERBS name) (verb_among LAST_VERBS name) v (name ≡ name_of v) (among_is FIRST_VERBS name v) (among_is LAST_VERBS name v) other)
+    (of_edit_is (name_read name) name v refl) is
+
+-- the name of an edit is that of no other command
+no_other : (o : Option Verb) → not (is_some o) ≡ true → o ≡ None
+no_other None none = refl
+no_other (Some v) none = absurd (cc none)
+
+edit_is_no_other : (edit : EditName) → other_of (name_of_edit edit) ≡ None
+edit_is_no_other edit = no_other (other_of (name_of_edit edit)) (each_name (λ e. not (is_some (other_of (name_of_edit e)))) refl edit)
 
 -- the name of each command is read as it
 pub read_back : (v : Verb) → verb_of (name_of v) ≡ Some v
@@ -33,14 +52,7 @@ read_back verb.UserEdit = refl
 read_back verb.UserSet = refl
 read_back verb.Users = refl
 read_back verb.New = refl
-read_back verb.Comment = refl
-read_back verb.Title = refl
-read_back verb.Close = refl
-read_back verb.Open = refl
-read_back verb.LabelAdd = refl
-read_back verb.LabelRm = refl
-read_back verb.Meta = refl
-read_back verb.Noop = refl
+read_back (verb.OfBug edit) = ap (λ o. option_or o (of_edit (name_read (name_of_edit edit)))) (edit_is_no_other edit) ∙ ap of_edit (name_back edit)
 read_back verb.Show = refl
 read_back verb.Log = refl
 
@@ -55,28 +67,26 @@ of_a_verb name arguments read is = by (verb_of name) refl is
 
 -- ---- numbers of arguments
 
+-- an edit of a bug has one argument more than it counts
+edit_is_counted : (edit : EditName) (words : List (List ℕ)) → IfSome (edit_from edit words) (λ read. IsCountedEdit (name_of_edit edit) (length words))
+    → (bug : List ℕ) → IfSome (edit_of_bug bug (edit_from edit words)) (λ read. IsCounted (name_of_edit edit) (length (bug ∷ words)))
+edit_is_counted edit words so bug = by (edit_from edit words) so
+  where
+    by : (o : Option (Result BugEdit ℕ)) → IfSome o (λ read. IsCountedEdit (name_of_edit edit) (length words)) → IfSome (edit_of_bug bug o) (λ read. IsCounted (name_of_edit edit) (length (bug ∷ words)))
+    by None so = tt
+    by (Some read) so = inr (length words, omega arith, so)
+
 -- a command has the name and the number of arguments of one that is listed
 counted : (v : Verb) (arguments : List (List ℕ)) → IfSome (by_verb v arguments) (λ read. IsCounted (name_of v) (length arguments))
 counted verb.Users [] = inl (0, omega arith, refl)
 counted verb.Log (one ∷ []) = inl (1, omega arith, refl)
 counted verb.Show (one ∷ []) = inl (2, omega arith, refl)
 counted verb.UserSet (one ∷ []) = inl (3, omega arith, refl)
-counted verb.Noop (one ∷ []) = inl (4, omega arith, refl)
-counted verb.Close (one ∷ []) = inl (5, omega arith, refl)
-counted verb.Open (one ∷ []) = inl (6, omega arith, refl)
-counted verb.UserNew (one ∷ two ∷ []) = inl (7, omega arith, refl)
-counted verb.UserEdit (one ∷ two ∷ []) = inl (8, omega arith, refl)
-counted verb.New (one ∷ two ∷ []) = inl (9, omega arith, refl)
-counted verb.Comment (one ∷ two ∷ []) = inl (10, omega arith, refl)
-counted verb.Title (one ∷ two ∷ []) = inl (11, omega arith, refl)
-counted verb.Meta (one ∷ two ∷ three ∷ []) = inl (12, omega arith, refl)
-counted verb.LabelAdd (one ∷ two ∷ more) = inr (omega arith, (0, omega arith, refl))
-counted verb.LabelRm (one ∷ two ∷ more) = inr (omega arith, (1, omega arith, refl))
+counted verb.UserNew (one ∷ two ∷ []) = inl (4, omega arith, refl)
+counted verb.UserEdit (one ∷ two ∷ []) = inl (5, omega arith, refl)
+counted verb.New (one ∷ two ∷ []) = inl (6, omega arith, refl)
+counted (verb.OfBug edit) (bug ∷ words) = edit_is_counted edit words (counted_of edit words) bug
 counted _ _ = tt
-
-some_is : {A : Type 0} (o : Option A) → IsSome o → (a : A) × (o ≡ Some a)
-some_is None some = absurd (cc some)
-some_is (Some a) some = (a, refl)
 
 pub only_counted : (name : List ℕ) (arguments : List (List ℕ)) → IsSome (command_of name arguments) → IsCounted name (length arguments)
 only_counted name arguments some =
@@ -103,18 +113,6 @@ two_words P holds (a ∷ []) count = absurd (omega (arith, count))
 two_words P holds (a ∷ b ∷ []) count = holds a b
 two_words P holds (a ∷ b ∷ c ∷ more) count = absurd (omega (arith, count))
 
-three_words : (P : List (List ℕ) → Type 0) → ((a b c : List ℕ) → P (a ∷ b ∷ c ∷ [])) → (arguments : List (List ℕ)) → length arguments ≡ 3 → P arguments
-three_words P holds [] count = absurd (omega (arith, count))
-three_words P holds (a ∷ []) count = absurd (omega (arith, count))
-three_words P holds (a ∷ b ∷ []) count = absurd (omega (arith, count))
-three_words P holds (a ∷ b ∷ c ∷ []) count = holds a b c
-three_words P holds (a ∷ b ∷ c ∷ d ∷ more) count = absurd (omega (arith, count))
-
-more_words : (P : List (List ℕ) → Type 0) → ((a b : List ℕ) (more : List (List ℕ)) → P (a ∷ b ∷ more)) → (arguments : List (List ℕ)) → 2 ≤ length arguments → P arguments
-more_words P holds [] count = absurd (omega (arith, count))
-more_words P holds (a ∷ []) count = absurd (omega (arith, count))
-more_words P holds (a ∷ b ∷ more) count = holds a b more
-
 -- this name with these arguments gives a command
 abbrev Gives : List ℕ → List (List ℕ) → Type 0
 Gives name arguments = IsSome (command_of name arguments)
@@ -139,41 +137,27 @@ each_gives = (
       one_word (Gives (codes "show")) (λ a. refl),
       (
         one_word (Gives (codes "user-set")) (λ a. refl),
-        (
-          one_word (Gives (codes "noop")) (λ a. refl),
-          (
-            one_word (Gives (codes "close")) (λ a. refl),
-            (
-              one_word (Gives (codes "open")) (λ a. refl),
-              (
-                two_words (Gives (codes "user-new")) (λ a b. refl),
-                (
-                  two_words (Gives (codes "user-edit")) (λ a b. refl),
-                  (
-                    two_words (Gives (codes "new")) (λ a b. refl),
-                    (
-                      two_words (Gives (codes "comment")) (λ a b. refl),
-                      (
-                        two_words (Gives (codes "title")) (λ a b. refl),
-                        (three_words (Gives (codes "meta")) (λ a b c. refl), tt),
-                      ),
-                    ),
-                  ),
-                ),
-              ),
-            ),
-          ),
-        ),
+        (two_words (Gives (codes "user-new")) (λ a b. refl), (two_words (Gives (codes "user-edit")) (λ a b. refl), (two_words (Gives (codes "new")) (λ a b. refl), tt))),
       ),
     ),
   ),
 )
 
-labels_give : (name : List ℕ) (arguments : List (List ℕ)) → 2 ≤ length arguments → Contains label_commands name → Gives name arguments
-labels_give name arguments many (zero, few, is) = subst (λ n. Gives n arguments) is (more_words (Gives (codes "label-add")) (λ a b more. refl) arguments many)
-labels_give name arguments many (suc zero, few, is) = subst (λ n. Gives n arguments) is (more_words (Gives (codes "label-rm")) (λ a b more. refl) arguments many)
-labels_give name arguments many (suc (suc k), few, is) = absurd (omega (arith, few))
+-- what an edit of a bug is read as
+pub edit_command : (name bug : List ℕ) (words : List (List ℕ)) (read : Result BugEdit ℕ) → edit_named name words ≡ Some read → command_of name (bug ∷ words) ≡ edit_of_bug bug (Some read)
+edit_command name bug words read is =
+    let by = of_a_name name words read is in
+    ap (λ n. option_and_then (λ v. by_verb v (bug ∷ words)) (verb_of n)) by.1
+    ∙ ap (option_and_then (λ v. by_verb v (bug ∷ words))) (read_back (verb.OfBug by.0))
+    ∙ ap (edit_of_bug bug) by.2
+
+edits_give : (name : List ℕ) (arguments : List (List ℕ)) (others : ℕ) → length arguments ≡ others + 1 → IsCountedEdit name others → Gives name arguments
+edits_give name [] others count is = absurd (omega (arith, count))
+edits_give name (bug ∷ words) others count is =
+    let same : others ≡ length words = omega (arith, count) in
+    let read = some_is (edit_named name words) (counted_edits_give name words (subst (IsCountedEdit name) same is)) in
+    subst IsSome (sym (edit_command name bug words read.0 read.1)) refl
 
 pub counted_gives : (name : List ℕ) (arguments : List (List ℕ)) → IsCounted name (length arguments) → IsSome (command_of name arguments)
 counted_gives name arguments (inl has) = gives_by counted_commands each_gives name arguments has
-counted_gives name arguments (inr (many, has)) = labels_give name arguments many has
+counted_gives name arguments (inr (others, count, is)) = edits_give name arguments others count is

@@ -1,7 +1,10 @@
 -- The names of commands.
-use Rattle.std.specs.Prelude.{ℕ, List, codes, find, Option}
+use Rattle.std.specs.Prelude.{ℕ, List, codes, find, Option, Some, None}
+use Rattle.std.specs.Option.{option_or}
 use Rattle.std.specs.Str.{bytes_eq}
-use Rattle.words.specs.declared.verb.TheConstants.{VERBS}
+use Rattle.bug_edits.specs.EditTable.{name_of as name_of_edit, name_read}
+use Rattle.bug_edits.specs.declared.names.EditName.{EditName}
+use Rattle.words.specs.declared.verb.TheConstants.{FIRST_VERBS, LAST_VERBS}
 use Rattle.words.specs.declared.verb.Verb.{Verb}
 use Rattle.words.specs.declared.verb.Verb.TheVariants as verb
 
@@ -12,17 +15,23 @@ name_of verb.UserEdit = codes "user-edit"
 name_of verb.UserSet = codes "user-set"
 name_of verb.Users = codes "users"
 name_of verb.New = codes "new"
-name_of verb.Comment = codes "comment"
-name_of verb.Title = codes "title"
-name_of verb.Close = codes "close"
-name_of verb.Open = codes "open"
-name_of verb.LabelAdd = codes "label-add"
-name_of verb.LabelRm = codes "label-rm"
-name_of verb.Meta = codes "meta"
-name_of verb.Noop = codes "noop"
+name_of (verb.OfBug edit) = name_of_edit edit
 name_of verb.Show = codes "show"
 name_of verb.Log = codes "log"
 
+-- the one of these that has a name, if there is one
+abbrev pub verb_among : List Verb → List ℕ → Option Verb
+verb_among verbs name = find (λ v. bytes_eq (name_of v) name) verbs
+
+-- a command that is no edit of a bug
+abbrev pub other_of : List ℕ → Option Verb
+other_of name = option_or (verb_among FIRST_VERBS name) (verb_among LAST_VERBS name)
+
+-- an edit of a bug
+abbrev pub of_edit : Option EditName → Option Verb
+of_edit None = None
+of_edit (Some edit) = Some (verb.OfBug edit)
+
 -- the command of a name, if there is one
 abbrev pub verb_of : List ℕ → Option Verb
-verb_of name = find (λ v. bytes_eq (name_of v) name) VERBS
+verb_of name = option_or (other_of name) (of_edit (name_read name))

@@ -1,12 +1,12 @@
 -- What arguments ask: a command, each argument read by its rule, in a folder; or what they alone refuse.
-use Rattle.std.specs.Prelude.{◌+◌, ⊤, ℕ, List, [], ◌∷◌, Option, Some, None, option_and_then, Result, Ok, Err}
+use Rattle.std.specs.Prelude.{⊤, ℕ, List, [], ◌∷◌, Option, Some, None, option_and_then, Result, Ok, Err}
 use Rattle.gb_text.specs.Folder.{folder_of}
 use Rattle.gb_text.specs.Ruled.{line_of, message_of, title_of}
 use Rattle.gb_text.specs.declared.ruled.Line.{Line}
 use Rattle.gb_text.specs.declared.ruled.Title.{Title}
+use Rattle.bug_edits.specs.EditTable.{edit_from}
+use Rattle.bug_edits.specs.Given.{at, made, made_of_two}
 use Rattle.bug_edits.specs.declared.edit.BugEdit.{BugEdit}
-use Rattle.bug_edits.specs.declared.edit.BugEdit.TheVariants.{AddLabels, Comment as Commented, Metadata, Noop, RemoveLabels, Status, Title as Titled}
-use Rattle.bug_ops.specs.declared.op.BugStatus.TheVariants.{Closed, Opened}
 use Rattle.words.specs.declared.edit.Edit.TheVariants.{New, OfBug, UserEdit, UserNew, UserSet}
 use Rattle.words.specs.Verbs.{verb_of}
 use Rattle.words.specs.declared.verb.Verb.{Verb}
@@ -16,29 +16,6 @@ use Rattle.words.specs.declared.words.Asked.TheVariants as asked
 use Rattle.words.specs.declared.words.BadWord.TheVariants.{BadFolder, BadText}
 use Rattle.words.specs.declared.words.Command.{Command}
 use Rattle.words.specs.declared.words.Command.TheVariants.{Edit, Log, Show, Users}
-
--- ---- arguments
-
--- an argument at a place, counted from 1, if it is one of its type; or the place
-abbrev pub at : {A : Type 0} → ℕ → Option A → Result A ℕ
-at place (Some argument) = Ok argument
-at place None = Err place
-
--- what is made of an argument, or the place of one that breaks its rule
-abbrev pub made : {A B : Type 0} → Result A ℕ → (A → B) → Result B ℕ
-made (Ok argument) make = Ok (make argument)
-made (Err place) make = Err place
-
--- of two arguments; the first that breaks its rule counts
-abbrev pub made_of_two : {A B C : Type 0} → Result A ℕ → Result B ℕ → (A → B → C) → Result C ℕ
-made_of_two (Ok one) (Ok two) make = Ok (make one two)
-made_of_two (Ok one) (Err place) make = Err place
-made_of_two (Err place) two make = Err place
-
--- titles, where the first of them is at this place
-abbrev pub titles_from : ℕ → List (List ℕ) → Result (List Title) ℕ
-titles_from place [] = Ok []
-titles_from place (text ∷ texts) = made_of_two (at place (title_of text)) (titles_from (place + 1) texts) (λ title titles. title ∷ titles)
 
 -- ---- commands
 
@@ -54,13 +31,10 @@ person one two = made_of_two (at 1 (title_of one)) (at 2 (line_of two)) (λ name
 abbrev pub new_bug : List ℕ → List ℕ → Result Command ℕ
 new_bug one two = made_of_two (at 1 (title_of one)) (at 2 (message_of two)) (λ title message. Edit (New title message))
 
--- a value under a key of a bug
-abbrev pub metadata : List ℕ → List ℕ → List ℕ → Result Command ℕ
-metadata bug two three = made_of_two (at 2 (title_of two)) (at 3 (message_of three)) (λ key value. of_bug bug (Metadata key value))
-
--- labels of a bug, of which there is one or more
-abbrev pub labels_of : (List Title → BugEdit) → List ℕ → List (List ℕ) → Result Command ℕ
-labels_of make bug labels = made (titles_from 2 labels) (λ titles. of_bug bug (make titles))
+-- what is read of an edit of the bug that an argument finds
+abbrev pub edit_of_bug : List ℕ → Option (Result BugEdit ℕ) → Option (Result Command ℕ)
+edit_of_bug bug None = None
+edit_of_bug bug (Some read) = Some (made read (of_bug bug))
 
 -- This command with these arguments, or the place of the first that breaks its rule; none where they are not those that it takes.
 abbrev pub by_verb : Verb → List (List ℕ) → Option (Result Command ℕ)
@@ -69,14 +43,7 @@ by_verb verb.UserEdit (one ∷ two ∷ []) = Some (made (person one two) (λ p. 
 by_verb verb.UserSet (one ∷ []) = Some (Ok (Edit (UserSet one)))
 by_verb verb.Users [] = Some (Ok Users)
 by_verb verb.New (one ∷ two ∷ []) = Some (new_bug one two)
-by_verb verb.Comment (bug ∷ two ∷ []) = Some (made (at 2 (message_of two)) (λ message. of_bug bug (Commented message)))
-by_verb verb.Title (bug ∷ two ∷ []) = Some (made (at 2 (title_of two)) (λ title. of_bug bug (Titled title)))
-by_verb verb.Close (bug ∷ []) = Some (Ok (of_bug bug (Status Closed)))
-by_verb verb.Open (bug ∷ []) = Some (Ok (of_bug bug (Status Opened)))
-by_verb verb.LabelAdd (bug ∷ label ∷ labels) = Some (labels_of AddLabels bug (label ∷ labels))
-by_verb verb.LabelRm (bug ∷ label ∷ labels) = Some (labels_of RemoveLabels bug (label ∷ labels))
-by_verb verb.Meta (bug ∷ two ∷ three ∷ []) = Some (metadata bug two three)
-by_verb verb.Noop (bug ∷ []) = Some (Ok (of_bug bug Noop))
+by_verb (verb.OfBug edit) (bug ∷ words) = edit_of_bug bug (edit_from edit words)
 by_verb verb.Show (bug ∷ []) = Some (Ok (Show bug))
 by_verb verb.Log (bug ∷ []) = Some (Ok (Log bug))
 by_verb _ _ = None

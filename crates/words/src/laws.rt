@@ -5,11 +5,13 @@ ghost use Rattle.gb_text.specs.declared.ruled.Line.{Line as LineValue};
 ghost use Rattle.gb_text.specs.declared.ruled.Message.{Message as MessageValue};
 ghost use Rattle.gb_text.specs.declared.ruled.Title.{Title as TitleValue};
 ghost use Rattle.bug_ops.specs.declared.op.BugStatus.TheVariants.{Closed, Opened};
-ghost use Rattle.bug_edits.specs.EditTable.{row_of};
+ghost use Rattle.bug_edits.specs.EditTable.{name_of as name_of_edit, row_of};
+ghost use Rattle.bug_edits.specs.EditWords.{IsFirstBad, all_keep, is_message_word, is_title_word};
+ghost use Rattle.bug_edits.specs.Given.{HasTitles, given_texts};
 ghost use Rattle.bug_edits.specs.declared.edit.BugEdit.{BugEdit as BugEditValue};
 ghost use Rattle.bug_edits.specs.declared.edit.BugEdit.TheVariants as bug_edit;
 ghost use Rattle.words.specs.Verbs.{name_of, verb_of};
-ghost use Rattle.words.specs.WordRules.{IsCounted, IsFirstBad, IsRead, NamesItsLabels, all_keep, is_message_word, is_title_word, text_of, words_keep};
+ghost use Rattle.words.specs.WordRules.{IsCounted, IsRead, words_keep};
 ghost use Rattle.words.specs.Words.{asked_of, command_of, of_bug};
 ghost use Rattle.words.specs.declared.edit.Edit.TheVariants as edits;
 ghost use Rattle.words.specs.declared.verb.Verb.{Verb as VerbValue};
@@ -57,8 +59,8 @@ pub fn commands_ask_for_what_they_name()
 
 /// What each edit of a bug asks for: the first argument finds the bug.
 pub fn edits_of_bugs_ask_for_what_they_name()
-    ensures each { (bug : List ℕ) (edit : BugEditValue) → NamesItsLabels edit
-        → command_of (row_of edit).name (bug ∷ map text_of (row_of edit).words)
+    ensures each { (bug : List ℕ) (edit : BugEditValue) → HasTitles (row_of edit).words
+        → command_of (name_of_edit (row_of edit).name) (bug ∷ given_texts (row_of edit).words)
         ≡ Some (Ok (of_bug bug edit)) }
     ensures noop { (bug : List ℕ) → command_of (codes "noop") (bug ∷ [])
         ≡ Some (Ok (of_bug bug bug_edit.Noop)) }

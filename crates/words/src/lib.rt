@@ -3,6 +3,7 @@
 
 mod edit;
 mod laws;
+mod pair;
 mod verb;
 mod words;
 
@@ -12,5 +13,6 @@ pub use laws::{
     first_bad_words_are_told, names_are_those_of_verbs, only_these_are_commands,
     requests_are_read_in_order,
 };
-pub use verb::{VERBS, Verb};
+pub use pair::FolderPair;
+pub use verb::{FIRST_VERBS, LAST_VERBS, Verb};
 pub use words::{Asked, BadWord, Command, Request, read_words};

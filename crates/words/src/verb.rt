@@ -1,7 +1,9 @@
 //! The names of commands, each with the arguments that it takes: the table by which arguments are
 //! read, and by which people are told of them.
 ghost use Rattle.std.specs.Prelude.{◌≡◌};
-ghost use Rattle.words.specs.Verbs.{name_of, verb_of};
+ghost use Rattle.words.specs.Verbs.{name_of, other_of, verb_among, verb_of};
+
+use bug_edits::EditName;
 
 /// A command by its name.
 #[derive(Clone, Copy, Debug, PartialEq, Eq)]
@@ -11,43 +13,36 @@ pub enum Verb {
     UserSet,
     Users,
     New,
-    Comment,
-    Title,
-    Close,
-    Open,
-    LabelAdd,
-    LabelRm,
-    Meta,
-    Noop,
+    /// An edit of a bug.
+    OfBug(EditName),
     Show,
     Log,
 }
 
-/// All commands, in the order in which people are told of them.
-pub const VERBS: [Verb; 15] = [
+/// The commands of which people are told before the edits of a bug, in this order.
+pub const FIRST_VERBS: [Verb; 5] = [
     Verb::UserNew,
     Verb::UserEdit,
     Verb::UserSet,
     Verb::Users,
     Verb::New,
-    Verb::Comment,
-    Verb::Title,
-    Verb::Close,
-    Verb::Open,
-    Verb::LabelAdd,
-    Verb::LabelRm,
-    Verb::Meta,
-    Verb::Noop,
-    Verb::Show,
-    Verb::Log,
 ];
+
+/// The commands of which people are told after the edits of a bug, in this order.
+pub const LAST_VERBS: [Verb; 2] = [Verb::Show, Verb::Log];
 
 impl Verb {
     /// The command of this name, if there is one.
     pub fn read(name: &str) -> Option<Verb>
         ensures { result ≡ verb_of name.now }
     {
-        VERBS.iter().find(|verb| verb.name() == name).copied()
+        match other(name) {
+            Some(verb) => Some(verb),
+            None => match EditName::read(name) {
+                Some(edit) => Some(Verb::OfBug(edit)),
+                None => None,
+            },
+        }
     }
 
     /// Its name.
@@ -60,14 +55,7 @@ impl Verb {
             Verb::UserSet => "user-set",
             Verb::Users => "users",
             Verb::New => "new",
-            Verb::Comment => "comment",
-            Verb::Title => "title",
-            Verb::Close => "close",
-            Verb::Open => "open",
-            Verb::LabelAdd => "label-add",
-            Verb::LabelRm => "label-rm",
-            Verb::Meta => "meta",
-            Verb::Noop => "noop",
+            Verb::OfBug(edit) => edit.name(),
             Verb::Show => "show",
             Verb::Log => "log",
         }
@@ -80,11 +68,25 @@ impl Verb {
             Verb::UserNew | Verb::UserEdit => "NAME EMAIL",
             Verb::Users => "",
             Verb::New => "TITLE MESSAGE",
-            Verb::Comment => "ID MESSAGE",
-            Verb::Title => "ID TITLE",
-            Verb::LabelAdd | Verb::LabelRm => "ID LABEL..",
-            Verb::Meta => "ID KEY VALUE",
-            Verb::UserSet | Verb::Close | Verb::Open | Verb::Noop | Verb::Show | Verb::Log => "ID",
+            Verb::OfBug(edit) => edit.takes(),
+            Verb::UserSet | Verb::Show | Verb::Log => "ID",
         }
     }
+}
+
+// The command of this name that is no edit of a bug.
+fn other(name: &str) -> Option<Verb>
+    ensures { result ≡ other_of name.now }
+{
+    match among(&FIRST_VERBS, name) {
+        Some(verb) => Some(verb),
+        None => among(&LAST_VERBS, name),
+    }
+}
+
+// The one of these that has the name.
+fn among(verbs: &[Verb], name: &str) -> Option<Verb>
+    ensures { result ≡ verb_among verbs.now name.now }
+{
+    verbs.iter().find(|verb| verb.name() == name).copied()
 }

@@ -1,15 +1,12 @@
 //! What arguments ask, each read into its type.
-ghost use Rattle.std.specs.Prelude.{◌≡◌, ◌∷◌, IfOk, OnErr, IsSome, map, string_bytes};
-ghost use Rattle.gb_text.specs.Ruled.{message_of, title_of};
-ghost use Rattle.bug_edits.specs.declared.edit.BugEdit.TheVariants as kind;
-ghost use Rattle.words.specs.Words.{IsCommand, asked_of, at, by_verb, command_of, made, metadata, new_bug, of_bug, person, titles_from};
+ghost use Rattle.std.specs.Prelude.{◌≡◌, IfOk, OnErr, IsSome, map, string_bytes};
+ghost use Rattle.words.specs.Words.{IsCommand, asked_of, by_verb, command_of, new_bug, of_bug, person};
 ghost use Rattle.words.specs.declared.verb.Verb.TheVariants as verb;
 
 use crate::edit::Edit;
 use crate::verb::Verb;
-use bug_edits::BugEdit;
-use bug_ops::BugStatus;
-use gb_text::{Folder, FolderFault, Line, List, Memory, Message, Text, Title};
+use bug_edits::{BugEdit, EditName, read_edit};
+use gb_text::{Folder, FolderFault, Line, Memory, Message, Text, Title};
 use std::alloc::Global;
 
 /// A command, with its arguments.
@@ -103,14 +100,7 @@ fn by_verb(alloc: Global, verb: Verb, arguments: &[String]) -> Reading
         Verb::UserSet => user_set(alloc, arguments),
         Verb::Users => Ok(users(arguments)),
         Verb::New => new(alloc, arguments),
-        Verb::Comment => comment(alloc, arguments),
-        Verb::Title => title(alloc, arguments),
-        Verb::Close => close(alloc, arguments),
-        Verb::Open => open(alloc, arguments),
-        Verb::LabelAdd => label_add(alloc, arguments),
-        Verb::LabelRm => label_rm(alloc, arguments),
-        Verb::Meta => meta(alloc, arguments),
-        Verb::Noop => noop(alloc, arguments),
+        Verb::OfBug(name) => edit(alloc, name, arguments),
         Verb::Show => show(alloc, arguments),
         Verb::Log => log(alloc, arguments),
     }
@@ -181,112 +171,21 @@ fn new(alloc: Global, arguments: &[String]) -> Reading
     Ok(Some(new_bug(alloc, title.as_str(), message.as_str())?))
 }
 
-// A comment of a bug.
-fn comment(alloc: Global, arguments: &[String]) -> Reading
+// An edit of the bug that the first argument finds.
+fn edit(alloc: Global, name: EditName, arguments: &[String]) -> Reading
     ensures read { IfOk result (λ read. read
-        ≡ by_verb verb.Comment (map string_bytes arguments.now)) }
-    ensures memory { OnErr result (IsSome (by_verb verb.Comment (map string_bytes arguments.now))) }
-{
-    let [bug, message] = arguments else {
-        return Ok(None);
-    };
-    match Message::read(alloc, message.as_str())? {
-        Some(message) => Ok(Some(Ok(of_bug(alloc, bug, BugEdit::Comment { message })?))),
-        None => Ok(Some(Err(2))),
-    }
-}
-
-// Another title of a bug.
-fn title(alloc: Global, arguments: &[String]) -> Reading
-    ensures read { IfOk result (λ read. read
-        ≡ by_verb verb.Title (map string_bytes arguments.now)) }
-    ensures memory { OnErr result (IsSome (by_verb verb.Title (map string_bytes arguments.now))) }
-{
-    let [bug, title] = arguments else {
-        return Ok(None);
-    };
-    match Title::read(alloc, title.as_str())? {
-        Some(title) => Ok(Some(Ok(of_bug(alloc, bug, BugEdit::Title { title })?))),
-        None => Ok(Some(Err(2))),
-    }
-}
-
-// A bug is closed.
-fn close(alloc: Global, arguments: &[String]) -> Reading
-    ensures read { IfOk result (λ read. read
-        ≡ by_verb verb.Close (map string_bytes arguments.now)) }
-    ensures memory { OnErr result (IsSome (by_verb verb.Close (map string_bytes arguments.now))) }
-{
-    let [bug] = arguments else {
-        return Ok(None);
-    };
-    let status = BugStatus::Closed;
-    Ok(Some(Ok(of_bug(alloc, bug, BugEdit::Status { status })?)))
-}
-
-// A bug is opened.
-fn open(alloc: Global, arguments: &[String]) -> Reading
-    ensures read { IfOk result (λ read. read ≡ by_verb verb.Open (map string_bytes arguments.now)) }
-    ensures memory { OnErr result (IsSome (by_verb verb.Open (map string_bytes arguments.now))) }
-{
-    let [bug] = arguments else {
-        return Ok(None);
-    };
-    let status = BugStatus::Opened;
-    Ok(Some(Ok(of_bug(alloc, bug, BugEdit::Status { status })?)))
-}
-
-// Labels that are put on.
-fn label_add(alloc: Global, arguments: &[String]) -> Reading
-    ensures read { IfOk result (λ read. read
-        ≡ by_verb verb.LabelAdd (map string_bytes arguments.now)) }
+        ≡ by_verb (verb.OfBug name) (map string_bytes arguments.now)) }
     ensures memory { OnErr result
-        (IsSome (by_verb verb.LabelAdd (map string_bytes arguments.now))) }
+        (IsSome (by_verb (verb.OfBug name) (map string_bytes arguments.now))) }
 {
-    let [bug, label, labels @ ..] = arguments else {
+    let [bug, arguments @ ..] = arguments else {
         return Ok(None);
     };
-    match titles_from(alloc, label, labels)? {
-        Ok(labels) => Ok(Some(Ok(of_bug(alloc, bug, BugEdit::AddLabels { labels })?))),
-        Err(place) => Ok(Some(Err(place))),
+    match read_edit(alloc, name, arguments)? {
+        Some(Ok(edit)) => Ok(Some(Ok(of_bug(alloc, bug, edit)?))),
+        Some(Err(place)) => Ok(Some(Err(place))),
+        None => Ok(None),
     }
-}
-
-// Labels that are taken off.
-fn label_rm(alloc: Global, arguments: &[String]) -> Reading
-    ensures read { IfOk result (λ read. read
-        ≡ by_verb verb.LabelRm (map string_bytes arguments.now)) }
-    ensures memory { OnErr result (IsSome (by_verb verb.LabelRm (map string_bytes arguments.now))) }
-{
-    let [bug, label, labels @ ..] = arguments else {
-        return Ok(None);
-    };
-    match titles_from(alloc, label, labels)? {
-        Ok(labels) => Ok(Some(Ok(of_bug(alloc, bug, BugEdit::RemoveLabels { labels })?))),
-        Err(place) => Ok(Some(Err(place))),
-    }
-}
-
-// A value under a key of a bug.
-fn meta(alloc: Global, arguments: &[String]) -> Reading
-    ensures read { IfOk result (λ read. read ≡ by_verb verb.Meta (map string_bytes arguments.now)) }
-    ensures memory { OnErr result (IsSome (by_verb verb.Meta (map string_bytes arguments.now))) }
-{
-    let [bug, key, value] = arguments else {
-        return Ok(None);
-    };
-    Ok(Some(metadata(alloc, bug, key.as_str(), value.as_str())?))
-}
-
-// An operation that changes nothing of a bug.
-fn noop(alloc: Global, arguments: &[String]) -> Reading
-    ensures read { IfOk result (λ read. read ≡ by_verb verb.Noop (map string_bytes arguments.now)) }
-    ensures memory { OnErr result (IsSome (by_verb verb.Noop (map string_bytes arguments.now))) }
-{
-    let [bug] = arguments else {
-        return Ok(None);
-    };
-    Ok(Some(Ok(of_bug(alloc, bug, BugEdit::Noop)?)))
 }
 
 // A bug as text.
@@ -347,45 +246,4 @@ fn new_bug(alloc: Global, title: &str, message: &str) -> Result<Result<Command, 
         (None, _) => Err(1),
         (_, None) => Err(2),
     })
-}
-
-// A value under a key of a bug.
-fn metadata(
-    alloc: Global,
-    bug: &String,
-    key: &str,
-    value: &str,
-) -> Result<Result<Command, u64>, Memory>
-    ensures { IfOk result (λ read. read ≡ metadata (string_bytes bug.now) key.now value.now) }
-{
-    let key = Title::read(alloc, key)?;
-    let value = Message::read(alloc, value)?;
-    Ok(match (key, value) {
-        (Some(key), Some(value)) => Ok(of_bug(alloc, bug, BugEdit::Metadata { key, value })?),
-        (None, _) => Err(2),
-        (_, None) => Err(3),
-    })
-}
-
-// Titles, of which the first is the second argument; or the place of the first that is none.
-fn titles_from(
-    alloc: Global,
-    first: &String,
-    words: &[String],
-) -> Result<Result<List<Title>, u64>, Memory>
-    ensures { IfOk result (λ read. read
-        ≡ titles_from 2 (string_bytes first.now ∷ map string_bytes words.now)) }
-{
-    let mut titles = Vec::new(alloc);
-    let Some(title) = Title::read(alloc, first.as_str())? else {
-        return Ok(Err(2));
-    };
-    titles.push(title)?;
-    for (index, word) in words.iter().enumerate() {
-        let Some(title) = Title::read(alloc, word.as_str())? else {
-            return Ok(Err(index as u64 + 3));
-        };
-        titles.push(title)?;
-    }
-    Ok(Ok(List::from_vec(titles)))
 }

@@ -3,7 +3,8 @@ use Rattle.bug_ops.specs.Kind.{bug_kind}
 use Rattle.bug_ops.specs.declared.op.BugOp.{BugOp}
 use Rattle.bug_ops.specs.declared.op.BugOp.TheVariants.{SetMetadata}
 use Rattle.bug_edits.specs.NewOps.{metadata_op, new_common}
-use Rattle.bug_edits.proofs.RuleLemmas.{is_within, metadata_rules}
+use Rattle.bug_edits.proofs.RowLemmas.{metadata_rules}
+use Rattle.bug_edits.proofs.RuleLemmas.{is_within}
 use Rattle.bug_edits.proofs.operation.metadata_op.Goals as goal
 
 pub invariant_of-result : goal.invariant_of-result

@@ -1,7 +1,7 @@
 use Rattle.std.proofs.Common.{◌∙◌, ap, Some, string_bytes}
 use Rattle.words.specs.Words.{by_verb}
 use Rattle.words.specs.declared.verb.Verb.TheVariants as verb
-use Rattle.words.proofs.ArgumentLemmas.{are_two, made_of_two}
+use Rattle.bug_edits.proofs.ArgumentLemmas.{are_two, made_of_two}
 use Rattle.words.proofs.words.new.Goals as goal
 
 pub returns-clause-read : goal.returns-clause-read

@@ -1,9 +1,10 @@
 use Rattle.std.proofs.Common.{◌∙◌, sym, ap, Some, string_bytes}
-use Rattle.words.specs.Words.{by_verb, made}
+use Rattle.bug_edits.specs.Given.{made}
+use Rattle.words.specs.Words.{by_verb}
 use Rattle.words.specs.declared.edit.Edit.TheVariants.{UserNew}
 use Rattle.words.specs.declared.verb.Verb.TheVariants as verb
 use Rattle.words.specs.declared.words.Command.TheVariants.{Edit}
-use Rattle.words.proofs.ArgumentLemmas.{are_two, made_of_two}
+use Rattle.bug_edits.proofs.ArgumentLemmas.{are_two, made_of_two}
 use Rattle.words.proofs.words.user_new.Goals as goal
 
 pub returns-in-Ok-clause-read : goal.returns-in-Ok-clause-read
