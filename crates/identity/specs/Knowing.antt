@@ -1,5 +1,5 @@
 -- What is known of versions that were judged: of the trees that name them, and of the objects that they are.
-use Rattle.std.specs.Prelude.{◌≡◌, ◌+◌, Bool, false, not, IsTrue, List, ℕ, Contains, Some, Result, Ok, Err}
+use Rattle.std.specs.Prelude.{◌≡◌, ◌≤◌, ◌+◌, Bool, false, not, IsTrue, List, ℕ, Contains, length, Some, Result, Ok, Err}
 use Rattle.std.specs.List.{All, AllByRecursion, count_by}
 use Rattle.std.specs.BTreeSet.{BTreeSet, contains}
 use Rattle.std.specs.declared.cmp.Ordering.{Ordering}
@@ -8,11 +8,13 @@ use Rattle.std.specs.Ordering.{nat_cmp}
 use Rattle.gb_text.specs.declared.id.Name.{Name}
 use Rattle.object_store.specs.Held.{Objects}
 use Rattle.object_store.specs.Typed.{blob_at}
+use Rattle.commit_walk.specs.Chain.{Walked}
 use Rattle.commit_walk.specs.declared.chain.Link.{Link}
-use Rattle.identity.specs.Answers.{NoVersion, OneRefused}
+use Rattle.identity.specs.Answers.{IsJudged, NoVersion, OneRefused}
 use Rattle.identity.specs.Commits.{NamesVersion, text_in}
 use Rattle.identity.specs.Faults.{Refused}
 use Rattle.identity.specs.Version.{version_of}
+use Rattle.identity.specs.declared.commit.Judged.{Judged}
 use Rattle.identity.specs.declared.known.Known.{Known}
 use Rattle.identity.specs.declared.version.Version.{Version}
 use Rattle.identity.specs.declared.fault.IdentityFault.{IdentityFault}
@@ -67,6 +69,40 @@ pub record IsFrom (objects : Objects) (trees versions : List Name) (link : Link)
 -- so it is with each of these commits
 abbrev pub AreFrom : Objects → List Name → List Name → List Link → Type 0
 AreFrom objects trees versions links = (link : Link) → Contains links link → IsFrom objects trees versions link
+
+-- ---- how many objects are read, before and after
+
+-- of these commits: at most one object for each of their trees and of their versions, however many commits share it
+abbrev pub ReadsDistinct : Objects → List Link → ℕ → ℕ → Type 0
+ReadsDistinct objects links before after = (trees versions : List Name) → AreFrom objects trees versions links
+    → after ≤ before + (length trees + length versions)
+
+-- the same behind a version that was judged, whose tree and object were read before
+abbrev pub ReadsLater : Objects → Judged → List Link → ℕ → ℕ → Type 0
+ReadsLater objects first links before after = (trees versions : List Name) → IsJudged objects first
+    → Contains trees first.tree → Contains versions first.object → AreFrom objects trees versions links
+    → after + 2 ≤ before + (length trees + length versions)
+
+-- of the whole walk from a head: at most one object for each commit, too
+abbrev pub ReadsWalk : Objects → Name → ℕ → ℕ → Type 0
+ReadsWalk objects head before after = (walk : List Link) (trees versions : List Name) → Walked objects head walk
+    → AreFrom objects trees versions walk → after ≤ before + (length walk + length trees + length versions)
+
+-- of these trees and versions: no more than are known now and were not before
+abbrev pub ReadsNew : List Name → List Name → Known → Known → ℕ → ℕ → Type 0
+ReadsNew trees versions old new before after = after + unread trees versions new ≤ before + unread trees versions old
+
+-- so it is with a commit
+abbrev pub LearnsOne : Objects → Link → Known → Known → ℕ → ℕ → Type 0
+LearnsOne objects link old new before after = (trees versions : List Name) → IsFrom objects trees versions link
+    → ReadsNew trees versions old new before after
+
+-- and with these commits
+abbrev pub LearnsEach : Objects → List Link → Known → Known → ℕ → ℕ → Type 0
+LearnsEach objects links old new before after = (trees versions : List Name) → AreFrom objects trees versions links
+    → ReadsNew trees versions old new before after
+
+-- ---- answers
 
 -- each of these commits has a version
 abbrev pub EachHas : Objects → List Link → Type 0

@@ -89,7 +89,7 @@ PlanAnswers version parent now (Err _) = ⊥
 abbrev pub after_version : List ℕ → List ℕ → Option Name → ℕ → History → History
 after_version folder version parent now old = reverse (missing_writes folder (version_objects version parent now) (files_of old)) ++ old
 
--- the answer is that of a put of the objects
-abbrev pub MakingAnswers : List ℕ → List (List ℕ) → History → History → Result Made PutFault → Type 0
-MakingAnswers folder objects old new (Ok made) = BatchAnswers folder objects old new (Ok tt)
-MakingAnswers folder objects old new (Err e) = BatchAnswers folder objects old new (Err e)
+-- the answer is that of a put of the objects of a version's text
+abbrev pub MakingAnswers : List ℕ → List ℕ → Option Name → ℕ → History → History → Result Made PutFault → Type 0
+MakingAnswers folder version parent now old new (Ok made) = BatchAnswers folder (version_objects version parent now) old new (Ok tt)
+MakingAnswers folder version parent now old new (Err e) = BatchAnswers folder (version_objects version parent now) old new (Err e)

@@ -7,6 +7,8 @@ use Rattle.json.specs.Print.{quoted}
 use Rattle.gb_text.specs.Decimal.{decimal_of}
 use Rattle.gb_text.specs.Rules.{is_line_text, is_title_text}
 use Rattle.gb_text.specs.declared.id.Id.{Id}
+use Rattle.gb_text.specs.declared.ruled.Line.{Line}
+use Rattle.gb_text.specs.declared.ruled.Title.{Title}
 use Rattle.json_span.specs.Parts.{elements_of}
 use Rattle.op_kind.specs.Common.{time_at, nonce_of}
 use Rattle.op_kind.specs.Members.{Fields, text_at, fields_at, values_of, only_value, value_or}
@@ -138,3 +140,11 @@ pub record MayBeWritten (name email nonce : List ℕ) (time : ℕ) : Type 0 wher
 -- the version that is written: no login, no picture, no keys
 abbrev pub written_version : List ℕ → List ℕ → List ℕ → ℕ → Version
 written_version name email nonce time = record { name = name; email = email; login = []; avatar_url = []; time = time; nonce = nonce; has_keys = false }
+
+-- the text of a version with this name and email
+abbrev pub text_with : Title → Line → List ℕ → ℕ → List ℕ
+text_with name email nonce time = version_text_of name.text email.text nonce time
+
+-- the version that it reads as
+abbrev pub version_with : Title → Line → List ℕ → ℕ → Version
+version_with name email nonce time = written_version name.text email.text nonce time

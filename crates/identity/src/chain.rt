@@ -1,6 +1,5 @@
 //! Persons, by the chains of their versions.
-ghost use Rattle.std.specs.Prelude.{◌≡◌, ◌≤◌, ◌+◌, ◌*◌, IsTrue, IfOk, IsErrOf, OnOk, List, Contains, length};
-ghost use Rattle.gb_text.specs.declared.id.Name.{Name as NameValue};
+ghost use Rattle.std.specs.Prelude.{◌≡◌, ◌≤◌, ◌+◌, ◌*◌, IsTrue, IfOk, IsErrOf, OnOk, List, length};
 ghost use Rattle.gb_store.specs.Faults.{KeepsFaults};
 ghost use Rattle.object_store.specs.Held.{objects_after};
 ghost use Rattle.commit_walk.specs.Chain.{Walked};
@@ -8,7 +7,7 @@ ghost use Rattle.commit_walk.specs.declared.chain.Link.{Link as LinkValue};
 ghost use Rattle.commit_walk.specs.declared.below.TheConstants.{MOST_COMMITS};
 ghost use Rattle.identity.specs.Version.{person_name};
 ghost use Rattle.identity.specs.Answers.{ChainAnswers, CheckAnswers, CountAnswers, IsJudged, LastAnswers, LaterAnswers, WholeAnswers};
-ghost use Rattle.identity.specs.Knowing.{AreFrom};
+ghost use Rattle.identity.specs.Knowing.{ReadsDistinct, ReadsLater, ReadsWalk};
 
 use crate::commit::{Judged, first_version, next_version, version_of};
 use crate::fault::IdentityFault;
@@ -47,11 +46,8 @@ pub fn read_chain<S: Store>(
         → Walked (objects_after (S.history disk.old) folder.now) head.now walk
         → S.object_reads disk.new ≤ S.object_reads disk.old + 3 * length walk) }
     ensures distinct { IsTrue S.tells
-        → OnOk result ((walk : List LinkValue) (trees versions : List NameValue)
-        → Walked (objects_after (S.history disk.old) folder.now) head.now walk
-        → AreFrom (objects_after (S.history disk.old) folder.now) trees versions walk
-        → S.object_reads disk.new
-        ≤ S.object_reads disk.old + (length walk + length trees + length versions)) }
+        → OnOk result (ReadsWalk (objects_after (S.history disk.old) folder.now) head.now
+        (S.object_reads disk.old) (S.object_reads disk.new)) }
     ensures caused { KeepsFaults S.never_fails S.faults (IsErrOf result IdentityFault.Disk)
         disk.old disk.new }
 {
@@ -74,11 +70,8 @@ pub fn versions<S: Store>(
     ensures once { IfOk result
         (λ count. S.object_reads disk.new ≤ S.object_reads disk.old + 3 * count) }
     ensures distinct { IsTrue S.tells
-        → OnOk result ((walk : List LinkValue) (trees versions : List NameValue)
-        → Walked (objects_after (S.history disk.old) folder.now) head.now walk
-        → AreFrom (objects_after (S.history disk.old) folder.now) trees versions walk
-        → S.object_reads disk.new
-        ≤ S.object_reads disk.old + (length walk + length trees + length versions)) }
+        → OnOk result (ReadsWalk (objects_after (S.history disk.old) folder.now) head.now
+        (S.object_reads disk.old) (S.object_reads disk.new)) }
     ensures caused { KeepsFaults S.never_fails S.faults (IsErrOf result IdentityFault.Disk)
         disk.old disk.new }
 {
@@ -141,11 +134,8 @@ fn read_whole<S: Store>(
     ensures once { IfOk result
         (λ whole. S.object_reads disk.new ≤ S.object_reads disk.old + 3 * whole.0) }
     ensures distinct { IsTrue S.tells
-        → OnOk result ((walk : List LinkValue) (trees versions : List NameValue)
-        → Walked (objects_after (S.history disk.old) folder.now) head.now walk
-        → AreFrom (objects_after (S.history disk.old) folder.now) trees versions walk
-        → S.object_reads disk.new
-        ≤ S.object_reads disk.old + (length walk + length trees + length versions)) }
+        → OnOk result (ReadsWalk (objects_after (S.history disk.old) folder.now) head.now
+        (S.object_reads disk.old) (S.object_reads disk.new)) }
     ensures caused { KeepsFaults S.never_fails S.faults (IsErrOf result IdentityFault.Disk)
         disk.old disk.new }
 {
@@ -169,10 +159,9 @@ fn check_versions<S: Store>(
         → CheckAnswers (objects_after (S.history disk.old) folder.now) id.now walk.now result }
     ensures unwritten { IsTrue S.tells → S.history disk.new ≡ S.history disk.old }
     ensures reads { S.object_reads disk.new ≤ S.object_reads disk.old + 2 * length walk.now }
-    ensures distinct { (trees versions : List NameValue) → IsTrue S.tells
-        → AreFrom (objects_after (S.history disk.old) folder.now) trees versions walk.now
-        → OnOk result (S.object_reads disk.new
-        ≤ S.object_reads disk.old + (length trees + length versions)) }
+    ensures distinct { IsTrue S.tells
+        → OnOk result (ReadsDistinct (objects_after (S.history disk.old) folder.now) walk.now
+        (S.object_reads disk.old) (S.object_reads disk.new)) }
     ensures caused { KeepsFaults S.never_fails S.faults (IsErrOf result IdentityFault.Disk)
         disk.old disk.new }
 {
@@ -198,12 +187,9 @@ fn last_version<S: Store>(
         later.now result }
     ensures unwritten { IsTrue S.tells → S.history disk.new ≡ S.history disk.old }
     ensures reads { S.object_reads disk.new ≤ S.object_reads disk.old + 2 * length later.now }
-    ensures distinct { (trees versions : List NameValue) → IsTrue S.tells
-        → IsJudged (objects_after (S.history disk.old) folder.now) first
-        → Contains trees first.tree → Contains versions first.object
-        → AreFrom (objects_after (S.history disk.old) folder.now) trees versions later.now
-        → OnOk result (S.object_reads disk.new + 2
-        ≤ S.object_reads disk.old + (length trees + length versions)) }
+    ensures distinct { IsTrue S.tells
+        → OnOk result (ReadsLater (objects_after (S.history disk.old) folder.now) first later.now
+        (S.object_reads disk.old) (S.object_reads disk.new)) }
     ensures caused { KeepsFaults S.never_fails S.faults (IsErrOf result IdentityFault.Disk)
         disk.old disk.new }
 {

@@ -1,11 +1,11 @@
 //! Which versions of a chain were judged already.
-ghost use Rattle.std.specs.Prelude.{◌≡◌, ◌≤◌, ◌+◌, ◌*◌, true, List, IsTrue, IsErrOf, OnOk, length};
+ghost use Rattle.std.specs.Prelude.{◌≡◌, ◌≤◌, ◌+◌, ◌*◌, true, IsTrue, IsErrOf, OnOk, length};
 ghost use Rattle.std.specs.BTreeSet.{contains, IsEmpty, Updates};
 ghost use Rattle.gb_text.specs.declared.id.Name.{Name as NameValue};
 ghost use Rattle.gb_store.specs.Faults.{KeepsFaults};
 ghost use Rattle.object_store.specs.Held.{Objects, objects_after};
 ghost use Rattle.identity.specs.Commits.{NamesVersion};
-ghost use Rattle.identity.specs.Knowing.{AreFrom, AreKnown, EachAnswers, IsFrom, IsVersion, KnowingAnswers, ObjectAnswers, StaysKnown, unread};
+ghost use Rattle.identity.specs.Knowing.{AreKnown, EachAnswers, IsVersion, KnowingAnswers, LearnsEach, LearnsOne, ObjectAnswers, StaysKnown};
 
 use crate::commit::{judge, version_name};
 use crate::fault::IdentityFault;
@@ -75,10 +75,9 @@ impl Known {
         ensures known { OnOk result
             (IsTrue (contains ⟦<Name as Ord>⟧.cmp self.new.trees link.now.tree)) }
         ensures kept { OnOk result (StaysKnown self.old self.new) }
-        ensures once { (trees versions : List NameValue) → IsTrue S.tells
-            → IsFrom (objects_after (S.history disk.old) folder.now) trees versions link.now
-            → OnOk result (S.object_reads disk.new + unread trees versions self.new
-            ≤ S.object_reads disk.old + unread trees versions self.old) }
+        ensures once { IsTrue S.tells
+            → OnOk result (LearnsOne (objects_after (S.history disk.old) folder.now) link.now
+            self.old self.new (S.object_reads disk.old) (S.object_reads disk.new)) }
         ensures caused { KeepsFaults S.never_fails S.faults (IsErrOf result IdentityFault.Disk)
             disk.old disk.new }
     {
@@ -132,10 +131,9 @@ impl Known {
             → EachAnswers (objects_after (S.history disk.old) folder.now) links.now result }
         ensures unwritten { IsTrue S.tells → S.history disk.new ≡ S.history disk.old }
         ensures reads { S.object_reads disk.new ≤ S.object_reads disk.old + 2 * length links.now }
-        ensures once { (trees versions : List NameValue) → IsTrue S.tells
-            → AreFrom (objects_after (S.history disk.old) folder.now) trees versions links.now
-            → OnOk result (S.object_reads disk.new + unread trees versions self.new
-            ≤ S.object_reads disk.old + unread trees versions self.old) }
+        ensures once { IsTrue S.tells
+            → OnOk result (LearnsEach (objects_after (S.history disk.old) folder.now) links.now
+            self.old self.new (S.object_reads disk.old) (S.object_reads disk.new)) }
         ensures caused { KeepsFaults S.never_fails S.faults (IsErrOf result IdentityFault.Disk)
             disk.old disk.new }
     {

@@ -1,14 +1,13 @@
 //! New versions of an identity, as they are written.
 ghost use Rattle.std.specs.Prelude.{◌≡◌, ◌≤◌, ◌+◌, ◌∷◌, [], IsTrue, IfOk, IsErrOf};
-ghost use Rattle.gb_text.specs.Rules.{is_line_text, is_title_text};
 ghost use Rattle.gb_store.specs.Faults.{KeepsFaults};
 ghost use Rattle.git_object.specs.Grammar.{IsCommitText, IsTreeText};
-ghost use Rattle.identity.specs.Version.{version_text_of};
-ghost use Rattle.identity.specs.Making.{MakingAnswers, PlanAnswers, commit_content, made_of, tree_content, version_commit, version_objects, version_plan, version_tree};
+ghost use Rattle.identity.specs.Version.{text_with};
+ghost use Rattle.identity.specs.Making.{MakingAnswers, PlanAnswers, commit_content, made_of, tree_content, version_commit, version_plan, version_tree};
 
 use crate::version::{id_of_version, version_text};
 use gb_store::Store;
-use gb_text::{Bytes, Folder, GREATEST_TIME, Id, List, Memory, Name};
+use gb_text::{Bytes, Folder, GREATEST_TIME, Id, Line, List, Memory, Name, Title};
 use git_object::{Entry, Kind, Mode, Tree};
 use object_batch::{check_sizes, commit_for, put_all};
 use object_store::{ObjectText, PutFault};
@@ -40,18 +39,16 @@ pub fn new_version<S: Store>(
     disk: &mut S,
     folder: &Folder,
     parent: Option<Name>,
-    name: &str,
-    email: &str,
+    name: &Title,
+    email: &Line,
     nonce: &[u8; 32],
     now: u64,
 ) -> Result<Made, PutFault>
-    requires title { IsTrue (is_title_text name.now) }
-    requires line { IsTrue (is_line_text email.now) }
     requires moment { now ≤ GREATEST_TIME }
-    ensures made { IfOk result (λ made. made
-        ≡ made_of (version_text_of name.now email.now nonce.now now) parent now) }
-    ensures answers { IsTrue S.tells → MakingAnswers folder.now
-        (version_objects (version_text_of name.now email.now nonce.now now) parent now)
+    ensures made { IfOk result
+        (λ made. made ≡ made_of (text_with name.now email.now nonce.now now) parent now) }
+    ensures answers { IsTrue S.tells
+        → MakingAnswers folder.now (text_with name.now email.now nonce.now now) parent now
         (S.history disk.old) (S.history disk.new) result }
     ensures reads { S.object_reads disk.new ≤ S.object_reads disk.old + 3 }
     ensures caused { KeepsFaults S.never_fails S.faults (IsErrOf result PutFault.Disk)
@@ -66,15 +63,13 @@ pub fn new_version<S: Store>(
 pub fn plan_version(
     alloc: Global,
     parent: Option<Name>,
-    name: &str,
-    email: &str,
+    name: &Title,
+    email: &Line,
     nonce: &[u8; 32],
     now: u64,
 ) -> Result<VersionPlan, PutFault>
-    requires title { IsTrue (is_title_text name.now) }
-    requires line { IsTrue (is_line_text email.now) }
     requires moment { now ≤ GREATEST_TIME }
-    ensures { PlanAnswers (version_text_of name.now email.now nonce.now now) parent now result }
+    ensures { PlanAnswers (text_with name.now email.now nonce.now now) parent now result }
 {
     let version = version_text(alloc, name, email, nonce, now)?;
     let plan = plan_of(alloc, version.as_slice(), parent, now)?;

@@ -1,12 +1,11 @@
 //! Versions of an identity, and their texts.
-ghost use Rattle.std.specs.Prelude.{◌≡◌, ◌≤◌, ◌-◌, ◌^◌, map, IsTrue, IfOk, Some};
+ghost use Rattle.std.specs.Prelude.{◌≡◌, ◌≤◌, map, IfOk, Some};
 ghost use Rattle.gb_text.specs.Digits.{IsId};
-ghost use Rattle.gb_text.specs.Rules.{is_line_text, is_title_text};
 ghost use Rattle.std.specs.Str.{is_utf8};
-ghost use Rattle.identity.specs.Version.{version_in, version_of, version_id, version_text_of, written_version};
+ghost use Rattle.identity.specs.Version.{text_with, version_in, version_of, version_id, version_text_of, version_with};
 
 use crate::member::{format_in, keys_in, line_in, nonce_in, time_in};
-use gb_text::{Bytes, Id, Memory, Text, is_title};
+use gb_text::{Bytes, GREATEST_TIME, Id, Line, Memory, Text, Title, is_title};
 use op_kind::{
     Field, Nonce, Written, print_decimal, quote, quote_nonce, read_fields, write_members,
 };
@@ -116,20 +115,18 @@ fn version_in(alloc: Global, fields: &[Field]) -> Result<Option<Version>, Memory
 /// a JSON object without white space, its members in byte order of their names.
 pub fn version_text(
     alloc: Global,
-    name: &str,
-    email: &str,
+    name: &Title,
+    email: &Line,
     nonce: &[u8; 32],
     now: u64,
 ) -> Result<Bytes, Memory>
-    requires title { IsTrue (is_title_text name.now) }
-    requires line { IsTrue (is_line_text email.now) }
-    requires moment { now ≤ 2 ^ 63 - 1 }
-    ensures text { IfOk result (λ text. text ≡ version_text_of name.now email.now nonce.now now) }
+    requires moment { now ≤ GREATEST_TIME }
+    ensures text { IfOk result (λ text. text ≡ text_with name.now email.now nonce.now now) }
     ensures reads_back { IfOk result
-        (λ text. version_of text ≡ Some (written_version name.now email.now nonce.now now)) }
+        (λ text. version_of text ≡ Some (version_with name.now email.now nonce.now now)) }
 {
     let nonce = Nonce::from_bytes(alloc, nonce)?;
-    write_version(alloc, name, email, &nonce, now)
+    write_version(alloc, name.as_str(), email.as_str(), &nonce, now)
 }
 
 // The text of what is written of a version.

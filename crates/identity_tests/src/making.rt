@@ -1,30 +1,31 @@
 //! What no clause says of making versions: worked names, and that calls succeed.
 use fixtures::{Disk, filled, id, name, put_under};
-use gb_text::{Name, is_line, is_title};
+use gb_text::{Line, Name, Title};
 use identity::{Made, Person, new_version, plan_version, read_chain, read_last, versions};
 use object_store::PutFault;
 use std::alloc::Global;
 use std::test::Fail;
 
+// This name, and an email.
+fn named(alloc: Global, name: &str) -> Result<(Title, Line), PutFault> {
+    let name = Title::read(alloc, name)?.ok_or(PutFault::Memory)?;
+    let email = Line::read(alloc, "ana@x")?.ok_or(PutFault::Memory)?;
+    Ok((name, email))
+}
+
 // Makes a version with this name.
 fn make(disk: &mut Disk, parent: Option<Name>, name: &str) -> Result<Made, PutFault> {
-    let email = "ana@x";
-    if !is_title(name) || !is_line(email) {
-        return Err(PutFault::Memory);
-    }
+    let (name, email) = named(disk.alloc, name)?;
     let (store, folder) = (&mut disk.store, &disk.folder);
     new_version(
-        disk.alloc, store, folder, parent, name, email, &[7; 32], 100,
+        disk.alloc, store, folder, parent, &name, &email, &[7; 32], 100,
     )
 }
 
 // What would be made of the same.
 fn plan(alloc: Global, parent: Option<Name>, name: &str) -> Result<Made, PutFault> {
-    let email = "ana@x";
-    if !is_title(name) || !is_line(email) {
-        return Err(PutFault::Memory);
-    }
-    Ok(plan_version(alloc, parent, name, email, &[7; 32], 100)?.made)
+    let (name, email) = named(alloc, name)?;
+    Ok(plan_version(alloc, parent, &name, &email, &[7; 32], 100)?.made)
 }
 
 // What the version of Ana is to be.

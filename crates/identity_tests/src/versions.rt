@@ -1,6 +1,6 @@
 //! Worked texts of versions.
 use fixtures::{id, joined};
-use gb_text::{is_line, is_title};
+use gb_text::{Line, Title};
 use identity::{Version, id_of_version, version_text};
 use std::alloc::Global;
 use std::test::Fail;
@@ -10,10 +10,9 @@ const ANA: &[u8] =
 
 // The text of a version with this name and email.
 fn written(alloc: Global, name: &str, email: &str) -> Result<Vec<u8>, Fail> {
-    if !is_title(name) || !is_line(email) {
-        return Err("a name and an email")?;
-    }
-    let text = version_text(alloc, name, email, &[7; 32], 100)?;
+    let name = Title::read(alloc, name)?.ok_or("a name")?;
+    let email = Line::read(alloc, email)?.ok_or("an email")?;
+    let text = version_text(alloc, &name, &email, &[7; 32], 100)?;
     joined(alloc, &[text.as_slice()])
 }
 

@@ -92,7 +92,6 @@ fn plan_new_version(
         env.entry.now.moment.now result }
 {
     let nonce = env.moment.nonce();
-    let (name, email) = (name.as_str(), email.as_str());
     plan_version(alloc, parent, name, email, &nonce, env.moment.now)
 }
 

@@ -5,7 +5,7 @@ use crate::calls::{
 };
 use fixtures::Disk;
 use gb_store::Store;
-use gb_text::{is_line, is_title};
+use gb_text::{Line, Title};
 use identity::{Made, new_version};
 use repo_state::Side;
 use std::test::Fail;
@@ -54,12 +54,12 @@ fn other_user_files_are_damaged(rt: HostRuntime) -> Result<(), Fail> {
 
 // Makes the first version of an identity with this name.
 fn make_version(disk: &mut Disk, name: &str) -> Result<Made, Fail> {
-    let email = "ana@x";
-    if !is_title(name) || !is_line(email) {
-        return Err("a name and an email")?;
-    }
+    let name = Title::read(disk.alloc, name)?.ok_or("a name")?;
+    let email = Line::read(disk.alloc, "ana@x")?.ok_or("an email")?;
     let (store, folder) = (&mut disk.store, &disk.folder);
-    Ok(new_version(disk.alloc, store, folder, None, name, email, &[7; 32], 100)?)
+    Ok(new_version(
+        disk.alloc, store, folder, None, &name, &email, &[7; 32], 100,
+    )?)
 }
 
 // Makes an identity with this name, and sets its head.

@@ -39,7 +39,7 @@ returns-in_err-last-clause-answers g c = λ tells.
 
 pub returns-clause-distinct : goal.returns-clause-distinct
 unfolding none
-returns-clause-distinct g c = λ trees versions tells from.
+returns-clause-distinct g c = λ tells trees versions from.
     let objects = objects_in (files_of (g.S.Store.history c.args.disk.now)) c.args.folder.now in
     let judged : IsJudged objects c.in_ok-first.first = (c.in_ok-first.ensures.answers tells).1 in
     let root : IsFrom objects trees versions (get_or c.args.walk.now 0 none) = from (get_or c.args.walk.now 0 none) (Contains-get_or c.args.walk.now 0 none c.in-len1-up.len_at_least) in
@@ -47,6 +47,6 @@ returns-clause-distinct g c = λ trees versions tells from.
     let later : AreFrom objects trees versions (take (length c.args.walk.now - 1) (drop 1 c.args.walk.now)) = AreFrom-later objects trees versions c.args.walk.now c.in-len1-up.len_at_least from in
     let first_judged : IsJudged (objects_in (files_of (g.S.Store.history c.first_version.new.disk)) c.args.folder.now) c.in_ok-first.first =
     subst (λ (h : History). IsJudged (objects_in (files_of h) c.args.folder.now) c.in_ok-first.first) (sym (c.in_ok-first.ensures.unwritten tells)) judged in
-    let rest = c.in_ok-last.ensures.distinct trees versions tells first_judged (subst (Contains trees) (sym c.in_ok-first.ensures.tree) root.tree) (root.version c.in_ok-first.first.object named)
+    let rest = c.in_ok-last.ensures.distinct tells trees versions first_judged (subst (Contains trees) (sym c.in_ok-first.ensures.tree) root.tree) (root.version c.in_ok-first.first.object named)
     (subst (λ (h : History). AreFrom (objects_in (files_of h) c.args.folder.now) trees versions (take (length c.args.walk.now - 1) (drop 1 c.args.walk.now))) (sym (c.in_ok-first.ensures.unwritten tells)) later) in
     omega (arith, c.in_ok-first.ensures.reads, rest)

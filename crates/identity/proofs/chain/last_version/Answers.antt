@@ -41,7 +41,7 @@ returns-clause-answers g c = λ tells judged.
     (VersionIn-judged objects c.in-Some.head.now c.in_ok-last.last last.0 last.1))
 
 pub returns-clause-distinct : goal.returns-clause-distinct
-returns-clause-distinct g c = λ trees versions tells judged first_tree first_object from.
+returns-clause-distinct g c = λ tells trees versions judged first_tree first_object from.
     let objects = objects_after (g.S.Store.history c.args.disk.now) c.args.folder.now in
     let all : AreFrom objects trees versions (c.in-Some.between.now ++ c.in-Some.head.now ∷ []) = subst (AreFrom objects trees versions) c.in-Some.ensures.cases.0 from in
     let last : JudgedAnswers objects c.in-Some.head.now (Ok c.in_ok-last.last) = c.in_ok-last.ensures.answers tells judged in
@@ -61,5 +61,5 @@ returns-clause-distinct g c = λ trees versions tells judged first_tree first_ob
     (unknown-second versions c.none-known.result.objects c.add.new.self.objects c.add-2.new.self.objects c.args.first.object c.in_ok-last.last.object c.none-known.ensures.objects c.in_ok-add.ensures.objects c.in_ok-add-2.ensures.objects last_object))
     (unknown-second trees c.none-known.result.trees c.add.new.self.trees c.add-2.new.self.trees c.args.first.tree c.in_ok-last.last.tree c.none-known.ensures.trees c.in_ok-add.ensures.trees c.in_ok-add-2.ensures.trees last_tree) in
     let between : AreFrom objects trees versions c.in-Some.between.now = AreFrom-front objects trees versions c.in-Some.between.now c.in-Some.head.now all in
-    let rest = c.in_ok-judge_each.ensures.once trees versions tells (subst (λ (h : History). AreFrom (objects_after h c.args.folder.now) trees versions c.in-Some.between.now) (sym (c.in_ok-last.ensures.unwritten tells)) between) in
+    let rest = c.in_ok-judge_each.ensures.once tells trees versions (subst (λ (h : History). AreFrom (objects_after h c.args.folder.now) trees versions c.in-Some.between.now) (sym (c.in_ok-last.ensures.unwritten tells)) between) in
     omega (arith, tree_is_known, object_is_known, step, rest)

@@ -41,4 +41,4 @@ returns-in-Some-clause-distinct g c = λ tells walk trees versions walked from.
     let read : walk ≡ c.deref.result.now = one ∙ sym c.deref.ensures.value in
     let here : AreFrom (objects_in (files_of (g.S.Store.history c.walk_chain.new.disk)) c.args.folder.now) trees versions c.deref.result.now =
     subst (λ (h : History). AreFrom (objects_in (files_of h) c.args.folder.now) trees versions c.deref.result.now) (sym (c.in_ok-walk.ensures.unwritten tells)) (subst (AreFrom objects trees versions) read from) in
-    omega (arith, ap length one, c.in_ok-walk.ensures.once, c.in_ok-last.ensures.distinct trees versions tells here)
+    omega (arith, ap length one, c.in_ok-walk.ensures.once, c.in_ok-last.ensures.distinct tells trees versions here)

@@ -33,7 +33,7 @@ returns-clause-kept g c = record {
 }
 
 pub returns-clause-once : goal.returns-clause-once
-returns-clause-once g c = λ trees versions tells from.
+returns-clause-once g c = λ tells trees versions from.
     let objects = objects_after (g.S.Store.history c.args.disk.now) c.args.folder.now in
     let named : NamesVersion objects c.args.link.now.tree c.in_ok-object.object = c.in_ok-object.ensures.answers tells in
     let tree = unknown-new trees c.args.self.now.trees c.add.new.self.trees c.args.link.now.tree c.in_ok-add.ensures.trees from.tree (sym c.if-contains.ensures) in

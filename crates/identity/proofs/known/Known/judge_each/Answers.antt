@@ -33,10 +33,10 @@ loop-link-preserved g c = record {
   known = λ tells first. (answer tells first).1;
   unwritten = λ tells. c.in_ok-judge.ensures.unwritten tells ∙ c.loop-link.invariant.unwritten tells;
   reads = omega (arith, c.loop-link.invariant.reads, c.judge.ensures.reads);
-  once = λ trees versions tells from.
+  once = λ tells trees versions from.
       let here : IsFrom (objects_after (g.S.Store.history c.args.disk.now) c.args.folder.now) trees versions link = from link (Contains-get_or c.args.links.now c.loop-link.link-index none c.loop-link-test.true) in
-      let step = c.in_ok-judge.ensures.once trees versions tells (subst (λ (h : History). IsFrom (objects_after h c.args.folder.now) trees versions link) (sym (c.loop-link.invariant.unwritten tells)) here) in
-      omega (arith, c.loop-link.invariant.once trees versions tells from, step);
+      let step = c.in_ok-judge.ensures.once tells trees versions (subst (λ (h : History). IsFrom (objects_after h c.args.folder.now) trees versions link) (sym (c.loop-link.invariant.unwritten tells)) here) in
+      omega (arith, c.loop-link.invariant.once tells trees versions from, step);
   caused = KeepsFaults_then g.S.Store.never_fails g.S.Store.faults _ ⊥ c.args.disk.now c.loop-link.disk c.judge.new.disk c.loop-link.invariant.caused c.in_ok-judge.ensures.caused (λ none. absurd none) (λ fails. absurd (cc));
 }
   where

@@ -1,8 +1,7 @@
-use Rattle.std.proofs.Common.{◌≡◌, ◌≤◌, ◌+◌, ◌*◌, IsTrue, List, take}
-use Rattle.gb_text.specs.declared.id.Name.{Name}
+use Rattle.std.proofs.Common.{◌≡◌, ◌≤◌, ◌+◌, ◌*◌, IsTrue, take}
 use Rattle.gb_store.specs.Faults.{KeepsFaults}
 use Rattle.object_store.specs.Held.{objects_after}
-use Rattle.identity.specs.Knowing.{AreFrom, AreKnown, EachHas, unread}
+use Rattle.identity.specs.Knowing.{AreKnown, EachHas, LearnsEach}
 use Rattle.identity.proofs.known.Known.judge_each.Given as goal
 
 abbrev pub invariant-loop-link : goal.invariant-loop-link
@@ -13,7 +12,7 @@ invariant-loop-link g l = record {
       → AreKnown (objects_after (g.S.Store.history l.fn.disk) l.folder) l.self;
   unwritten : IsTrue g.S.Store.tells → g.S.Store.history l.disk ≡ g.S.Store.history l.fn.disk;
   reads : g.S.Store.object_reads l.disk ≤ g.S.Store.object_reads l.fn.disk + 2 * l.link-index;
-  once : (trees versions : List Name) → IsTrue g.S.Store.tells → AreFrom (objects_after (g.S.Store.history l.fn.disk) l.folder) trees versions l.links
-      → g.S.Store.object_reads l.disk + unread trees versions l.self ≤ g.S.Store.object_reads l.fn.disk + unread trees versions l.fn.self;
+  once : IsTrue g.S.Store.tells → LearnsEach (objects_after (g.S.Store.history l.fn.disk) l.folder) l.links l.fn.self l.self
+      (g.S.Store.object_reads l.fn.disk) (g.S.Store.object_reads l.disk);
   caused : KeepsFaults g.S.Store.never_fails g.S.Store.faults ⊥ l.fn.disk l.disk;
 }
