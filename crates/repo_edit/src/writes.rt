@@ -3,7 +3,6 @@ ghost use Rattle.std.specs.Prelude.{◌≡◌, ◌≤◌, ◌+◌, ◌++◌, [],
 ghost use Rattle.gb_store.specs.Faults.{KeepsFaults};
 ghost use Rattle.ref_store.specs.Setting.{ref_write};
 ghost use Rattle.repo_state.specs.Sides.{ref_place};
-ghost use Rattle.repo_state.specs.Sound.{IsNamedSide};
 ghost use Rattle.repo_edit.specs.Adding.{AddsHead, first_write};
 
 use gb_store::{Change, Store};
@@ -14,7 +13,7 @@ use repo_state::{Side, head_change, user_change};
 use std::alloc::Global;
 
 /// The writes that add these objects and then set the head of an id: those of the objects that are
-/// missing, in their order, and that of the head. The name of a remote's side is a remote's name.
+/// missing, in their order, and that of the head.
 pub fn head_writes<S: Store>(
     alloc: Global,
     disk: &mut S,
@@ -24,7 +23,6 @@ pub fn head_writes<S: Store>(
     head: &Name,
     objects: &List<ObjectText>,
 ) -> Result<Vec<Change>, PutFault>
-    requires { IsNamedSide side.now }
     ensures answers { IsTrue S.tells
         → AddsHead folder.now side.now id.now head.now objects.now (S.history disk.old) result }
     ensures unwritten { IsTrue S.tells → S.history disk.new ≡ S.history disk.old }
@@ -45,7 +43,6 @@ fn with_head(
     head: &Name,
     writes: Vec<Change>,
 ) -> Result<Vec<Change>, Memory>
-    requires { IsNamedSide side.now }
     ensures { IfOk result (λ all. all.items
         ≡ writes.items ++ ref_write folder.now (ref_place side.now id.now) head.now ∷ []) }
 {

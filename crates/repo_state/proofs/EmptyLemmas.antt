@@ -37,7 +37,7 @@ module _ (folder : List ℕ) (files : Files) (none : (place : List ℕ) → file
   empty_is_sound parts.Identities = λ id is_id. subst (IsSoundIdentity (objects_in files folder) id) (no_ref side.Identities id) tt
   empty_is_sound parts.Bugs = λ id is_id. subst (IsSoundBug (objects_in files folder) id) (no_ref side.Bugs id) tt
   empty_is_sound parts.Authors = λ id is_id. subst (IsAuthoredBug folder files id) (no_ref side.Bugs id) tt
-  empty_is_sound parts.Tracking = λ remote is_named id is_id. (
+  empty_is_sound parts.Tracking = λ remote id is_id. (
     subst (IsSoundTracking (objects_in files folder)) (no_ref (side.RemoteBugs remote) id) tt,
     subst (IsSoundTracking (objects_in files folder)) (no_ref (side.RemoteIdentities remote) id) tt,
   )

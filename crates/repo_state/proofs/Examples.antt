@@ -12,6 +12,7 @@ use Rattle.repo_state.specs.Finds.{Finds, Nothing, One}
 use Rattle.repo_state.specs.Sides.{ref_place}
 use Rattle.repo_state.specs.Users.{BadUser, NoUser, User, user_at, user_of, user_write}
 use Rattle.repo_state.specs.declared.clocks.ClockFile.TheVariants as file
+use Rattle.repo_state.specs.declared.remote.RemoteName.{RemoteName}
 use Rattle.repo_state.specs.declared.side.Side.TheVariants as side
 use Rattle.repo_state.proofs.FoundLemmas.{finds_no_digits, finds_no_ref, finds_one}
 
@@ -31,6 +32,10 @@ all_say text path = Some text
 abbrev head_digits : List ℕ
 head_digits = codes "e69de29bb2d1d6434b8b29ae775ad8c2e48c5391"
 
+-- the name of a remote
+abbrev hub : RemoteName
+hub = record { text = codes "hub"; is_name = refl }
+
 -- where refs stand
 place_of_a_bug : ref_place side.Bugs id ≡ codes "refs/bugs/" ++ id_digits
 unfolding hex_on_literals
@@ -40,11 +45,11 @@ place_of_an_identity : ref_place side.Identities id ≡ codes "refs/identities/"
 unfolding hex_on_literals
 place_of_an_identity = refl
 
-place_of_a_remote_bug : ref_place (side.RemoteBugs (codes "hub")) id ≡ codes "refs/remotes/hub/bugs/" ++ id_digits
+place_of_a_remote_bug : ref_place (side.RemoteBugs hub) id ≡ codes "refs/remotes/hub/bugs/" ++ id_digits
 unfolding hex_on_literals
 place_of_a_remote_bug = refl
 
-place_of_a_remote_identity : ref_place (side.RemoteIdentities (codes "hub")) id ≡ codes "refs/remotes/hub/identities/" ++ id_digits
+place_of_a_remote_identity : ref_place (side.RemoteIdentities hub) id ≡ codes "refs/remotes/hub/identities/" ++ id_digits
 unfolding hex_on_literals
 place_of_a_remote_identity = refl
 

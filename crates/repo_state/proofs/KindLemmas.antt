@@ -28,7 +28,6 @@ use Rattle.ref_store.proofs.RefLemmas.{line_of-more}
 use Rattle.ref_store.specs.declared.read.TheConstants.{MOST_BYTES}
 use Rattle.repo_state.specs.Clocks.{clock_at, clock_in, clock_place, clock_write, see_writes}
 use Rattle.repo_state.specs.Sides.{has_ref, head_at, is_there, ref_place}
-use Rattle.repo_state.specs.Sound.{IsNamedSide}
 use Rattle.repo_state.specs.Users.{BadUser, User, id_line, local_user, user_at, user_of, user_place, user_write}
 use Rattle.repo_state.specs.declared.clocks.ClockFile.{ClockFile}
 use Rattle.repo_state.specs.declared.side.Side.{Side}
@@ -99,11 +98,11 @@ head_at-other_id files folder of id other head is_id is_other differ =
     (λ e. differ (ref_place-same of id other is_id is_other (joined-same folder (ref_place of id) (ref_place of other) e)))
 
 -- and so does a ref of another side
-pub head_at-other_side : (files : Files) (folder : List ℕ) (of on : Side) (id other : Id) (head : Name) → IsNamedSide of → IsNamedSide on → of ≢ on
+pub head_at-other_side : (files : Files) (folder : List ℕ) (of on : Side) (id other : Id) (head : Name) → of ≢ on
     → head_at (written files (ref_write folder (ref_place of id) head)) folder on other ≡ head_at files folder on other
-head_at-other_side files folder of on id other head is_of is_on differ =
+head_at-other_side files folder of on id other head differ =
     head_at-other files (ref_write folder (ref_place of id) head) folder on other
-    (λ e. differ (ref_place-side of on id other is_of is_on (joined-same folder (ref_place of id) (ref_place on other) e)))
+    (λ e. differ (ref_place-side of on id other (joined-same folder (ref_place of id) (ref_place on other) e)))
 
 -- ---- the user
 
@@ -195,12 +194,12 @@ user_at-object_put files folder text name =
     (λ id. head_at-object_put files folder text side.Identities id name)
 
 -- and the head of another side than that of identities
-pub user_at-other_side : (files : Files) (folder : List ℕ) (of : Side) (id : Id) (head : Name) → IsNamedSide of → of ≢ side.Identities
+pub user_at-other_side : (files : Files) (folder : List ℕ) (of : Side) (id : Id) (head : Name) → of ≢ side.Identities
     → user_at (written files (ref_write folder (ref_place of id) head)) folder ≡ user_at files folder
-user_at-other_side files folder of id head named other =
+user_at-other_side files folder of id head other =
     user_at-same files (written files (ref_write folder (ref_place of id) head)) folder
     (written-other files (ref_write folder (ref_place of id) head) (joined folder user_place) (ref-not_user folder of id))
-    (λ user. head_at-other_side files folder of side.Identities id user head named tt other)
+    (λ user. head_at-other_side files folder of side.Identities id user head other)
 
 -- ---- clocks
 

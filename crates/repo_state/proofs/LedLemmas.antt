@@ -24,7 +24,7 @@ use Rattle.dag_entity.specs.Faults.{EntityFaultHolds}
 use Rattle.dag_entity.specs.declared.fault.EntityFault.TheVariants as fault
 use Rattle.identity.proofs.MadeLemmas.{head_held}
 use Rattle.repo_state.specs.Sides.{head_at}
-use Rattle.repo_state.specs.Sound.{HasNoFault, IsNamedSide, IsSound, IsSoundBug, IsSoundIdentity, IsSoundTracking}
+use Rattle.repo_state.specs.Sound.{HasNoFault, IsSound, IsSoundBug, IsSoundIdentity, IsSoundTracking}
 use Rattle.repo_state.specs.Sound as parts
 use Rattle.repo_state.specs.declared.side.Side.{Side}
 use Rattle.repo_state.specs.declared.side.Side.TheVariants as side
@@ -61,18 +61,18 @@ bug_head_held objects id name none = elim (holds_as_or_fails as_commit objects n
 
 module _ (folder : List ℕ) (files : Files) (sound : IsSound folder files) where
   -- the head of each ref is a commit that is held
-  head_is_held : (of : Side) (id : Id) (name : Name) → IsNamedSide of → IsId id → head_at files folder of id ≡ Head name → IsHeldAs (objects_in files folder) name kinds.Commit
-  head_is_held side.Bugs id name named is at =
+  head_is_held : (of : Side) (id : Id) (name : Name) → IsId id → head_at files folder of id ≡ Head name → IsHeldAs (objects_in files folder) name kinds.Commit
+  head_is_held side.Bugs id name is at =
       bug_head_held (objects_in files folder) id name (subst (IsSoundBug (objects_in files folder) id) at (sound parts.Bugs id is))
-  head_is_held side.Identities id name named is at =
+  head_is_held side.Identities id name is at =
       head_held (objects_in files folder) id name (subst (IsSoundIdentity (objects_in files folder) id) at (sound parts.Identities id is))
-  head_is_held (side.RemoteBugs remote) id name named is at =
-      held_as_commit (objects_in files folder) name (subst (IsSoundTracking (objects_in files folder)) at (sound parts.Tracking remote named id is).0)
-  head_is_held (side.RemoteIdentities remote) id name named is at =
-      held_as_commit (objects_in files folder) name (subst (IsSoundTracking (objects_in files folder)) at (sound parts.Tracking remote named id is).1)
+  head_is_held (side.RemoteBugs remote) id name is at =
+      held_as_commit (objects_in files folder) name (subst (IsSoundTracking (objects_in files folder)) at (sound parts.Tracking remote id is).0)
+  head_is_held (side.RemoteIdentities remote) id name is at =
+      held_as_commit (objects_in files folder) name (subst (IsSoundTracking (objects_in files folder)) at (sound parts.Tracking remote id is).1)
 
   -- and so is all that it leads to
-  pub led_from_heads : (of : Side) (id : Id) (name : Name) (one : Reference) → IsNamedSide of → IsId id → head_at files folder of id ≡ Head name
+  pub led_from_heads : (of : Side) (id : Id) (name : Name) (one : Reference) → IsId id → head_at files folder of id ≡ Head name
       → LeadsTo (objects_in files folder) (record { name = name; kind = kinds.Commit }) one → IsHeldAs (objects_in files folder) one.name one.kind
-  led_from_heads of id name one named is at (path, leads) =
-      led_to_held (objects_in files folder) (sound parts.Objects).whole (record { name = name; kind = kinds.Commit }) path one (head_is_held of id name named is at) leads
+  led_from_heads of id name one is at (path, leads) =
+      led_to_held (objects_in files folder) (sound parts.Objects).whole (record { name = name; kind = kinds.Commit }) path one (head_is_held of id name is at) leads

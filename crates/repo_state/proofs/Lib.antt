@@ -14,5 +14,6 @@ pub mod ListedLemmas
 pub mod ListingLemmas
 pub mod PeopleLemmas
 pub mod PlaceLemmas
+pub mod RemoteLemmas
 pub mod UndamagedLemmas
 pub mod UserFileLemmas

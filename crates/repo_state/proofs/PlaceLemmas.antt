@@ -1,9 +1,8 @@
 -- Places below a folder: which of them are never the same.
 use Rattle.std.proofs.lemmas.Bool.{and_parts}
 use Rattle.std.proofs.lemmas.Option.{same_Some}
-use Rattle.std.proofs.Common.{◌≡◌, ◌≢◌, ◌⊎◌, inl, inr, ℕ, ◌==◌, ◌||◌, Bool, true, false, IsTrue, List, [], ◌∷◌, ◌++◌, codes, refl, sym, ◌∙◌, ap, append_assoc, arith}
+use Rattle.std.proofs.Common.{◌≡◌, ◌≢◌, ◌⊎◌, inl, inr, ℕ, Bool, true, false, List, [], ◌∷◌, ◌++◌, codes, refl, sym, ◌∙◌, ap, append_assoc, arith}
 use Rattle.std.proofs.lemmas.List.{append_cancel_left}
-use Rattle.std.specs.Char.{is_ascii_alphanumeric}
 use Rattle.std.specs.List.{list_all}
 use Rattle.std.specs.Prelude.{slice_index}
 use Rattle.std.specs.Str.{bytes_eq}
@@ -19,13 +18,15 @@ use Rattle.git_object.specs.Reading.{cut_at}
 use Rattle.git_object.proofs.CutLaws.{cut_again}
 use Rattle.ref_store.proofs.MapLemmas.{joined-same}
 use Rattle.repo_state.specs.Clocks.{clock_place}
+use Rattle.repo_state.specs.RemoteTexts.{is_remote_byte}
 use Rattle.repo_state.specs.Sides.{dir_of, ref_place}
-use Rattle.repo_state.specs.Sound.{IsNamedSide, IsRemoteName}
 use Rattle.repo_state.specs.Users.{user_place}
 use Rattle.repo_state.specs.declared.clocks.ClockFile.{ClockFile}
 use Rattle.repo_state.specs.declared.clocks.ClockFile.TheVariants as clock
+use Rattle.repo_state.specs.declared.remote.RemoteName.{RemoteName}
 use Rattle.repo_state.specs.declared.side.Side.{Side}
 use Rattle.repo_state.specs.declared.side.Side.TheVariants as side
+use Rattle.repo_state.proofs.RemoteLemmas.{bytes_of_remote, one_remote}
 use Rattle.gb_text.proofs.DigitLemmas.{id_digits-same}
 
 -- two paths are the same or not
@@ -96,38 +97,38 @@ ref_place-same of one two first second e =
 -- ---- two sides
 
 -- the name of a remote has no slash
-remote-lacks : (remote : List ℕ) → IsRemoteName remote → Lacks 47 remote
-remote-lacks remote is = each remote is.each
+remote-lacks : (remote : RemoteName) → Lacks 47 remote.text
+remote-lacks remote = each remote.text (bytes_of_remote remote)
   where
-    each : (cs : List ℕ) → IsTrue (list_all (λ c. is_ascii_alphanumeric c || ((c == 95) || (c == 45))) cs) → Lacks 47 cs
+    each : (cs : List ℕ) → list_all is_remote_byte cs ≡ true → Lacks 47 cs
     each [] all = tt
     each (c ∷ cs) all =
-        let parts = and_parts (is_ascii_alphanumeric c || ((c == 95) || (c == 45))) (list_all (λ c. is_ascii_alphanumeric c || ((c == 95) || (c == 45))) cs) all in
-        ((λ e. cc (sym parts.0 ∙ ap (λ (c : ℕ). is_ascii_alphanumeric c || ((c == 95) || (c == 45))) e)), each cs parts.1)
+        let parts = and_parts (is_remote_byte c) (list_all is_remote_byte cs) all in
+        ((λ e. cc (sym parts.0 ∙ ap is_remote_byte e)), each cs parts.1)
 
 -- refs of remotes stand at one place only for one remote, and below one dir of it
-remotes-same : (one two kind other x y : List ℕ) → IsRemoteName one → IsRemoteName two
-    → ((codes "refs/remotes/" ++ one) ++ 47 ∷ kind) ++ x ≡ ((codes "refs/remotes/" ++ two) ++ 47 ∷ other) ++ y → (one ≡ two) × (kind ++ x ≡ other ++ y)
-remotes-same one two kind other x y first second e =
-    let tails : one ++ 47 ∷ (kind ++ x) ≡ two ++ 47 ∷ (other ++ y) =
-    append_cancel_left (codes "refs/remotes/") (one ++ 47 ∷ (kind ++ x)) (two ++ 47 ∷ (other ++ y)) (sym (spelled one kind x) ∙ e ∙ spelled two other y) in
-    let cuts : ◌≡◌ {A = List ℕ × List ℕ} (one, kind ++ x) (two, other ++ y) =
-    same_Some _ _ (sym (cut_again 47 one (kind ++ x) (remote-lacks one first)) ∙ ap (cut_at 47) tails ∙ cut_again 47 two (other ++ y) (remote-lacks two second)) in
-    (ap (λ (cut : List ℕ × List ℕ). cut.0) cuts, ap (λ (cut : List ℕ × List ℕ). cut.1) cuts)
+remotes-same : (one two : RemoteName) (kind other x y : List ℕ)
+    → ((codes "refs/remotes/" ++ one.text) ++ 47 ∷ kind) ++ x ≡ ((codes "refs/remotes/" ++ two.text) ++ 47 ∷ other) ++ y → (one ≡ two) × (kind ++ x ≡ other ++ y)
+remotes-same one two kind other x y e =
+    let tails : one.text ++ 47 ∷ (kind ++ x) ≡ two.text ++ 47 ∷ (other ++ y) =
+    append_cancel_left (codes "refs/remotes/") (one.text ++ 47 ∷ (kind ++ x)) (two.text ++ 47 ∷ (other ++ y)) (sym (spelled one.text kind x) ∙ e ∙ spelled two.text other y) in
+    let cuts : ◌≡◌ {A = List ℕ × List ℕ} (one.text, kind ++ x) (two.text, other ++ y) =
+    same_Some _ _ (sym (cut_again 47 one.text (kind ++ x) (remote-lacks one)) ∙ ap (cut_at 47) tails ∙ cut_again 47 two.text (other ++ y) (remote-lacks two)) in
+    (one_remote one two (ap (λ (cut : List ℕ × List ℕ). cut.0) cuts), ap (λ (cut : List ℕ × List ℕ). cut.1) cuts)
   where
     spelled : (remote kind x : List ℕ) → ((codes "refs/remotes/" ++ remote) ++ 47 ∷ kind) ++ x ≡ codes "refs/remotes/" ++ (remote ++ 47 ∷ (kind ++ x))
     spelled remote kind x = simp append_assoc
 
 -- the refs of two sides stand at no one place
-pub ref_place-side : (one two : Side) (id other : Id) → IsNamedSide one → IsNamedSide two → ref_place one id ≡ ref_place two other → one ≡ two
-ref_place-side side.Bugs side.Bugs id other first second e = refl
-ref_place-side side.Identities side.Identities id other first second e = refl
-ref_place-side (side.RemoteBugs one) (side.RemoteBugs two) id other first second e =
-    ap side.RemoteBugs (remotes-same one two (codes "bugs") (codes "bugs") (47 ∷ encode_lower id.bytes) (47 ∷ encode_lower other.bytes) first second e).0
-ref_place-side (side.RemoteIdentities one) (side.RemoteIdentities two) id other first second e =
-    ap side.RemoteIdentities (remotes-same one two (codes "identities") (codes "identities") (47 ∷ encode_lower id.bytes) (47 ∷ encode_lower other.bytes) first second e).0
-ref_place-side (side.RemoteBugs one) (side.RemoteIdentities two) id other first second e =
-    absurd (omega (arith, ap (λ (rest : List ℕ). slice_index rest 0) (remotes-same one two (codes "bugs") (codes "identities") (47 ∷ encode_lower id.bytes) (47 ∷ encode_lower other.bytes) first second e).1))
-ref_place-side (side.RemoteIdentities one) (side.RemoteBugs two) id other first second e =
-    absurd (omega (arith, ap (λ (rest : List ℕ). slice_index rest 0) (remotes-same one two (codes "identities") (codes "bugs") (47 ∷ encode_lower id.bytes) (47 ∷ encode_lower other.bytes) first second e).1))
-ref_place-side one two id other first second e = absurd (omega (arith, ap (λ (place : List ℕ). slice_index place 5) e))
+pub ref_place-side : (one two : Side) (id other : Id) → ref_place one id ≡ ref_place two other → one ≡ two
+ref_place-side side.Bugs side.Bugs id other e = refl
+ref_place-side side.Identities side.Identities id other e = refl
+ref_place-side (side.RemoteBugs one) (side.RemoteBugs two) id other e =
+    ap side.RemoteBugs (remotes-same one two (codes "bugs") (codes "bugs") (47 ∷ encode_lower id.bytes) (47 ∷ encode_lower other.bytes) e).0
+ref_place-side (side.RemoteIdentities one) (side.RemoteIdentities two) id other e =
+    ap side.RemoteIdentities (remotes-same one two (codes "identities") (codes "identities") (47 ∷ encode_lower id.bytes) (47 ∷ encode_lower other.bytes) e).0
+ref_place-side (side.RemoteBugs one) (side.RemoteIdentities two) id other e =
+    absurd (omega (arith, ap (λ (rest : List ℕ). slice_index rest 0) (remotes-same one two (codes "bugs") (codes "identities") (47 ∷ encode_lower id.bytes) (47 ∷ encode_lower other.bytes) e).1))
+ref_place-side (side.RemoteIdentities one) (side.RemoteBugs two) id other e =
+    absurd (omega (arith, ap (λ (rest : List ℕ). slice_index rest 0) (remotes-same one two (codes "identities") (codes "bugs") (47 ∷ encode_lower id.bytes) (47 ∷ encode_lower other.bytes) e).1))
+ref_place-side one two id other e = absurd (omega (arith, ap (λ (place : List ℕ). slice_index place 5) e))

@@ -5,6 +5,8 @@ pub mod Finds
 pub mod Listed
 pub mod People
 pub mod Places
+pub mod RemoteTexts
+pub mod Remotes
 pub mod Sides
 pub mod Sound
 pub mod Stops

@@ -18,8 +18,8 @@ use Rattle.repo_state.specs.declared.side.HeadEntry.{HeadEntry}
 abbrev pub dir_of : Side → List ℕ
 dir_of side.Bugs = codes "refs/bugs"
 dir_of side.Identities = codes "refs/identities"
-dir_of (side.RemoteBugs remote) = codes "refs/remotes/" ++ remote ++ codes "/bugs"
-dir_of (side.RemoteIdentities remote) = codes "refs/remotes/" ++ remote ++ codes "/identities"
+dir_of (side.RemoteBugs remote) = codes "refs/remotes/" ++ remote.text ++ codes "/bugs"
+dir_of (side.RemoteIdentities remote) = codes "refs/remotes/" ++ remote.text ++ codes "/identities"
 
 -- where the ref of an id stands, below its folder
 abbrev pub ref_place : Side → Id → List ℕ

@@ -1,7 +1,5 @@
 -- Sound folders: the parts of soundness, by name, and what keeps them.
-use Rattle.std.specs.Prelude.{◌≡◌, ◌≢◌, ◌≤◌, ⊤, ℕ, ◌==◌, ◌||◌, List, [], ◌∷◌, length, IsTrue, Some}
-use Rattle.std.specs.List.{list_all}
-use Rattle.std.specs.Char.{is_ascii_alphanumeric}
+use Rattle.std.specs.Prelude.{◌≡◌, ◌≢◌, ⊤, ℕ, List, [], ◌∷◌, Some}
 use Rattle.gb_text.specs.Digits.{IsId, IsName}
 use Rattle.gb_text.specs.declared.id.Id.{Id}
 use Rattle.gb_text.specs.declared.id.Name.{Name}
@@ -25,7 +23,7 @@ use Rattle.repo_state.specs.Bugs.{IsLocal}
 use Rattle.repo_state.specs.Places.{bug_places}
 use Rattle.repo_state.specs.Sides.{head_at}
 use Rattle.repo_state.specs.Users.{BadUser, user_at}
-use Rattle.repo_state.specs.declared.side.Side.{Side}
+use Rattle.repo_state.specs.declared.remote.RemoteName.{RemoteName}
 use Rattle.repo_state.specs.declared.side.Side.TheVariants as side
 
 -- each file at the path of a name is an object that the name holds, and all that an object names is held, as of
@@ -83,19 +81,6 @@ IsSoundBug objects id ref = IsSoundEntity bug_kind objects id ref
 abbrev pub IsAuthoredBug : List ℕ → Files → Id → Ref → Type 0
 IsAuthoredBug folder files id ref = IsAuthoredEntity bug_kind folder files id ref
 
--- the name of a remote: 1 to 64 letters, digits, `_` or `-` of ASCII
-pub record IsRemoteName (remote : List ℕ) : Type 0 where
-  pub some : 1 ≤ length remote
-  pub few : length remote ≤ 64
-  pub each : IsTrue (list_all (λ c. is_ascii_alphanumeric c || ((c == 95) || (c == 45))) remote)
-
--- a side whose remote, if it is of one, has such a name
-abbrev pub IsNamedSide : Side → Type 0
-IsNamedSide side.Bugs = ⊤
-IsNamedSide side.Identities = ⊤
-IsNamedSide (side.RemoteBugs remote) = IsRemoteName remote
-IsNamedSide (side.RemoteIdentities remote) = IsRemoteName remote
-
 -- ---- the parts of a sound folder
 
 -- its objects are whole
@@ -116,7 +101,7 @@ HasKnownAuthors folder files = (id : Id) → IsId id → IsAuthoredBug folder fi
 
 -- each tracking ref reads, and names a held commit
 abbrev pub HasSoundTracking : List ℕ → Files → Type 0
-HasSoundTracking folder files = (remote : List ℕ) → IsRemoteName remote → (id : Id) → IsId id
+HasSoundTracking folder files = (remote : RemoteName) → (id : Id) → IsId id
     → IsSoundTracking (objects_in files folder) (head_at files folder (side.RemoteBugs remote) id)
     × IsSoundTracking (objects_in files folder) (head_at files folder (side.RemoteIdentities remote) id)
 

@@ -1,5 +1,5 @@
 //! Laws of a folder's state, each the contract of a function that does nothing.
-ghost use Rattle.std.specs.Prelude.{◌≡◌, ◌≢◌, ◌↔◌, ◌≤◌, ◌++◌, [], ◌∷◌, List, ℕ, IsTrue, Some, None, codes, false, map, reverse};
+ghost use Rattle.std.specs.Prelude.{◌≡◌, ◌≢◌, ◌↔◌, ◌≤◌, ◌++◌, [], ◌∷◌, List, ℕ, IsTrue, Some, None, codes, false, true, map, reverse};
 ghost use Rattle.std.specs.List.{AllByRecursion, repeat};
 ghost use Rattle.hex.specs.Hex.{encode_lower};
 ghost use Rattle.gb_text.specs.Digits.{IsId, IsName};
@@ -17,10 +17,13 @@ ghost use Rattle.lamport.specs.Clock.{seen_by};
 ghost use Rattle.lamport.specs.declared.clock.TheConstants.{CAP};
 ghost use Rattle.repo_state.specs.Clocks.{clock_at, clock_write, see_writes};
 ghost use Rattle.repo_state.specs.Finds.{Finding, Finds, IsDetermined, Many, Nothing, One, head_finder, id_finder};
+ghost use Rattle.repo_state.specs.RemoteTexts.{is_remote_name};
+ghost use Rattle.repo_state.specs.Remotes.{remote_of};
 ghost use Rattle.repo_state.specs.Sides.{AllRead, AreHeads, AreIds, has_ref, head_at, ref_place};
-ghost use Rattle.repo_state.specs.Sound.{IsNamedSide, IsRemoteName, IsSound};
+ghost use Rattle.repo_state.specs.Sound.{IsSound};
 ghost use Rattle.repo_state.specs.Users.{BadUser, User, user_at, user_entry, user_write};
 ghost use Rattle.repo_state.specs.declared.clocks.ClockFile.{ClockFile};
+ghost use Rattle.repo_state.specs.declared.remote.RemoteName.{RemoteName as RemoteNameValue};
 ghost use Rattle.repo_state.specs.declared.side.HeadEntry.{HeadEntry};
 ghost use Rattle.repo_state.specs.declared.side.Side.{Side as SideValue};
 ghost use Rattle.repo_state.specs.declared.side.Side.TheVariants as side;
@@ -31,12 +34,11 @@ pub fn an_empty_folder_is_sound()
         → ((place : List ℕ) → files (joined folder place) ≡ None) → IsSound folder files }
 {}
 
-/// In a sound folder the head of each ref, also of a remote with a valid name, is a held commit, and
-/// everything that it leads to is held.
+/// In a sound folder the head of each ref, also of a remote, is a held commit, and everything that it
+/// leads to is held.
 pub fn sound_folders_hold_what_heads_lead_to()
     ensures { (folder : List ℕ) (files : Files) (of : SideValue) (id : Id) (head : Name)
-        (one : Reference) → IsSound folder files → IsNamedSide of → IsId id
-        → head_at files folder of id ≡ Head head
+        (one : Reference) → IsSound folder files → IsId id → head_at files folder of id ≡ Head head
         → LeadsTo (objects_in files folder) (record { name = head; kind = kinds.Commit }) one
         → IsHeldAs (objects_in files folder) one.name one.kind }
 {}
@@ -65,15 +67,23 @@ pub fn users_have_their_heads()
 /// The name of a remote has 1 to 64 bytes. By their edges: letters, digits, `_` and `-` are among these,
 /// and what stands beside them is not, nor are white space, dots, slashes and bytes above 127.
 pub fn remote_names_are_known()
-    ensures longest { IsRemoteName (repeat 64 (codes "a")) }
-    ensures longer { IsRemoteName (repeat 65 (codes "a")) → ⊥ }
-    ensures none { IsRemoteName [] → ⊥ }
-    ensures signs { IsRemoteName (codes "Az_-09") }
-    ensures dots { IsRemoteName (codes "a.b") → ⊥ }
-    ensures slashes { IsRemoteName (codes "a/b") → ⊥ }
-    ensures edges { IsRemoteName (codes "09AZaz_-") }
-    ensures beside { AllByRecursion (λ c. IsRemoteName (c ∷ []) → ⊥)
+    ensures longest { is_remote_name (repeat 64 (codes "a")) ≡ true }
+    ensures longer { is_remote_name (repeat 65 (codes "a")) ≡ false }
+    ensures none { is_remote_name [] ≡ false }
+    ensures signs { is_remote_name (codes "Az_-09") ≡ true }
+    ensures dots { is_remote_name (codes "a.b") ≡ false }
+    ensures slashes { is_remote_name (codes "a/b") ≡ false }
+    ensures edges { is_remote_name (codes "09AZaz_-") ≡ true }
+    ensures beside { AllByRecursion (λ c. is_remote_name (c ∷ []) ≡ false)
         (0 ∷ 10 ∷ 32 ∷ 44 ∷ 46 ∷ 47 ∷ 58 ∷ 64 ∷ 91 ∷ 94 ∷ 96 ∷ 123 ∷ 127 ∷ 128 ∷ 195 ∷ []) }
+{}
+
+/// The name of a remote is what its text is read as, so that no other name has this text; and a text
+/// that is no name is read as none.
+pub fn remote_names_read_back()
+    ensures read { (remote : RemoteNameValue) → remote_of remote.text ≡ Some remote }
+    ensures same { (one other : RemoteNameValue) → one.text ≡ other.text → one ≡ other }
+    ensures none { (text : List ℕ) → is_remote_name text ≡ false → remote_of text ≡ None }
 {}
 
 /// A head that was set reads back and all other state reads as before, except that a user file may
@@ -90,7 +100,7 @@ pub fn heads_and_user_are_a_map()
         → head_at (written files (ref_write folder (ref_place of id) head)) folder of other
         ≡ head_at files folder of other }
     ensures other_side { (files : Files) (folder : List ℕ) (of on : SideValue) (id other : Id)
-        (head : Name) → IsNamedSide of → IsNamedSide on → of ≢ on
+        (head : Name) → of ≢ on
         → head_at (written files (ref_write folder (ref_place of id) head)) folder on other
         ≡ head_at files folder on other }
     ensures user { (files : Files) (folder : List ℕ) (of : SideValue) (id : Id) (head : Name)
@@ -98,7 +108,7 @@ pub fn heads_and_user_are_a_map()
         → user_at (written files (ref_write folder (ref_place of id) head)) folder
         ≡ user_at files folder }
     ensures user_by_side { (files : Files) (folder : List ℕ) (of : SideValue) (id : Id)
-        (head : Name) → IsNamedSide of → of ≢ side.Identities
+        (head : Name) → of ≢ side.Identities
         → user_at (written files (ref_write folder (ref_place of id) head)) folder
         ≡ user_at files folder }
     ensures set_user { (files : Files) (folder : List ℕ) (id : Id) → IsId id

@@ -8,6 +8,7 @@ mod listing;
 mod operations;
 mod people;
 mod refs;
+mod remote;
 mod side;
 mod stop;
 mod user_file;
@@ -17,8 +18,8 @@ pub use clocks::{ClockFile, clock, clock_changes, see};
 pub use laws::{
     an_empty_folder_is_sound, clocks_read_as_they_were_seen, finders_are_determined,
     heads_and_user_are_a_map, ids_are_those_of_the_heads, objects_and_state_are_apart,
-    remote_names_are_known, sound_folders_hold_what_heads_lead_to, users_have_their_heads,
-    words_find_whole_ids,
+    remote_names_are_known, remote_names_read_back, sound_folders_hold_what_heads_lead_to,
+    users_have_their_heads, words_find_whole_ids,
 };
 pub use listing::all_refs;
 pub use operations::ops_of;
@@ -27,6 +28,7 @@ pub use refs::{
     EntityRef, damaged, entity, find, find_head, head, head_change, heads, ids, set_head, stands,
     whole,
 };
+pub use remote::RemoteName;
 pub use side::{HeadEntry, Side};
 pub use stop::{FindStop, Missed, ReadStop};
 pub use user_file::{set_user, user, user_change, user_head};

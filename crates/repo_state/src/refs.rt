@@ -10,7 +10,6 @@ ghost use Rattle.ref_store.specs.Refs.{Answers, Head};
 ghost use Rattle.ref_store.specs.Setting.{PutsRef, ref_write};
 ghost use Rattle.repo_state.specs.Answers.{DamagedRef, EntityAnswers, FindsRef, HasBadRef, HeadOf, HeadsOf, IsHeadAt, PutAnswers, Reads, WholeAnswers};
 ghost use Rattle.repo_state.specs.Finds.{FinderAnswers, head_finder, id_finder};
-ghost use Rattle.repo_state.specs.Sound.{IsNamedSide};
 ghost use Rattle.repo_state.specs.declared.stop.FindStop.TheVariants as stop;
 ghost use Rattle.repo_state.specs.declared.stop.Missed.TheVariants as missed;
 ghost use Rattle.repo_state.specs.Sides.{AreHeads, AreIds, IsBadRef, dir_of, has_ref, head_at, ref_place};
@@ -218,7 +217,7 @@ pub fn heads<S: Store>(
     Ok(List::from_vec(heads_of(alloc, folder, side, entries.as_slice())?))
 }
 
-/// The write that sets the head of an id on a side. The name of a remote's side is a remote's name.
+/// The write that sets the head of an id on a side.
 pub fn head_change(
     alloc: Global,
     folder: &Folder,
@@ -226,7 +225,6 @@ pub fn head_change(
     id: &Id,
     name: &Name,
 ) -> Result<Change, Memory>
-    requires { IsNamedSide side.now }
     ensures { IfOk result (λ change. change
         ≡ ref_write folder.now (ref_place side.now id.now) name.now) }
 {
@@ -234,7 +232,7 @@ pub fn head_change(
     ref_store::write_of(alloc, folder, place.as_str(), name)
 }
 
-/// Sets the head of an id on a side, by one write. The name of a remote's side is a remote's name.
+/// Sets the head of an id on a side, by one write.
 pub fn set_head<S: Store>(
     alloc: Global,
     disk: &mut S,
@@ -243,7 +241,6 @@ pub fn set_head<S: Store>(
     id: &Id,
     name: &Name,
 ) -> Result<(), StoreFault>
-    requires { IsNamedSide side.now }
     ensures answers { IsTrue S.tells
         → PutAnswers (ref_write folder.now (ref_place side.now id.now) name.now)
         (S.history disk.old) (S.history disk.new) result }

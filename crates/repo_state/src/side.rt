@@ -1,5 +1,6 @@
 //! The sides of a folder, each with refs of its own.
-use gb_text::{Id, Name, Text};
+use crate::remote::RemoteName;
+use gb_text::{Id, Name};
 
 /// A kind of entity, of the folder itself or as it was last seen at a remote. Ids of bugs and of
 /// identities are apart: one id may have a ref on each side.
@@ -8,9 +9,9 @@ pub enum Side {
     Bugs,
     Identities,
     /// The bugs of the remote with this name.
-    RemoteBugs(Text),
+    RemoteBugs(RemoteName),
     /// The identities of the remote with this name.
-    RemoteIdentities(Text),
+    RemoteIdentities(RemoteName),
 }
 
 /// The head of an entity.

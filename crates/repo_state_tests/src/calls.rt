@@ -1,11 +1,10 @@
 //! The calls of `repo_state` over a folder in memory, each in a function of its own.
-ghost use Rattle.repo_state.specs.Sound.{IsNamedSide};
-
 use fixtures::{Disk, id, name};
 use gb_store::StoreFault;
 use gb_text::{Id, List, Name};
 use identity::Person;
-use repo_state::{ClockFile, EntityRef, HeadEntry, ReadStop, Side};
+use repo_state::{ClockFile, EntityRef, HeadEntry, ReadStop, RemoteName, Side};
+use std::alloc::Global;
 use std::test::Fail;
 
 /// The digits of an id and of a head.
@@ -27,6 +26,11 @@ pub fn the_id() -> Result<Id, Fail> {
 
 pub fn the_name() -> Result<Name, Fail> {
     name(DIGITS)
+}
+
+/// The remote with this name.
+pub fn remote(alloc: Global, name: &str) -> Result<RemoteName, Fail> {
+    Ok(RemoteName::read(alloc, name)?.ok_or("a remote")?)
 }
 
 /// Whether an answer is that the file at this path is damaged.
@@ -67,9 +71,7 @@ pub fn stands(disk: &mut Disk, side: &Side, id: &Id) -> Result<bool, StoreFault>
     repo_state::stands(disk.alloc, &mut disk.store, &disk.folder, side, id)
 }
 
-pub fn set_head(disk: &mut Disk, side: &Side, id: &Id, head: &Name) -> Result<(), StoreFault>
-    requires { IsNamedSide side.now }
-{
+pub fn set_head(disk: &mut Disk, side: &Side, id: &Id, head: &Name) -> Result<(), StoreFault> {
     repo_state::set_head(disk.alloc, &mut disk.store, &disk.folder, side, id, head)
 }
 

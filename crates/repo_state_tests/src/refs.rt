@@ -1,14 +1,11 @@
 //! Refs that are set, read and listed, damaged ones, and stores that fail.
-ghost use Rattle.repo_state.specs.Sound.{IsNamedSide};
-
 use crate::calls::{
-    BUG_PATH, all_refs, has_failed, head, heads, ids, is_damaged, is_disk, set_head, stands,
-    the_id, the_name,
+    BUG_PATH, all_refs, has_failed, head, heads, ids, is_damaged, is_disk, remote, set_head,
+    stands, the_id, the_name,
 };
 use fixtures::{Disk, id};
 use gb_store::Store;
-use gb_text::Text;
-use repo_state::{EntityRef, HeadEntry, Side};
+use repo_state::{EntityRef, HeadEntry, RemoteName, Side};
 use std::test::Fail;
 
 #[test]
@@ -36,9 +33,7 @@ fn a_head_that_is_set_is_listed(rt: HostRuntime) -> Result<(), Fail> {
 }
 
 // Whether no ref of a side stands before it is set, and then it does.
-fn begins_to_stand(disk: &mut Disk, side: &Side) -> Result<bool, Fail>
-    requires { IsNamedSide side.now }
-{
+fn begins_to_stand(disk: &mut Disk, side: &Side) -> Result<bool, Fail> {
     let id = the_id()?;
     let before = stands(disk, side, &id)?;
     set_head(disk, side, &id, &the_name()?)?;
@@ -52,9 +47,9 @@ fn the_refs_of_each_side_stand_apart(rt: HostRuntime) -> Result<(), Fail> {
     let sides = [
         Side::Bugs,
         Side::Identities,
-        Side::RemoteBugs(Text::from_str(alloc, "origin")?),
-        Side::RemoteIdentities(Text::from_str(alloc, "origin")?),
-        Side::RemoteBugs(Text::from_str(alloc, "other")?),
+        Side::RemoteBugs(remote(alloc, "origin")?),
+        Side::RemoteIdentities(remote(alloc, "origin")?),
+        Side::RemoteBugs(remote(alloc, "other")?),
     ];
     for side in &sides {
         assert!(rt; begins_to_stand(&mut disk, side)?, "{side:?}");
@@ -69,8 +64,35 @@ const REMOTE_PATH: &str =
 fn the_place_of_a_remote_names_it(rt: HostRuntime) -> Result<(), Fail> {
     let mut disk = Disk::new(rt.alloc())?;
     disk.put(REMOTE_PATH, b"x")?;
-    let side = Side::RemoteIdentities(Text::from_str(rt.alloc(), "origin")?);
+    let side = Side::RemoteIdentities(remote(rt.alloc(), "origin")?);
     assert!(rt; is_damaged(head(&mut disk, &side, &the_id()?), REMOTE_PATH));
+    Ok(())
+}
+
+#[test]
+fn names_of_remotes_are_read(rt: HostRuntime) -> Result<(), Fail> {
+    for name in ["a", "origin", "Az_-09"] {
+        assert_eq!(rt; remote(rt.alloc(), name)?.as_str(), name);
+    }
+    Ok(())
+}
+
+#[test]
+fn texts_that_name_no_remote_are_none(rt: HostRuntime) -> Result<(), Fail> {
+    for text in ["", "..", "a/b", "a b", "a\n", "\u{e9}"] {
+        assert!(rt; RemoteName::read(rt.alloc(), text)?.is_none(), "{text:?}");
+    }
+    Ok(())
+}
+
+const LONGEST: &str = "0123456789012345678901234567890123456789012345678901234567890123";
+
+const LONGER: &str = "01234567890123456789012345678901234567890123456789012345678901234";
+
+#[test]
+fn names_of_remotes_have_at_most_64_bytes(rt: HostRuntime) -> Result<(), Fail> {
+    assert_eq!(rt; remote(rt.alloc(), LONGEST)?.as_str(), LONGEST);
+    assert!(rt; RemoteName::read(rt.alloc(), LONGER)?.is_none());
     Ok(())
 }
 

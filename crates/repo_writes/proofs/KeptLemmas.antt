@@ -1,5 +1,5 @@
 -- Nothing is lost by writes, of their own folder or of one apart from it; and folders apart stay sound.
-use Rattle.std.proofs.Common.{◌≡◌, ℕ, false, cond, Option, Some, None, List, [], ◌∷◌, Contains, refl, sym, ◌∙◌, ap, subst, arith}
+use Rattle.std.proofs.Common.{◌≡◌, ℕ, false, cond, Option, Some, None, List, [], ◌∷◌, refl, sym, ◌∙◌, ap, subst, arith}
 use Rattle.gb_text.specs.Digits.{IsId, id_of}
 use Rattle.gb_text.specs.Folder.{is_rooted, joined}
 use Rattle.gb_text.specs.LineEnd.{line_of}
@@ -14,9 +14,8 @@ use Rattle.gb_store.proofs.FrameLemmas.{written-apart}
 use Rattle.gb_store.proofs.MomentLemmas.{AllMoments-from_Wrote}
 use Rattle.object_store.specs.Growth.{OnlyGrew}
 use Rattle.object_store.specs.Held.{Objects, objects_in}
-use Rattle.object_batch.proofs.ClashLemmas.{Contains-first}
 use Rattle.commit_walk.proofs.ChainLemmas.{chain_below}
-use Rattle.commit_walk.specs.Below.{IsBelow as Below, head as at_top, parent}
+use Rattle.commit_walk.specs.Below.{IsBelow as Below}
 use Rattle.commit_walk.proofs.BelowLemmas.{IsBelow-stays, below_below}
 use Rattle.commit_walk.proofs.DistinctLemmas.{Contains-one}
 use Rattle.ref_store.specs.Refs.{Head, Ref, ref_of}
@@ -135,9 +134,9 @@ module _ (folder other : List ℕ) (apart : Overlap folder other → ⊥) (files
   keeps-part parts.Authors has = λ id is.
       subst (IsAuthoredBug folder (written files change) id) (sym (same_head side.Bugs id))
       (authored-grew folder files (written files change) same-grew (λ author _ stands. ap is_there (same_head side.Identities author) ∙ stands) id _ (has id is))
-  keeps-part parts.Tracking has = λ remote named id is. (
-    tracking (side.RemoteBugs remote) id (has remote named id is).0,
-    tracking (side.RemoteIdentities remote) id (has remote named id is).1,
+  keeps-part parts.Tracking has = λ remote id is. (
+    tracking (side.RemoteBugs remote) id (has remote id is).0,
+    tracking (side.RemoteIdentities remote) id (has remote id is).1,
   )
     where
       tracking : (of : Side) (id : Id) → IsSoundTracking (objects_in files folder) (head_at files folder of id)

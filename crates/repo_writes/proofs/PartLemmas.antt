@@ -23,10 +23,11 @@ use Rattle.identity.specs.Persons.{IsChain}
 use Rattle.repo_state.specs.Bugs.{IsLocal}
 use Rattle.repo_state.specs.Clocks.{clock_at, clock_write}
 use Rattle.repo_state.specs.Sides.{head_at}
-use Rattle.repo_state.specs.Sound.{HasPart, IsAuthoredBug, IsRemoteName, IsSoundBug, IsSoundIdentity, IsSoundTracking}
+use Rattle.repo_state.specs.Sound.{HasPart, IsAuthoredBug, IsSoundBug, IsSoundIdentity, IsSoundTracking}
 use Rattle.repo_state.specs.Sound as parts
 use Rattle.repo_state.specs.declared.clocks.ClockFile.{ClockFile}
 use Rattle.repo_state.specs.declared.clocks.ClockFile.TheVariants as file
+use Rattle.repo_state.specs.declared.remote.RemoteName.{RemoteName}
 use Rattle.repo_state.specs.declared.side.HeadEntry.{HeadEntry}
 use Rattle.repo_state.specs.declared.side.Side.TheVariants as side
 use Rattle.repo_state.proofs.KindLemmas.{clock_at-capped, clock_at-object_write, clock_at-other, clock_at-ref_write, clock_at-set, clock_at-user_write}
@@ -83,10 +84,10 @@ pub authors_kept : (folder : List ℕ) (files : Files) (id : Id) (head : Name) (
     → IsLocal files folder node.placed.pack.author
 authors_kept folder files id head node has is at below = let kept : IsAuthoredBug folder files id (Head head) = subst (IsAuthoredBug folder files id) at (has id is) in kept.1 node below
 
-pub tracking_kept : (folder remote : List ℕ) (files : Files) (id : Id) (head : Name) → HasPart parts.Tracking folder files → IsRemoteName remote → IsId id
+pub tracking_kept : (folder : List ℕ) (remote : RemoteName) (files : Files) (id : Id) (head : Name) → HasPart parts.Tracking folder files → IsId id
     → head_at files folder (side.RemoteBugs remote) id ≡ Head head → (commit : Commit) × (commit_at (objects_in files folder) head ≡ Some commit)
-tracking_kept folder remote files id head has named is at =
-    let both = has remote named id is in
+tracking_kept folder remote files id head has is at =
+    let both = has remote id is in
     subst (IsSoundTracking (objects_in files folder)) at both.0
 
 pub no_bad_ref : (folder : List ℕ) (files : Files) (id : Id) → IsId id

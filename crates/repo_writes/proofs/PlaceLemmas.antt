@@ -12,10 +12,10 @@ use Rattle.gb_text.specs.declared.id.Name.{Name}
 use Rattle.gb_text.proofs.AsciiLemmas.{encode_lower-digits}
 use Rattle.gb_store.specs.ObjectPath.{object_place}
 use Rattle.repo_state.specs.Sides.{dir_of}
-use Rattle.repo_state.specs.Sound.{IsNamedSide}
 use Rattle.repo_state.specs.declared.clocks.ClockFile.TheVariants as file
 use Rattle.repo_state.specs.declared.side.Side.{Side}
 use Rattle.repo_state.specs.declared.side.Side.TheVariants as side
+use Rattle.repo_state.proofs.RemoteLemmas.{bytes_of_remote}
 use Rattle.repo_writes.specs.Kinds.{IsPlace, a_clock_place, a_ref_place, an_object_place, is_dotless, the_user_place}
 
 -- where a rule that holds of no dot holds of each character, none is a dot
@@ -46,18 +46,18 @@ object_dotless name is =
     joined (codes "objects/" ++ take 2 digits ++ codes "/") (drop 2 digits)
     (joined (codes "objects/" ++ take 2 digits) (codes "/") (joined (codes "objects/") (take 2 digits) refl both.0) refl) both.1
 
-dir_dotless : (of : Side) → IsNamedSide of → is_dotless (dir_of of) ≡ true
-dir_dotless side.Bugs named = refl
-dir_dotless side.Identities named = refl
-dir_dotless (side.RemoteBugs remote) named =
-    joined (codes "refs/remotes/" ++ remote) (codes "/bugs") (joined (codes "refs/remotes/") remote refl (by_rule _ refl remote named.each)) refl
-dir_dotless (side.RemoteIdentities remote) named =
-    joined (codes "refs/remotes/" ++ remote) (codes "/identities") (joined (codes "refs/remotes/") remote refl (by_rule _ refl remote named.each)) refl
+dir_dotless : (of : Side) → is_dotless (dir_of of) ≡ true
+dir_dotless side.Bugs = refl
+dir_dotless side.Identities = refl
+dir_dotless (side.RemoteBugs remote) =
+    joined (codes "refs/remotes/" ++ remote.text) (codes "/bugs") (joined (codes "refs/remotes/") remote.text refl (by_rule _ refl remote.text (bytes_of_remote remote))) refl
+dir_dotless (side.RemoteIdentities remote) =
+    joined (codes "refs/remotes/" ++ remote.text) (codes "/identities") (joined (codes "refs/remotes/") remote.text refl (by_rule _ refl remote.text (bytes_of_remote remote))) refl
 
 -- the places of writes hold no dot
 pub place_dotless : (place : List ℕ) → IsPlace place → is_dotless place ≡ true
 place_dotless place (an_object_place name is) = object_dotless name is
-place_dotless place (a_ref_place of named id is) = joined (dir_of of) (47 ∷ encode_lower id.bytes) (dir_dotless of named) (digits_dotless id.bytes is.bytes)
+place_dotless place (a_ref_place of id is) = joined (dir_of of) (47 ∷ encode_lower id.bytes) (dir_dotless of) (digits_dotless id.bytes is.bytes)
 place_dotless place the_user_place = refl
 place_dotless place (a_clock_place file.BugsCreate) = refl
 place_dotless place (a_clock_place file.BugsEdit) = refl
@@ -65,10 +65,10 @@ place_dotless place (a_clock_place file.BugsEdit) = refl
 -- no place begins with a slash
 pub place_plain : (place : List ℕ) → IsPlace place → is_rooted place ≡ false
 place_plain place (an_object_place name is) = refl
-place_plain place (a_ref_place side.Bugs named id is) = refl
-place_plain place (a_ref_place side.Identities named id is) = refl
-place_plain place (a_ref_place (side.RemoteBugs remote) named id is) = refl
-place_plain place (a_ref_place (side.RemoteIdentities remote) named id is) = refl
+place_plain place (a_ref_place side.Bugs id is) = refl
+place_plain place (a_ref_place side.Identities id is) = refl
+place_plain place (a_ref_place (side.RemoteBugs remote) id is) = refl
+place_plain place (a_ref_place (side.RemoteIdentities remote) id is) = refl
 place_plain place the_user_place = refl
 place_plain place (a_clock_place file.BugsCreate) = refl
 place_plain place (a_clock_place file.BugsEdit) = refl

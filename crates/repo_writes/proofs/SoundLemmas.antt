@@ -29,7 +29,7 @@ use Rattle.object_store.proofs.GrowthLemmas.{object_stays, stays}
 use Rattle.lamport.specs.Clock.{seen_by}
 use Rattle.repo_state.specs.Clocks.{clock_at, clock_place, clock_write}
 use Rattle.repo_state.specs.Sides.{has_ref, head_at, is_there, ref_place}
-use Rattle.repo_state.specs.Sound.{AreWhole, HasKnownAuthors, HasNoFault, HasSoundBugs, HasSoundIdentities, HasSoundTracking, HasSoundUser, HasPart, HasWholeObjects, IsAuthoredBug, IsNamedSide, IsSound, IsSoundBug, IsSoundIdentity, IsSoundTracking, KeepsParts, Part}
+use Rattle.repo_state.specs.Sound.{AreWhole, HasKnownAuthors, HasNoFault, HasSoundBugs, HasSoundIdentities, HasSoundTracking, HasSoundUser, HasPart, HasWholeObjects, IsAuthoredBug, IsSound, IsSoundBug, IsSoundIdentity, IsSoundTracking, KeepsParts, Part}
 use Rattle.repo_state.specs.Sound as parts
 use Rattle.repo_state.specs.Users.{user_place, user_write}
 use Rattle.repo_state.specs.declared.side.Side.{Side}
@@ -161,7 +161,7 @@ module _ (folder : List ℕ) (files : Files) (change : Change) where
         | inr set ↦ inr (w, set.0, set.1)
       ])
       (λ w. inl (head_at-user_write files folder side.Identities id w.id))
-      (λ w. inl (head_at-other_side files folder side.Bugs side.Identities w.id id w.head tt tt (λ e. cc e)))
+      (λ w. inl (head_at-other_side files folder side.Bugs side.Identities w.id id w.head (λ e. cc e)))
       (λ w. inl (head_at-clock_write files folder side.Identities id w.which (clock_after w)))
 
   -- an identity's ref that stands still stands
@@ -180,7 +180,7 @@ module _ (folder : List ℕ) (files : Files) (change : Change) where
       (λ (c : Change). (head_at (written files c) folder side.Bugs id ≡ head_at files folder side.Bugs id)
       ⊎ ((w : IsBugHeadWrite folder files change) × (w.id ≡ id) × (head_at (written files c) folder side.Bugs id ≡ Head w.head)))
       (λ w. inl (head_at-object_write files folder w.puts.text side.Bugs id))
-      (λ w. inl (head_at-other_side files folder side.Identities side.Bugs w.id id w.head tt tt (λ e. cc e)))
+      (λ w. inl (head_at-other_side files folder side.Identities side.Bugs w.id id w.head (λ e. cc e)))
       (λ w. inl (head_at-user_write files folder side.Bugs id w.id))
       (λ w. elim (head_at-ref_write files folder side.Bugs w.id id w.head w.is_id is w.is_name) [
         | inl same ↦ inl same
@@ -189,13 +189,13 @@ module _ (folder : List ℕ) (files : Files) (change : Change) where
       (λ w. inl (head_at-clock_write files folder side.Bugs id w.which (clock_after w)))
 
   -- a tracking ref reads as before
-  other-after : (of : Side) (id : Id) → IsNamedSide of → side.Identities ≢ of → side.Bugs ≢ of → IsWrite folder files change
+  other-after : (of : Side) (id : Id) → side.Identities ≢ of → side.Bugs ≢ of → IsWrite folder files change
       → head_at (written files change) folder of id ≡ head_at files folder of id
-  other-after of id is_of other also = by_kind (λ (c : Change). head_at (written files c) folder of id ≡ head_at files folder of id)
+  other-after of id other also = by_kind (λ (c : Change). head_at (written files c) folder of id ≡ head_at files folder of id)
       (λ w. head_at-object_write files folder w.puts.text of id)
-      (λ w. head_at-other_side files folder side.Identities of w.id id w.head tt is_of other)
+      (λ w. head_at-other_side files folder side.Identities of w.id id w.head other)
       (λ w. head_at-user_write files folder of id w.id)
-      (λ w. head_at-other_side files folder side.Bugs of w.id id w.head tt is_of also)
+      (λ w. head_at-other_side files folder side.Bugs of w.id id w.head also)
       (λ w. head_at-clock_write files folder of id w.which (clock_after w))
 
   -- ---- the parts of a sound folder
@@ -236,15 +236,15 @@ module _ (folder : List ℕ) (files : Files) (change : Change) where
 
   -- its tracking refs stay sound
   keeps-tracking : HasSoundTracking folder files → IsWrite folder files change → HasSoundTracking folder (written files change)
-  keeps-tracking sound wrote = λ remote named id is.
-      let was = sound remote named id is in (
-        one (side.RemoteBugs remote) id named (λ e. cc e) (λ e. cc e) was.0,
-        one (side.RemoteIdentities remote) id named (λ e. cc e) (λ e. cc e) was.1,
+  keeps-tracking sound wrote = λ remote id is.
+      let was = sound remote id is in (
+        one (side.RemoteBugs remote) id (λ e. cc e) (λ e. cc e) was.0,
+        one (side.RemoteIdentities remote) id (λ e. cc e) (λ e. cc e) was.1,
       )
     where
-      one : (of : Side) (id : Id) → IsNamedSide of → side.Identities ≢ of → side.Bugs ≢ of
+      one : (of : Side) (id : Id) → side.Identities ≢ of → side.Bugs ≢ of
           → IsSoundTracking (objects_in files folder) (head_at files folder of id) → IsSoundTracking (objects_in (written files change) folder) (head_at (written files change) folder of id)
-      one of id is_of other also was = subst (IsSoundTracking (objects_in (written files change) folder)) (sym (other-after of id is_of other also wrote)) (tracking-grew _ _ (write-grew wrote) _ was)
+      one of id other also was = subst (IsSoundTracking (objects_in (written files change) folder)) (sym (other-after of id other also wrote)) (tracking-grew _ _ (write-grew wrote) _ was)
 
   -- its user file names a local identity still
   keeps-user : HasSoundUser folder files → IsWrite folder files change → HasSoundUser folder (written files change)
@@ -272,11 +272,11 @@ module _ (folder : List ℕ) (files : Files) (change : Change) where
       (object_place (object_name w.puts.text), an_object_place (object_name w.puts.text) (IsName-object_name w.puts.text), ap (λ (c : Change). c.path) w.puts.write)
   write-place (an_identity_head w) = (
     ref_place side.Identities w.id,
-    a_ref_place side.Identities tt w.id (IsId-chain (objects_in files folder) w.id w.head w.chain),
+    a_ref_place side.Identities w.id (IsId-chain (objects_in files folder) w.id w.head w.chain),
     ap (λ (c : Change). c.path) w.write,
   )
   write-place (a_user w) = (user_place, the_user_place, ap (λ (c : Change). c.path) w.write)
-  write-place (a_bug_head w) = (ref_place side.Bugs w.id, a_ref_place side.Bugs tt w.id w.is_id, ap (λ (c : Change). c.path) w.write)
+  write-place (a_bug_head w) = (ref_place side.Bugs w.id, a_ref_place side.Bugs w.id w.is_id, ap (λ (c : Change). c.path) w.write)
   write-place (a_clock w) = (clock_place w.which, a_clock_place w.which, ap (λ (c : Change). c.path) w.write)
 
 -- what is written by kinds keeps each part at each moment

@@ -22,7 +22,7 @@ use Rattle.dag_entity.specs.Nodes.{edit_at}
 use Rattle.repo_state.specs.Clocks.{clock_at, clock_place, clock_write}
 use Rattle.repo_state.specs.Places.{EntityPlaces, bug_places}
 use Rattle.repo_state.specs.Sides.{has_ref, head_at, ref_place}
-use Rattle.repo_state.specs.Sound.{AreAuthorsLocalOf, HasNoFaultOf, IsNamedSide}
+use Rattle.repo_state.specs.Sound.{AreAuthorsLocalOf, HasNoFaultOf}
 use Rattle.repo_state.specs.Users.{user_place, user_write}
 use Rattle.repo_state.specs.declared.clocks.ClockFile.{ClockFile}
 use Rattle.repo_state.specs.declared.clocks.ClockFile.TheVariants as file
@@ -117,7 +117,7 @@ pub data IsWrite (folder : List ℕ) (files : Files) (change : Change) : Type 0 
 -- the places of a folder at which is written: an object's, a ref's, the user's, a clock's
 pub data IsPlace : List ℕ → Type 0 where
   an_object_place : (name : Name) → IsName name → IsPlace (object_place name)
-  a_ref_place : (of : Side) → IsNamedSide of → (id : Id) → IsId id → IsPlace (ref_place of id)
+  a_ref_place : (of : Side) (id : Id) → IsId id → IsPlace (ref_place of id)
   the_user_place : IsPlace user_place
   a_clock_place : (which : ClockFile) → IsPlace (clock_place which)
 

@@ -24,9 +24,10 @@ ghost use Rattle.identity.specs.Persons.{IsChain};
 ghost use Rattle.repo_state.specs.Bugs.{IsLocal};
 ghost use Rattle.repo_state.specs.Clocks.{clock_at};
 ghost use Rattle.repo_state.specs.Sides.{head_at};
-ghost use Rattle.repo_state.specs.Sound.{HasPart, IsRemoteName};
+ghost use Rattle.repo_state.specs.Sound.{HasPart};
 ghost use Rattle.repo_state.specs.Sound as part;
 ghost use Rattle.repo_state.specs.declared.clocks.ClockFile.TheVariants as file;
+ghost use Rattle.repo_state.specs.declared.remote.RemoteName.{RemoteName as RemoteNameValue};
 ghost use Rattle.repo_state.specs.declared.side.HeadEntry.{HeadEntry as HeadEntryValue};
 ghost use Rattle.repo_state.specs.declared.side.Side.TheVariants as side;
 ghost use Rattle.repo_writes.specs.Kinds.{IsWrite};
@@ -75,8 +76,8 @@ pub fn parts_say_what_they_keep()
         → head_at files folder side.Bugs id ≡ Head head
         → IsNodeBelow bug_kind (objects_in files folder) (head ∷ []) node
         → IsLocal files folder node.placed.pack.author }
-    ensures tracking { (folder remote : List ℕ) (files : Files) (id : Id) (head : Name)
-        → HasPart part.Tracking folder files → IsRemoteName remote → IsId id
+    ensures tracking { (folder : List ℕ) (remote : RemoteNameValue) (files : Files) (id : Id)
+        (head : Name) → HasPart part.Tracking folder files → IsId id
         → head_at files folder (side.RemoteBugs remote) id ≡ Head head
         → (commit : CommitValue) × (commit_at (objects_in files folder) head ≡ Some commit) }
     ensures refs { (folder : List ℕ) (files : Files) (id : Id) → IsId id
