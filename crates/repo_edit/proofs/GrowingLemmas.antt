@@ -1,29 +1,14 @@
 -- What is read of a bug is what an edit adds to.
 use Rattle.std.proofs.Common.{◌≡◌, ℕ, List, [], ◌∷◌, Err, inl, inr, refl, sym, ◌∙◌, ap, subst}
-use Rattle.gb_text.specs.declared.id.Id.{Id}
-use Rattle.gb_store.specs.Files.{Files}
-use Rattle.object_store.specs.Held.{objects_in}
-use Rattle.bug_ops.specs.Kind.{bug_kind}
-use Rattle.bug_ops.specs.declared.op.BugOp.{BugOp}
+use Rattle.repo_steps.proofs.Names.{Id, Files, objects_in, bug_kind, BugOp, ops_in, Entity, IsBug, clock_at, bug_finder, BadUser, NoUser, User, user_at, HeadEntry}
+use Rattle.repo_edit.proofs.Names.{Stop, BugRefused, FindsBug, FinderAnswers, FindStop, ReadStop, stop_of_find, stop_of_read, no_entry, AuthorAnswers, GrowingAnswers, Grows}
 use Rattle.snapshot.specs.LastMention.{IsBugList}
-use Rattle.dag_entity.specs.Entities.{KeepsRules, ops_in}
-use Rattle.dag_entity.specs.declared.entity.Entity.{Entity}
-use Rattle.repo_state.specs.Bugs.{BugRefused, FindsBug, IsBug}
-use Rattle.repo_state.specs.Clocks.{clock_at}
-use Rattle.repo_state.specs.Finds.{FinderAnswers, bug_finder}
-use Rattle.repo_state.specs.Users.{BadUser, NoUser, User, user_at}
+use Rattle.dag_entity.specs.Entities.{KeepsRules}
 use Rattle.repo_steps.specs.declared.refusal.Refusal.TheVariants as refusal
-use Rattle.repo_steps.specs.declared.refusal.Stop.{Stop}
 use Rattle.repo_steps.specs.declared.refusal.Stop.TheVariants as stop
 use Rattle.repo_state.specs.declared.clocks.ClockFile.TheVariants as file
-use Rattle.repo_state.specs.declared.side.HeadEntry.{HeadEntry}
-use Rattle.repo_state.specs.declared.stop.FindStop.{FindStop}
 use Rattle.repo_state.specs.declared.stop.FindStop.TheVariants as find
-use Rattle.repo_state.specs.declared.stop.ReadStop.{ReadStop}
 use Rattle.repo_state.specs.declared.stop.ReadStop.TheVariants as read
-use Rattle.repo_steps.specs.Stops.{stop_of_find, stop_of_read}
-use Rattle.repo_steps.proofs.PickLemmas.{no_entry}
-use Rattle.repo_edit.specs.Growing.{AuthorAnswers, GrowingAnswers, Grows}
 use Rattle.repo_state.proofs.BugLemmas.{edit_within}
 use Rattle.repo_state.proofs.BugListLemmas.{entity_is_bug_list}
 

@@ -2,13 +2,11 @@
 use Rattle.std.proofs.Common.{ℕ, List, [], ◌∷◌}
 use Rattle.std.proofs.Math.Logic.{∥∥₁_elim}
 use Rattle.std.proofs.Props.{props}
-use Rattle.gb_text.specs.declared.id.Name.{Name}
+use Rattle.repo_steps.proofs.Names.{Name, bug_kind, BugOp}
 use Rattle.op_kind.specs.Pairs.{EachPairUtf8}
 use Rattle.op_kind.specs.Written.{EachUtf8}
 use Rattle.op_kind.specs.declared.place.Pair.{Pair}
 use Rattle.bug_ops.specs.BugForms.{AreNames}
-use Rattle.bug_ops.specs.Kind.{bug_kind}
-use Rattle.bug_ops.specs.declared.op.BugOp.{BugOp}
 use Rattle.bug_ops.specs.declared.op.BugOp.TheVariants.{AddComment, Create, EditComment, LabelChange, NoOp, SetMetadata, SetStatus, SetTitle}
 
 texts_prop : (ts : List (List ℕ)) → IsProp (EachUtf8 ts)

@@ -5,56 +5,21 @@ use Rattle.std.specs.List.{list_any}
 use Rattle.std.specs.Option.{option_map}
 use Rattle.std.specs.declared.alloc.Global.{Global}
 use Rattle.std.proofs.lemmas.List.{append_assoc}
-use Rattle.gb_text.specs.declared.decimal.TheConstants.{GREATEST_TIME}
-use Rattle.gb_text.specs.declared.id.Id.{Id}
-use Rattle.gb_store.specs.Files.{Files, History, files_of}
-use Rattle.gb_store.specs.declared.store.Change.{Change}
-use Rattle.object_store.specs.Held.{objects_in}
-use Rattle.object_store.specs.Texts.{IsShort}
-use Rattle.object_store.specs.declared.fault.PutFault.{PutFault}
+use Rattle.repo_steps.proofs.Names.{GREATEST_TIME, Id, Files, History, files_of, Change, objects_in, IsShort, CannotHave, HasLong, MayBePut, missing_writes, ref_write, MOST_COMMITS, edit_time_of, root_time_of, bug_kind, BugOp, snapshot_of, ops_in, head_edit, clock_at, see_writes, has_ref, ref_place, of_no_change, BadUser, NoUser, User, user_at, HeadEntry, addition_objects, addition_writes, bug_says, clock_room, commit_room, edit_adds, later_addition, later_by, new_operation, op_ids, root_addition, some_id, edit_op, op_id, AllPass, Check, FirstFails, names, sizes, Picked, BugEdit}
+use Rattle.repo_edit.proofs.Names.{Env, Refusal, Stop, Addition, PutFault, stop_of_edit, stop_of_put, Plans, begun_bug, OpAnswers, noop_op, Plan, AddsHead, no_pick, AuthorAnswers, EditPlans, GrowingAnswers, GrownPlans, Grows, has_id, Growing}
 use Rattle.object_store.specs.declared.fault.PutFault.TheVariants as fault
-use Rattle.object_batch.specs.Batches.{CannotHave, HasLong, MayBePut, missing_writes}
-use Rattle.ref_store.specs.Setting.{ref_write}
-use Rattle.commit_walk.specs.declared.below.TheConstants.{MOST_COMMITS}
-use Rattle.lamport.specs.Clock.{edit_time_of, root_time_of}
 use Rattle.op_pack.specs.declared.pack.Pack.{Pack}
-use Rattle.bug_ops.specs.Kind.{bug_kind}
-use Rattle.bug_ops.specs.declared.op.BugOp.{BugOp}
 use Rattle.bug_ops.specs.declared.snapshot.Snapshot.{Snapshot}
-use Rattle.snapshot.specs.LastMention.{snapshot_of}
 use Rattle.dag_entity.specs.Appending.{AppendPlanAnswers, appended_name, appended_objects}
-use Rattle.dag_entity.specs.Entities.{ops_in}
 use Rattle.dag_entity.specs.declared.appending.CommitPlan.{CommitPlan}
-use Rattle.repo_state.proofs.BugLemmas.{head_edit}
-use Rattle.repo_state.specs.Clocks.{clock_at, see_writes}
-use Rattle.repo_state.specs.Sides.{has_ref, ref_place}
-use Rattle.repo_steps.specs.Stops.{of_no_change, stop_of_edit, stop_of_put}
-use Rattle.repo_state.specs.Users.{BadUser, NoUser, User, user_at}
 use Rattle.repo_state.specs.declared.clocks.ClockFile.TheVariants as file
-use Rattle.repo_steps.specs.declared.env.Env.{Env}
-use Rattle.repo_steps.specs.declared.refusal.Refusal.{Refusal}
 use Rattle.repo_steps.specs.declared.refusal.Refusal.TheVariants as refusal
-use Rattle.repo_steps.specs.declared.refusal.Stop.{Stop}
 use Rattle.repo_steps.specs.declared.refusal.Stop.TheVariants as stop
-use Rattle.repo_state.specs.declared.side.HeadEntry.{HeadEntry}
 use Rattle.repo_state.specs.declared.side.Side.TheVariants as side
-use Rattle.repo_steps.specs.Answers.{Plans}
-use Rattle.repo_steps.specs.BugDoings.{addition_objects, addition_writes, begun_bug, bug_says, clock_room, commit_room, edit_adds, later_addition, later_by, new_operation, one_op_pack, op_ids, root_addition, some_id}
-use Rattle.bug_edits.specs.Answers.{OpAnswers}
-use Rattle.bug_edits.specs.EditTable.{edit_op}
-use Rattle.bug_edits.specs.NewOps.{noop_op, op_id}
+use Rattle.repo_steps.specs.BugDoings.{one_op_pack}
 use Rattle.bug_edits.specs.declared.edit.EditStop.{EditStop}
 use Rattle.bug_edits.specs.declared.edit.EditStop.TheVariants as unmade
-use Rattle.repo_steps.specs.Checks.{Check, FirstFails}
-use Rattle.repo_steps.specs.Doing.{names, sizes}
-use Rattle.repo_steps.specs.declared.plan.Addition.{Addition}
-use Rattle.repo_steps.specs.Picked.{Picked}
-use Rattle.bug_edits.specs.declared.edit.BugEdit.{BugEdit}
-use Rattle.repo_steps.specs.declared.plan.Plan.{Plan}
-use Rattle.repo_edit.specs.Adding.{AddsHead}
-use Rattle.repo_steps.proofs.PickLemmas.{no_pick}
-use Rattle.repo_edit.specs.Growing.{AuthorAnswers, EditPlans, GrowingAnswers, GrownPlans, Grows, RoomAnswers, grown_checks, grown_objects, growing_checks, has_id}
-use Rattle.repo_edit.specs.declared.growing.Growing.{Growing}
+use Rattle.repo_edit.specs.Growing.{RoomAnswers, grown_checks, grown_objects, growing_checks}
 use Rattle.repo_edit.proofs.RepeatLemmas.{repeats}
 
 -- the first of some checks that fails is the first of more
@@ -216,9 +181,14 @@ module _ (env : Env) (edit : BugEdit) (word : List ℕ) (old : History) where
         repeats_ops : Contains (op_ids (ops_in bug_kind grows.bug.entity.packs)) (op_id op) → Contains (op_ids g.ops) (op_id op)
         repeats_ops = subst (λ (ops : List BugOp). Contains (op_ids ops) (op_id op)) grows.are_ops
 
-        -- what is refused of the commit
-        commit_refused : (r : Refusal) → FirstFails (grown_checks env g clock op old) r
-            → FirstFails (sizes (addition_objects env.moment.now (addition grows.bug.bug op)) ∷ new_operation env.folder files word op ∷ names env.folder (addition_objects env.moment.now (addition grows.bug.bug op)) old ∷ []) r
+        -- what is checked of the commit
+        abbrev commit_checks : List Check
+        commit_checks = let objects = addition_objects env.moment.now (addition grows.bug.bug op) in sizes objects ∷ new_operation env.folder files word op ∷ names env.folder objects old ∷ []
+
+        commit_passes : AllPass (grown_checks env g clock op old) → AllPass commit_checks
+        commit_passes h = (objects_are (All IsShort) h.0, ((grows.bug, λ stands. h.1.0 (repeats_ops stands)), (objects_are (λ ts. MayBePut env.folder ts old) h.1.1.0, tt)))
+
+        commit_refused : (r : Refusal) → FirstFails (grown_checks env g clock op old) r → FirstFails commit_checks r
         commit_refused r (inl long) = inl (objects_are HasLong long.0, long.1)
         commit_refused r (inr (short, inl repeated)) = inr (objects_are (All IsShort) short, inl (grows.bug, repeats_bug repeated.0, repeated.1))
         commit_refused r (inr (short, inr (fresh, inl (name, cannot, is)))) =
@@ -233,28 +203,7 @@ module _ (env : Env) (edit : BugEdit) (word : List ℕ) (old : History) where
         edit_planned (Ok plan) h = (
           picked op,
           (
-            (
-              not_bad,
-              (
-                some,
-                (
-                  grows.bug.finds,
-                  (
-                    (grows.bug.entity, grows.bug.is),
-                    (
-                      adds,
-                      (
-                        (grows.bug, clock_left),
-                        (
-                          (grows.bug, room_left),
-                          (objects_are (All IsShort) h.0.0, ((grows.bug, λ stands. h.0.1.0 (repeats_ops stands)), (objects_are (λ ts. MayBePut env.folder ts old) h.0.1.1.0, tt))),
-                        ),
-                      ),
-                    ),
-                  ),
-                ),
-              ),
-            ),
+            (not_bad, (some, (grows.bug.finds, ((grows.bug.entity, grows.bug.is), (adds, ((grows.bug, clock_left), ((grows.bug, room_left), commit_passes h.0))))))),
             h.1
                 ∙ ap (λ (seen : ℕ). missing_writes env.folder (grown_objects env g clock op) files
                 ++ ref_write env.folder (ref_place side.Bugs g.head.id) (appended_name bug_kind (g.head.name ∷ []) (one_op_pack g.author clock None op) env.moment.now)

@@ -2,50 +2,19 @@
 use Rattle.std.proofs.Common.{◌≡◌, ℕ, Bool, true, false, List, [], ◌∷◌, ◌++◌, All, reverse, Vec, Option, Some, None, Result, Ok, Err, inl, inr, refl, sym, ◌∙◌, ap, subst}
 use Rattle.std.specs.Option.{option_map}
 use Rattle.std.specs.declared.alloc.Global.{Global}
-use Rattle.gb_text.specs.declared.id.Id.{Id}
-use Rattle.gb_text.specs.declared.id.Name.{Name}
-use Rattle.gb_text.specs.declared.ruled.Line.{Line}
-use Rattle.gb_text.specs.declared.ruled.Title.{Title}
-use Rattle.gb_store.specs.Files.{History, files_of}
-use Rattle.gb_store.specs.Moments.{WroteSome}
-use Rattle.gb_store.specs.declared.store.Change.{Change}
-use Rattle.object_store.specs.declared.fault.PutFault.{PutFault}
+use Rattle.repo_steps.proofs.Names.{Id, Name, Line, Title, History, files_of, WroteSome, Change, CannotHave, HasLong, MayBePut, missing_writes, IsShort, ref_write, objects_in, IsChain, person_finder, has_ref, ref_place, BadUser, NoUser, UserFound, user_at, user_entry, HeadEntry, DoingAnswers, IsStopped, FirstFails, Doing, names, sizes, EditAnswers, HasUser, edited_user, first_user_write, new_made, new_objects, new_text, new_user, set_user, user_writes, version_writes}
+use Rattle.repo_edit.proofs.Names.{Env, Refusal, Stop, PutFault, VersionPlan, FindsUser, noop_op, FinderAnswers, stop_of_find, stop_of_put, stop_of_read, FindStop, ReadStop, Plans, UserSet, Plan, no_entry, no_pick, SetPlans, AddsHead}
 use Rattle.object_store.specs.declared.fault.PutFault.TheVariants as fault
-use Rattle.object_batch.specs.Batches.{CannotHave, HasLong, MayBePut, missing_writes}
-use Rattle.object_store.specs.Texts.{IsShort}
-use Rattle.ref_store.specs.Setting.{ref_write}
-use Rattle.object_store.specs.Held.{objects_in}
-use Rattle.identity.specs.Persons.{IsChain}
 use Rattle.identity.specs.Making.{PlanAnswers, version_plan}
-use Rattle.identity.specs.declared.making.VersionPlan.{VersionPlan}
-use Rattle.repo_state.specs.Answers.{FindsUser, IsBadUser, IsUser, Reads}
-use Rattle.bug_edits.specs.NewOps.{noop_op}
-use Rattle.repo_state.specs.Finds.{FinderAnswers, person_finder}
-use Rattle.repo_state.specs.Sides.{has_ref, ref_place}
-use Rattle.repo_steps.specs.Stops.{stop_of_find, stop_of_put, stop_of_read}
-use Rattle.repo_state.specs.Users.{BadUser, NoUser, UserFound, entry_by, entry_of_user, user_at, user_entry}
-use Rattle.repo_steps.specs.declared.env.Env.{Env}
-use Rattle.repo_steps.specs.declared.refusal.Refusal.{Refusal}
+use Rattle.repo_state.specs.Answers.{IsBadUser, IsUser, Reads}
+use Rattle.repo_state.specs.Users.{entry_by, entry_of_user}
 use Rattle.repo_steps.specs.declared.refusal.Refusal.TheVariants as refusal
-use Rattle.repo_steps.specs.declared.refusal.Stop.{Stop}
 use Rattle.repo_steps.specs.declared.refusal.Stop.TheVariants as stop
-use Rattle.repo_state.specs.declared.side.HeadEntry.{HeadEntry}
 use Rattle.repo_state.specs.declared.side.Side.TheVariants as side
-use Rattle.repo_state.specs.declared.stop.FindStop.{FindStop}
 use Rattle.repo_state.specs.declared.stop.FindStop.TheVariants as find
-use Rattle.repo_state.specs.declared.stop.ReadStop.{ReadStop}
 use Rattle.repo_state.specs.declared.stop.ReadStop.TheVariants as read
-use Rattle.repo_steps.specs.Answers.{DoingAnswers, IsStopped, Plans}
-use Rattle.repo_steps.specs.Checks.{FirstFails}
-use Rattle.repo_steps.specs.Doing.{Doing, names, sizes}
-use Rattle.repo_steps.specs.Doings.{EditAnswers}
-use Rattle.repo_steps.specs.PeopleDoings.{HasUser, edited_user, first_user_write, new_made, new_objects, new_text, new_user, set_user, user_writes, version_writes}
-use Rattle.words.specs.declared.edit.Edit.TheVariants.{UserSet}
-use Rattle.repo_steps.specs.declared.plan.Plan.{Plan}
-use Rattle.repo_steps.proofs.PickLemmas.{no_entry, no_pick}
 use Rattle.repo_edit.specs.Carrying.{Carries}
-use Rattle.repo_edit.specs.Growing.{SetPlans}
-use Rattle.repo_edit.specs.Adding.{AddsHead, first_write}
+use Rattle.repo_edit.specs.Adding.{first_write}
 use Rattle.repo_edit.specs.Room.{HasRoom}
 
 -- ---- what is answered of a plan

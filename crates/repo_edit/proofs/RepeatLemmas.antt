@@ -3,12 +3,8 @@ use Rattle.std.proofs.Common.{◌≡◌, ◌↔◌, ◌||◌, ℕ, Bool, true, f
 use Rattle.std.specs.List.{list_any}
 use Rattle.std.specs.Str.{bytes_eq}
 use Rattle.std.proofs.lemmas.Slice.Eq.{bytes_eq-Decides}
-use Rattle.gb_text.specs.declared.id.Id.{Id}
-use Rattle.bug_ops.specs.Kind.{bug_kind}
-use Rattle.bug_ops.specs.declared.op.BugOp.{BugOp}
-use Rattle.object_batch.proofs.ClashLemmas.{Contains-cons_cases, Contains-later}
-use Rattle.repo_steps.specs.BugDoings.{op_ids}
-use Rattle.repo_edit.specs.Growing.{has_id}
+use Rattle.repo_steps.proofs.Names.{Id, bug_kind, BugOp, Contains-cons_cases, Contains-later, op_ids}
+use Rattle.repo_edit.proofs.Names.{has_id}
 
 module _ (id : Id) where
   abbrev id_in : BugOp → Id

@@ -4,49 +4,17 @@ use Rattle.std.specs.Prelude.{nat_lt}
 use Rattle.std.specs.List.{AllByRecursion}
 use Rattle.std.proofs.lemmas.Bool.{cases_lt, lt-ltb}
 use Rattle.std.proofs.lemmas.List.{reverse-append}
-use Rattle.hex.specs.Hex.{encode_lower}
-use Rattle.gb_text.specs.Digits.{IsId, IsName}
-use Rattle.gb_text.specs.Folder.{joined}
-use Rattle.gb_text.specs.declared.id.Id.{Id}
-use Rattle.gb_text.specs.declared.id.Name.{Name}
-use Rattle.gb_store.specs.Files.{Files, History, files_of}
-use Rattle.gb_store.specs.Moments.{Wrote}
-use Rattle.gb_store.specs.declared.store.Change.{Change}
-use Rattle.gb_store.proofs.MomentLemmas.{Wrote-none, Wrote-one, Wrote-then, Wrote-wider}
-use Rattle.git_object.proofs.NameLaws.{IsName-object_name}
+use Rattle.repo_steps.proofs.Names.{encode_lower, IsId, joined, Id, Name, Files, History, files_of, Wrote, Change, Wrote-none, Wrote-one, Wrote-then, Wrote-wider, IsName-object_name, objects_after, objects_in, MayBePut, missing_writes, PutsAfterNeeds, Head, ref_write, set_ref_reads, written-other, seen_by, bug_kind, bug_keeps_laws, BugOp, AreHeld, CanBeRead, MayBeAppended, appended_node, IsEntity, Entity, Loaded, EachIsLocal, IsBug, clock_at, clock_in, clock_place, clock_write, see_writes, head_at, ref_place, ClockFile, Env, HeadEntry, Side, IsBug-over, clock_at-capped, objects-ref_write, clock-not_object, ref-not_clock, ref-not_object, addition_head, addition_objects, IsWrite, an_object, ref_to, OnlyChanges, Addition}
+use Rattle.gb_text.specs.Digits.{IsName}
 use Rattle.object_store.specs.Growth.{OnlyGrew}
-use Rattle.object_store.specs.Held.{objects_after, objects_in}
-use Rattle.object_batch.specs.Batches.{MayBePut, missing_writes}
-use Rattle.object_batch.specs.Needs.{PutsAfterNeeds}
 use Rattle.object_batch.proofs.PlanLemmas.{batch_grew, batch_held}
-use Rattle.ref_store.specs.Refs.{Head}
-use Rattle.ref_store.specs.Setting.{ref_write}
-use Rattle.ref_store.proofs.MapLemmas.{set_ref_reads, written-other}
-use Rattle.lamport.specs.Clock.{seen_by}
-use Rattle.bug_ops.specs.Kind.{bug_kind}
-use Rattle.bug_ops.specs.Laws.{bug_keeps_laws}
-use Rattle.bug_ops.specs.declared.op.BugOp.{BugOp}
-use Rattle.dag_entity.specs.Appending.{AreHeld, CanBeRead, MayBeAppended, after_append, appended_node, commit_object}
-use Rattle.dag_entity.specs.Entities.{IsEntity}
+use Rattle.dag_entity.specs.Appending.{after_append, commit_object}
 use Rattle.dag_entity.specs.Nodes.{IsNode}
-use Rattle.dag_entity.specs.declared.entity.Entity.{Entity}
-use Rattle.dag_entity.specs.declared.entity.Loaded.{Loaded}
 use Rattle.dag_entity.proofs.AppendedLemmas.{append_needed, node_stands, pack_reads, parent_names}
-use Rattle.repo_state.specs.Bugs.{EachIsLocal, IsBug}
-use Rattle.repo_state.specs.Clocks.{clock_at, clock_in, clock_place, clock_write, see_writes}
-use Rattle.repo_state.specs.Sides.{head_at, ref_place}
-use Rattle.repo_state.specs.declared.clocks.ClockFile.{ClockFile}
-use Rattle.repo_steps.specs.declared.env.Env.{Env}
-use Rattle.repo_state.specs.declared.side.HeadEntry.{HeadEntry}
-use Rattle.repo_state.specs.declared.side.Side.{Side}
 use Rattle.repo_state.specs.declared.side.Side.TheVariants as side
-use Rattle.repo_state.proofs.BugSoundLemmas.{EachIsLocal-over, IsBug-over, bug_authors_local, bug_has_no_fault}
-use Rattle.repo_state.proofs.KindLemmas.{clock_at-capped, clock_at-other, clock_at-set, head_at-clock_write, head_at-other_side, objects-clock_write, objects-ref_write}
-use Rattle.repo_state.proofs.PlaceLemmas.{clock-not_object, ref-not_clock, ref-not_object}
-use Rattle.repo_steps.specs.BugDoings.{addition_head, addition_objects}
-use Rattle.repo_writes.specs.Kinds.{IsClockOf, IsUnder, IsWrite, a_bug_head, a_clock, an_object, ref_to}
-use Rattle.repo_steps.specs.Steps.{OnlyChanges}
-use Rattle.repo_steps.specs.declared.plan.Addition.{Addition}
+use Rattle.repo_state.proofs.BugSoundLemmas.{EachIsLocal-over, bug_authors_local, bug_has_no_fault}
+use Rattle.repo_state.proofs.KindLemmas.{clock_at-other, clock_at-set, head_at-clock_write, head_at-other_side, objects-clock_write}
+use Rattle.repo_writes.specs.Kinds.{IsClockOf, IsUnder, a_bug_head, a_clock}
 use Rattle.repo_steps.proofs.OnlyLemmas.{AddsObject, OnlyChanges-objects, OnlyChanges-put, OnlyChanges-then, head_kept}
 
 -- a clock reads the same where only objects were added
@@ -166,7 +134,7 @@ module _ (env : Env) (old : History) (a : Addition) (may : MayBeAppended bug_kin
 
   -- the refs of identities are as before
   pub set_identities : (id : Id) → head_at (files_of set) env.folder side.Identities id ≡ head_at (files_of put) env.folder side.Identities id
-  set_identities id = head_at-other_side (files_of put) env.folder side.Bugs side.Identities a.bug id top tt tt (λ e. cc e)
+  set_identities id = head_at-other_side (files_of put) env.folder side.Bugs side.Identities a.bug id top (λ e. cc e)
 
   -- and the clocks
   pub set_clock : (which : ClockFile) → clock_at (files_of set) env.folder which ≡ clock_at (files_of old) env.folder which

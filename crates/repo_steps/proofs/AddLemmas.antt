@@ -2,38 +2,16 @@
 use Rattle.std.proofs.Common.{◌≡◌, ◌<◌, ℕ, List, [], ◌∷◌, ◌++◌, length, reverse, Option, Some, None, inr, refl, sym, ◌∙◌, ap, subst, arith}
 use Rattle.std.proofs.lemmas.List.{reverse-append}
 use Rattle.std.proofs.lemmas.Str.{IsUtf8-from_is_utf8}
-use Rattle.hex.specs.Hex.{encode_lower}
-use Rattle.gb_text.specs.declared.id.Id.{Id}
-use Rattle.gb_text.specs.declared.id.Name.{Name}
-use Rattle.gb_text.specs.declared.ruled.Line.{Line}
-use Rattle.gb_text.specs.declared.ruled.Title.{Title}
-use Rattle.gb_store.specs.Files.{History, files_of}
-use Rattle.gb_store.specs.Moments.{Wrote}
-use Rattle.gb_store.specs.declared.store.Change.{Change}
-use Rattle.gb_store.proofs.MomentLemmas.{Wrote-one, Wrote-then, Wrote-wider}
-use Rattle.object_store.specs.Held.{Objects, objects_in}
-use Rattle.object_batch.specs.Batches.{MayBePut, missing_writes}
-use Rattle.object_batch.specs.Needs.{PutsAfterNeeds}
-use Rattle.git_object.proofs.NameLaws.{IsName-object_name}
-use Rattle.ref_store.specs.Refs.{Head}
-use Rattle.ref_store.specs.Setting.{ref_write}
-use Rattle.ref_store.proofs.MapLemmas.{set_ref_reads}
+use Rattle.repo_steps.proofs.Names.{encode_lower, Id, Name, Line, Title, History, files_of, Wrote, Change, Wrote-one, Wrote-then, Wrote-wider, Objects, objects_in, MayBePut, missing_writes, PutsAfterNeeds, IsName-object_name, Head, ref_write, set_ref_reads, IsChain, head_at, ref_place, Env, objects-ref_write, ref-not_object, new_made, new_objects, new_text, version_writes, IsWrite, an_object, ref_to, OnlyChanges, new_version}
 use Rattle.identity.specs.Extending.{Extends}
 use Rattle.identity.specs.Making.{HasParent, after_version, commit_object}
-use Rattle.identity.specs.Persons.{IsChain}
 use Rattle.identity.specs.Version.{MayBeWritten, version_id}
 use Rattle.identity.specs.declared.making.Made.{Made}
 use Rattle.identity.proofs.MadeLemmas.{head_held, made_below, made_extends, made_needed}
-use Rattle.repo_state.specs.Sides.{head_at, ref_place}
-use Rattle.repo_steps.specs.declared.env.Env.{Env}
 use Rattle.repo_state.specs.declared.side.Side.TheVariants as side
-use Rattle.repo_state.proofs.KindLemmas.{objects-ref_write}
-use Rattle.repo_state.proofs.PlaceLemmas.{ref-not_object}
 use Rattle.bug_edits.specs.NewOps.{nonce_from}
 use Rattle.bug_edits.proofs.RuleLemmas.{is_within}
-use Rattle.repo_steps.specs.PeopleDoings.{new_made, new_objects, new_text, version_writes}
-use Rattle.repo_writes.specs.Kinds.{IsBelow, IsWrite, an_identity_head, an_object, ref_to}
-use Rattle.repo_steps.specs.Steps.{OnlyChanges, new_version}
+use Rattle.repo_writes.specs.Kinds.{IsBelow, an_identity_head}
 use Rattle.repo_steps.proofs.OnlyLemmas.{AddsObject, OnlyChanges-objects, OnlyChanges-put, OnlyChanges-then, head_kept}
 
 -- a version begins the identity, or goes on with its chain from the head, which has room for one more

@@ -1,72 +1,27 @@
 -- What a command on bugs that nothing keeps from being done leaves: its writes are of their kinds, and make its step.
-use Rattle.std.proofs.Common.{◌≡◌, ◌<◌, ◌≤◌, ◌^◌, ℕ, false, true, List, [], ◌∷◌, ◌++◌, length, reverse, Contains, Option, Some, None, Ok, option_and_then, inl, inr, refl, sym, ◌∙◌, ap, subst, append_assoc, arith}
+use Rattle.std.proofs.Common.{◌≡◌, ◌≤◌, ℕ, false, true, List, [], ◌∷◌, ◌++◌, length, reverse, Contains, Option, Some, None, Ok, option_and_then, inl, inr, refl, sym, ◌∙◌, ap, subst, append_assoc, arith}
 use Rattle.std.proofs.lemmas.List.{map-append}
 use Rattle.std.proofs.lemmas.List.Elements.{Contains-append_left, Contains-append_right, Contains-get_or}
 use Rattle.std.proofs.lemmas.Option.{same_Some}
-use Rattle.gb_text.specs.Digits.{IsId}
-use Rattle.gb_text.specs.declared.decimal.TheConstants.{GREATEST_TIME}
-use Rattle.gb_text.specs.declared.id.Id.{Id}
-use Rattle.gb_text.specs.declared.id.Name.{Name}
-use Rattle.gb_store.specs.Files.{Files, History, files_of}
-use Rattle.gb_store.specs.Moments.{Wrote}
-use Rattle.gb_store.specs.declared.store.Change.{Change}
-use Rattle.gb_store.proofs.MomentLemmas.{Wrote-then}
-use Rattle.object_store.specs.Held.{Objects, objects_after, objects_in}
-use Rattle.git_object.specs.declared.commit.Commit.{Commit}
-use Rattle.object_store.specs.Typed.{HoldsAs, as_commit, commit_at, tree_at}
-use Rattle.object_store.proofs.GrowthLemmas.{bind-some}
-use Rattle.object_batch.specs.Batches.{MayBePut, missing_writes}
-use Rattle.object_batch.proofs.ClashLemmas.{Contains-cons_cases, Contains-first, Contains-later}
-use Rattle.ref_store.specs.Refs.{Head}
-use Rattle.ref_store.specs.Setting.{ref_write}
-use Rattle.lamport.specs.Clock.{edit_time_of, root_time_of, seen_by}
-use Rattle.lamport.specs.declared.clock.TheConstants.{CAP}
-use Rattle.identity.proofs.IdLemmas.{IsId-version_id}
-use Rattle.op_kind.specs.declared.place.Place.{Place}
+use Rattle.repo_steps.proofs.Names.{Contains-one, IsId, GREATEST_TIME, Id, Name, Files, History, files_of, Wrote, Change, Wrote-then, Objects, objects_after, objects_in, Commit, commit_at, bind-some, MayBePut, missing_writes, Contains-cons_cases, Contains-first, Contains-later, Head, ref_write, edit_time_of, root_time_of, seen_by, CAP, IsId-version_id, Place, place_of, bug_kind, bug_keeps_laws, BugOp, MOST_COMMITS, Contains-nil, AreHeld, CanBeRead, MayBeAppended, appended_head, appended_node, IsEntity, ops_in, extended, edit_at, Entity, Loaded, Placed, EachIsLocal, IsBug, IsLocal, clock_at, clock_place, see_writes, has_ref, head_at, ref_place, UserFound, BadUser, NoUser, User, user_at, ClockFile, Env, HeadEntry, head_edit, IsBug-over, clock_at-capped, HasBug, addition_head, addition_objects, addition_writes, bug_says, clock_writes, later_addition, op_ids, root_addition, edit_op, op_id, IsWrite, BugBegins, BugGrows, begun_entity, Addition, BugEdit}
+use Rattle.object_store.specs.Typed.{HoldsAs, as_commit, tree_at}
 use Rattle.op_pack.specs.Heads.{IsClock, edit_clock_of}
-use Rattle.op_pack.specs.Packs.{place_of}
-use Rattle.bug_ops.specs.Kind.{bug_kind}
-use Rattle.bug_ops.specs.Laws.{bug_keeps_laws}
-use Rattle.bug_ops.specs.declared.op.BugOp.{BugOp}
 use Rattle.bug_ops.specs.declared.op.BugOp.TheVariants.{AddComment, Create, EditComment, LabelChange, NoOp, SetMetadata, SetStatus, SetTitle}
 use Rattle.commit_walk.specs.Below.{IsBelow, head, parent}
 use Rattle.commit_walk.specs.Distinct.{AreDistinct}
-use Rattle.commit_walk.specs.declared.below.TheConstants.{MOST_COMMITS}
-use Rattle.commit_walk.proofs.DistinctLemmas.{AreDistinct-nil, AreDistinct-push, Contains-nil, Contains-one}
-use Rattle.dag_entity.specs.Appending.{AreHeld, CanBeRead, MayBeAppended, appended_head, appended_node}
-use Rattle.dag_entity.specs.Entities.{IsEntity, ops_in}
-use Rattle.dag_entity.specs.Extending.{Begins, Extends, extended}
-use Rattle.dag_entity.specs.Nodes.{edit_at, ids_of}
-use Rattle.dag_entity.specs.declared.entity.Entity.{Entity}
-use Rattle.dag_entity.specs.declared.entity.Loaded.{Loaded}
-use Rattle.dag_entity.specs.declared.entity.Placed.{Placed}
+use Rattle.commit_walk.proofs.DistinctLemmas.{AreDistinct-nil, AreDistinct-push}
+use Rattle.dag_entity.specs.Extending.{Begins, Extends}
+use Rattle.dag_entity.specs.Nodes.{ids_of}
 use Rattle.dag_entity.proofs.AgreeFaults.{entity_over}
 use Rattle.dag_entity.proofs.AgreeGrowth.{more_authors_entity, valid_stays}
 use Rattle.dag_entity.proofs.LawExtending.{is_extended}
 use Rattle.dag_entity.proofs.LawFirst.{first_valid}
-use Rattle.repo_state.specs.Bugs.{EachIsLocal, IsBug, IsLocal}
-use Rattle.repo_state.specs.Clocks.{clock_at, clock_place, see_writes}
-use Rattle.repo_state.specs.Sides.{has_ref, head_at, ref_place}
-use Rattle.repo_state.specs.Users.{UserFound, BadUser, NoUser, User, user_at}
-use Rattle.repo_state.specs.declared.clocks.ClockFile.{ClockFile}
 use Rattle.repo_state.specs.declared.clocks.ClockFile.TheVariants as file
-use Rattle.repo_steps.specs.declared.env.Env.{Env}
-use Rattle.repo_state.specs.declared.side.HeadEntry.{HeadEntry}
 use Rattle.repo_state.specs.declared.side.Side.TheVariants as side
-use Rattle.repo_state.proofs.BugLemmas.{edit_within, head_edit}
-use Rattle.repo_state.proofs.BugSoundLemmas.{IsBug-over}
-use Rattle.repo_state.proofs.KindLemmas.{clock_at-capped}
-use Rattle.repo_steps.specs.BugDoings.{HasBug, addition_head, addition_objects, addition_writes, bug_says, clock_writes, later_addition, one_op_pack, op_ids, root_addition}
-use Rattle.bug_edits.specs.EditTable.{edit_op}
-use Rattle.bug_edits.specs.NewOps.{op_id}
-use Rattle.repo_writes.specs.Kinds.{IsWrite}
-use Rattle.repo_steps.specs.Steps.{BugBegins, BugGrows, begun_entity}
-use Rattle.repo_steps.specs.declared.plan.Addition.{Addition}
-use Rattle.bug_edits.specs.declared.edit.BugEdit.{BugEdit}
+use Rattle.repo_state.proofs.BugLemmas.{edit_within}
+use Rattle.repo_steps.specs.BugDoings.{one_op_pack}
 use Rattle.repo_steps.proofs.AddBugLemmas.{Seen, node, put, put_grew, put_node, see_made, set, set_bug, set_clock, set_head, set_only, set_wrote, set_writes}
-use Rattle.repo_steps.proofs.HeadLemmas.{head_at-absent}
-use Rattle.repo_steps.proofs.OnlyLemmas.{OnlyChanges-then}
-use Rattle.repo_steps.proofs.WriteLemmas.{all_both}
+use Rattle.repo_steps.proofs.OnlyLemmas.{OnlyChanges-then, all_both, head_at-absent}
 
 -- ---- operations and packs
 

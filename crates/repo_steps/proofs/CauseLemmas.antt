@@ -1,37 +1,10 @@
 -- What is so where a command is refused for a user that is missing, an entity or an operation that exists, a name that is taken, an object
 -- that is too large, or a chain or a bug that is full.
-use Rattle.std.proofs.Common.{◌≡◌, ◌≤◌, ◌+◌, ◌^◌, ◌⊎◌, ℕ, IsTrue, inl, inr, List, length, Contains, Option, Some, None, refl, sym, ◌∙◌, ap, subst, arith}
-use Rattle.gb_text.specs.declared.decimal.TheConstants.{GREATEST_TIME}
-use Rattle.gb_text.specs.declared.id.Id.{Id}
-use Rattle.gb_text.specs.declared.id.Name.{Name}
-use Rattle.gb_text.specs.declared.ruled.Line.{Line}
-use Rattle.gb_text.specs.declared.ruled.Message.{Message}
-use Rattle.gb_text.specs.declared.ruled.Title.{Title}
-use Rattle.gb_store.specs.Files.{Files, History, files_of}
-use Rattle.object_store.specs.Held.{Objects, objects_in}
-use Rattle.object_store.specs.declared.read.TheConstants.{MOST_BYTES}
-use Rattle.object_batch.specs.Batches.{CannotHave, HasLong}
+use Rattle.std.proofs.Common.{◌≡◌, ◌≤◌, ◌+◌, ◌^◌, ◌⊎◌, ℕ, IsTrue, inl, inr, List, length, Contains, Some, None, refl, sym, ◌∙◌, ap, subst, arith}
+use Rattle.repo_steps.proofs.Names.{GREATEST_TIME, Id, Name, Line, Message, Title, Files, History, files_of, Objects, objects_in, MOST_BYTES, CannotHave, HasLong, MOST_COMMITS, create_op, op_id, BugEdit, bug_kind, ops_in, edit_at, head_edit, has_ref, NoUser, user_at, HasBug, op_ids, FirstFails, names, Refused, doing_of, HasUser, new_made, Picked, Edit, Env, Refusal}
 use Rattle.commit_walk.specs.declared.below.TheConstants.{MOST_COMMITS as MOST_VERSIONS}
-use Rattle.commit_walk.specs.declared.below.TheConstants.{MOST_COMMITS}
-use Rattle.bug_edits.specs.NewOps.{create_op, op_id}
-use Rattle.bug_edits.specs.declared.edit.BugEdit.{BugEdit}
-use Rattle.bug_ops.specs.Kind.{bug_kind}
-use Rattle.dag_entity.specs.Entities.{ops_in}
-use Rattle.dag_entity.specs.Nodes.{edit_at}
-use Rattle.repo_state.proofs.BugLemmas.{head_edit}
-use Rattle.repo_state.specs.Sides.{has_ref}
-use Rattle.repo_state.specs.Users.{NoUser, user_at}
 use Rattle.repo_state.specs.declared.side.Side.TheVariants as side
-use Rattle.repo_steps.specs.BugDoings.{HasBug, op_ids}
-use Rattle.repo_steps.specs.Checks.{FirstFails}
-use Rattle.repo_steps.specs.Doing.{names}
-use Rattle.repo_steps.specs.Doings.{Refused, doing_of}
-use Rattle.repo_steps.specs.PeopleDoings.{HasUser, new_made}
-use Rattle.repo_steps.specs.Picked.{Picked}
-use Rattle.words.specs.declared.edit.Edit.{Edit}
 use Rattle.words.specs.declared.edit.Edit.TheVariants as edit
-use Rattle.repo_steps.specs.declared.env.Env.{Env}
-use Rattle.repo_steps.specs.declared.refusal.Refusal.{Refusal}
 use Rattle.repo_steps.specs.declared.refusal.Refusal.TheVariants as refusal
 use Rattle.repo_steps.proofs.RankLemmas.{FailsAt, places_of, told_by}
 

@@ -1,51 +1,19 @@
 -- The checks of each command are clear: none both fails and passes, and each has refusals of one number.
-use Rattle.std.proofs.Common.{◌≡◌, ℕ, ◌≤◌, ◌+◌, inl, inr, List, [], ◌∷◌, ◌++◌, length, Contains, Option, None, Result, Ok, Err, refl, sym, ◌∙◌, ap, subst, arith}
+use Rattle.std.proofs.Common.{◌≡◌, ℕ, ◌≤◌, ◌+◌, inl, inr, List, [], ◌∷◌, ◌++◌, length, Contains, None, Result, Ok, Err, refl, sym, ◌∙◌, ap, subst, arith}
 use Rattle.std.specs.Option.{option_map}
 use Rattle.std.specs.Prelude.{option_and_then}
-use Rattle.gb_text.specs.declared.decimal.TheConstants.{GREATEST_TIME}
-use Rattle.gb_text.specs.declared.id.Id.{Id}
-use Rattle.gb_text.specs.declared.id.Name.{Name}
-use Rattle.gb_text.specs.declared.ruled.Line.{Line}
-use Rattle.gb_text.specs.declared.ruled.Title.{Title}
-use Rattle.gb_store.specs.Files.{Files, History, files_of}
-use Rattle.object_store.specs.Held.{objects_in}
-use Rattle.object_store.specs.Texts.{IsShort}
+use Rattle.repo_steps.proofs.Names.{GREATEST_TIME, Id, Name, Line, Title, Files, History, files_of, objects_in, IsShort, MOST_COMMITS, bug_kind, BugOp, ops_in, Entity, Head, IsChain, no_fault, IsBug, Finder, bug_finder, person_finder, head_at, User, user_at, user_entry, Env, Refusal, HeadEntry, Side, Missed, AllPass, AreClear, Check, FirstFails, HasBug, addition_objects, bug_reads, bug_says, clock_room, commit_room, edit_adds, later_by, longer_bug, new_bug, new_operation, op_ids, root_addition, some_id, edit_op, create_op, op_id, NoChange, found, fresh, names, sizes, some_user, user_file, Refused, doing_of, of_missed, of_no_change, Picked, HasBadChain, HasUser, edited_user, new_made, new_objects, new_user, set_user, user_chain, user_room, one_entity, BugEdit, Edit}
 use Rattle.commit_walk.specs.Chain.{Walked}
 use Rattle.commit_walk.proofs.ChainPassLemmas.{one_walk}
-use Rattle.commit_walk.specs.declared.below.TheConstants.{MOST_COMMITS}
-use Rattle.bug_ops.specs.Kind.{bug_kind}
-use Rattle.bug_ops.specs.declared.op.BugOp.{BugOp}
-use Rattle.dag_entity.specs.Entities.{ops_in}
-use Rattle.dag_entity.specs.declared.entity.Entity.{Entity}
-use Rattle.ref_store.specs.Refs.{Head}
-use Rattle.identity.specs.Persons.{IsChain}
-use Rattle.identity.proofs.NoFaultLemmas.{no_fault}
-use Rattle.repo_state.specs.Bugs.{IsBug}
-use Rattle.repo_state.specs.Finds.{Finder, IsDetermined, bug_finder, person_finder}
-use Rattle.repo_state.specs.Sides.{head_at}
+use Rattle.repo_state.specs.Finds.{IsDetermined}
 use Rattle.repo_steps.specs.Stops.{number_of}
-use Rattle.repo_state.specs.Users.{User, user_at, user_entry}
-use Rattle.repo_steps.specs.declared.env.Env.{Env}
-use Rattle.repo_steps.specs.declared.refusal.Refusal.{Refusal}
 use Rattle.repo_steps.specs.declared.refusal.Refusal.TheVariants as refusal
-use Rattle.repo_state.specs.declared.side.HeadEntry.{HeadEntry}
-use Rattle.repo_state.specs.declared.side.Side.{Side}
 use Rattle.repo_state.specs.declared.side.Side.TheVariants as side
-use Rattle.repo_state.specs.declared.stop.Missed.{Missed}
-use Rattle.repo_steps.specs.Checks.{AllPass, AreClear, Check, FirstFails, IsClear}
-use Rattle.repo_steps.specs.BugDoings.{HasBug, addition_objects, begun_bug, bug_check, bug_reads, bug_says, clock_room, commit_room, edit_adds, later_by, longer_bug, new_bug, new_operation, op_ids, root_addition, some_id}
-use Rattle.bug_edits.specs.EditTable.{edit_op}
-use Rattle.bug_edits.specs.NewOps.{create_op, op_id}
-use Rattle.bug_edits.specs.declared.edit.NoChange.{NoChange}
-use Rattle.repo_steps.specs.Doing.{found, fresh, names, sizes, some_user, user_file}
-use Rattle.repo_steps.specs.Doings.{MayStep, Refused, doing_of}
-use Rattle.repo_steps.specs.Stops.{of_missed, of_no_change}
-use Rattle.repo_steps.specs.Picked.{Picked}
-use Rattle.repo_steps.specs.PeopleDoings.{HasBadChain, HasUser, edited_user, new_made, new_objects, new_user, set_user, user_chain, user_room}
-use Rattle.repo_state.proofs.BugLemmas.{bug_no_fault, one_bug, one_entity}
+use Rattle.repo_steps.specs.Checks.{IsClear}
+use Rattle.repo_steps.specs.BugDoings.{begun_bug, bug_check}
+use Rattle.repo_steps.specs.Doings.{MayStep}
+use Rattle.repo_state.proofs.BugLemmas.{bug_no_fault, one_bug}
 use Rattle.repo_state.proofs.FoundLemmas.{heads_are_determined, ids_are_determined}
-use Rattle.bug_edits.specs.declared.edit.BugEdit.{BugEdit}
-use Rattle.words.specs.declared.edit.Edit.{Edit}
 use Rattle.words.specs.declared.edit.Edit.TheVariants as edit
 
 -- ---- clear checks

@@ -3,23 +3,9 @@ use Rattle.std.proofs.Common.{◌≡◌, ◌<◌, ◌+◌, ◌++◌, ℕ, Bool, 
 use Rattle.std.specs.Prelude.{nat_lt, if◌then◌else◌}
 use Rattle.std.specs.Option.{option_map}
 use Rattle.std.proofs.lemmas.Bool.{lt-ltb}
-use Rattle.gb_text.specs.declared.id.Id.{Id}
-use Rattle.gb_store.specs.Files.{Files}
-use Rattle.gb_store.specs.declared.store.Change.{Change}
-use Rattle.object_batch.specs.Batches.{missing_writes}
-use Rattle.ref_store.specs.Setting.{ref_write}
-use Rattle.lamport.specs.Clock.{root_time_of, seen_by}
-use Rattle.lamport.specs.declared.clock.TheConstants.{CAP}
-use Rattle.bug_ops.specs.declared.op.BugOp.{BugOp}
-use Rattle.repo_state.specs.Clocks.{clock_at, clock_write, see_writes}
-use Rattle.repo_state.specs.Sides.{ref_place}
-use Rattle.repo_state.specs.Users.{UserFound, User}
-use Rattle.repo_state.specs.declared.clocks.ClockFile.{ClockFile}
+use Rattle.repo_steps.proofs.Names.{Id, Files, Change, missing_writes, ref_write, root_time_of, seen_by, CAP, BugOp, clock_at, clock_write, see_writes, ref_place, UserFound, User, ClockFile, Env, addition_head, addition_objects, addition_writes, root_addition, some_id, Addition}
 use Rattle.repo_state.specs.declared.clocks.ClockFile.TheVariants as file
-use Rattle.repo_steps.specs.declared.env.Env.{Env}
 use Rattle.repo_state.specs.declared.side.Side.TheVariants as side
-use Rattle.repo_steps.specs.BugDoings.{addition_head, addition_objects, addition_writes, root_addition, some_id}
-use Rattle.repo_steps.specs.declared.plan.Addition.{Addition}
 
 -- a clock below the cap that sees the clock of a new root is written one further
 one_further : (folder : List ℕ) (which : ClockFile) (clock : ℕ) → clock < CAP → see_writes folder which clock (root_time_of clock) ≡ clock_write folder which (clock + 1) ∷ []

@@ -1,31 +1,13 @@
 -- A sound folder is not damaged.
 use Rattle.std.proofs.Common.{◌≡◌, ℕ, inl, inr, List, [], ◌∷◌, subst}
 use Rattle.std.specs.Prelude.{⊤}
-use Rattle.gb_text.specs.declared.id.Id.{Id}
-use Rattle.gb_store.specs.Files.{Files, History, files_of}
-use Rattle.object_store.specs.Held.{objects_in}
-use Rattle.identity.proofs.NoFaultLemmas.{no_fault}
+use Rattle.repo_steps.proofs.Names.{Id, Files, History, files_of, objects_in, no_fault, User, user_at, Env, NoChange, bug_finder, person_finder, HeadEntry, Missed, Check, FirstFails, found, user_file, Refused, doing_of, HasBadChain, of_missed, of_no_change, Edit, IsLocal-user}
 use Rattle.repo_state.specs.Sound.{IsSound, IsSoundIdentity}
 use Rattle.repo_state.specs.Sound as parts
-use Rattle.repo_state.specs.Users.{User, user_at}
-use Rattle.repo_steps.specs.declared.env.Env.{Env}
 use Rattle.repo_steps.specs.declared.refusal.Refusal.TheVariants as refusal
-use Rattle.bug_edits.specs.declared.edit.NoChange.{NoChange}
 use Rattle.bug_edits.specs.declared.edit.NoChange.TheVariants as no_change
-use Rattle.repo_state.specs.Finds.{bug_finder, person_finder}
-use Rattle.repo_state.specs.declared.side.HeadEntry.{HeadEntry}
-use Rattle.repo_state.specs.declared.stop.Missed.{Missed}
 use Rattle.repo_state.specs.declared.stop.Missed.TheVariants as missed
-use Rattle.repo_steps.specs.BugDoings.{bug_reads}
-use Rattle.repo_steps.specs.Checks.{AllPass, Check, FirstFails}
-use Rattle.repo_steps.specs.Doing.{found, user_file}
-use Rattle.repo_steps.specs.Doings.{Refused, doing_of}
-use Rattle.repo_steps.specs.PeopleDoings.{HasBadChain, user_chain}
-use Rattle.repo_steps.specs.Picked.{Picked}
-use Rattle.repo_steps.specs.Stops.{of_missed, of_no_change}
-use Rattle.words.specs.declared.edit.Edit.{Edit}
 use Rattle.words.specs.declared.edit.Edit.TheVariants as edit
-use Rattle.repo_state.proofs.FoundLemmas.{IsLocal-user}
 use Rattle.repo_state.proofs.UndamagedLemmas.{no_bad_found}
 
 -- in a sound folder no check fails for damage

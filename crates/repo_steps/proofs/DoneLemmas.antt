@@ -1,66 +1,22 @@
 -- What a command that nothing keeps from being done leaves: its writes are of their kinds, and make its step.
-use Rattle.std.proofs.Common.{◌≡◌, ◌<◌, ◌≤◌, ◌^◌, ℕ, false, true, Bool, IsTrue, List, [], ◌∷◌, ◌++◌, length, reverse, Contains, Option, Some, None, option_and_then, Result, Ok, Err, inl, inr, refl, sym, ◌∙◌, ap, subst, append_assoc, arith}
-use Rattle.std.proofs.lemmas.List.{reverse-append}
+use Rattle.std.proofs.Common.{◌≡◌, ◌<◌, ◌≤◌, ℕ, false, IsTrue, List, [], ◌∷◌, ◌++◌, length, reverse, Contains, Option, Some, None, option_and_then, Ok, inl, inr, refl, sym, ◌∙◌, ap, subst}
 use Rattle.std.specs.Option.{option_map}
-use Rattle.gb_text.specs.Digits.{IsId}
-use Rattle.gb_text.specs.Folder.{joined}
-use Rattle.gb_text.specs.declared.id.Id.{Id}
-use Rattle.gb_text.specs.declared.id.Name.{Name}
-use Rattle.gb_text.specs.declared.ruled.Line.{Line}
-use Rattle.gb_text.specs.declared.ruled.Message.{Message}
-use Rattle.gb_text.specs.declared.ruled.Title.{Title}
-use Rattle.gb_store.specs.Files.{Files, History, files_of}
-use Rattle.gb_store.specs.Moments.{Wrote, WroteSome, at_moment}
-use Rattle.gb_store.specs.declared.store.Change.{Change}
-use Rattle.gb_store.proofs.MomentLemmas.{WroteBy-before, Wrote-none, Wrote-one, Wrote-then, WroteSome-there}
-use Rattle.object_store.specs.Held.{Objects, objects_in}
-use Rattle.object_batch.specs.Batches.{MayBePut}
-use Rattle.object_batch.proofs.ClashLemmas.{Contains-cons_cases}
-use Rattle.ref_store.specs.Refs.{Absent, Head, ref_of}
+use Rattle.repo_steps.proofs.Names.{Contains-one, IsId, joined, Id, Name, Line, Message, Title, Files, History, files_of, Wrote, Wrote-none, Wrote-one, Wrote-then, Objects, objects_in, MayBePut, Absent, Head, ref_of, GREATEST_TIME, bug_kind, BugOp, MOST_COMMITS, ops_in, Entity, IsLocal, head_edit, has_ref, head_at, is_there, ref_place, UserFound, BadUser, NoUser, User, user_at, user_entry, user_place, user_write, Env, HeadEntry, IsId-version_id, ref-not_user, same_or_other, user-not_object, HasBug, addition_objects, addition_writes, bug_says, later_addition, later_by, longer_bug, new_bug, op_ids, root_addition, some_id, edit_op, create_op, op_id, AllPass, Doing, doing_of, Picked, HasUser, edited_user, first_user_write, new_made, new_objects, new_text, new_user, set_user, user_writes, version_writes, IsWrite, BugBegins, BugGrows, OnlyChanges, Steps, first_user, first_user_place, new_version, Addition, BugEdit, Edit, IsLocal-user, found_is}
 use Rattle.identity.specs.Extending.{IsLonger}
-use Rattle.gb_text.specs.declared.decimal.TheConstants.{GREATEST_TIME}
-use Rattle.bug_ops.specs.Kind.{bug_kind}
-use Rattle.bug_ops.specs.declared.op.BugOp.{BugOp}
-use Rattle.commit_walk.specs.declared.below.TheConstants.{MOST_COMMITS}
-use Rattle.dag_entity.specs.Entities.{ops_in}
-use Rattle.dag_entity.specs.declared.entity.Entity.{Entity}
-use Rattle.repo_state.specs.Bugs.{IsLocal}
-use Rattle.repo_state.proofs.BugLemmas.{head_edit}
-use Rattle.repo_state.specs.Sides.{has_ref, head_at, is_there, ref_place}
-use Rattle.repo_state.specs.Users.{UserFound, BadUser, NoUser, User, entry_by, entry_of_user, id_line, user_at, user_entry, user_place, user_write}
-use Rattle.repo_steps.specs.declared.env.Env.{Env}
-use Rattle.repo_steps.specs.declared.refusal.Refusal.{Refusal}
-use Rattle.repo_steps.specs.declared.refusal.Stop.{Stop}
+use Rattle.repo_state.specs.Users.{entry_by, entry_of_user, id_line}
 use Rattle.repo_steps.specs.declared.refusal.Stop.TheVariants as stop
-use Rattle.repo_state.specs.declared.side.HeadEntry.{HeadEntry}
 use Rattle.repo_state.specs.declared.side.Side.TheVariants as side
-use Rattle.identity.proofs.IdLemmas.{IsId-version_id}
 use Rattle.repo_state.proofs.KindLemmas.{head_at-user_write, objects-user_write, user_at-set}
-use Rattle.repo_state.proofs.PlaceLemmas.{ref-not_user, same_or_other, user-not_object}
-use Rattle.repo_steps.specs.Answers.{DoingAnswers, IsStopped}
-use Rattle.repo_steps.specs.BugDoings.{HasBug, addition_objects, addition_writes, bug_says, later_addition, later_by, longer_bug, new_bug, op_ids, root_addition, some_id}
-use Rattle.bug_edits.specs.EditTable.{edit_op}
-use Rattle.bug_edits.specs.NewOps.{create_op, op_id}
 use Rattle.bug_edits.proofs.EditLemmas.{begun_keeps, may_follow}
-use Rattle.repo_steps.specs.Checks.{AllPass}
-use Rattle.repo_steps.specs.Doing.{Doing}
-use Rattle.repo_steps.specs.Doings.{Done, EditAnswers, doing_of}
-use Rattle.repo_steps.specs.Picked.{Picked}
-use Rattle.repo_steps.specs.PeopleDoings.{HasUser, edited_user, first_user_write, new_made, new_objects, new_text, new_user, set_user, user_writes, version_writes}
-use Rattle.repo_writes.specs.Kinds.{IsWrite, a_user}
-use Rattle.repo_steps.specs.Steps.{BugBegins, BugGrows, OnlyChanges, Steps, first_user, first_user_place, new_version}
-use Rattle.repo_steps.specs.declared.plan.Addition.{Addition}
-use Rattle.bug_edits.specs.declared.edit.BugEdit.{BugEdit}
-use Rattle.words.specs.declared.edit.Edit.{Edit}
+use Rattle.repo_steps.specs.Doings.{Done}
+use Rattle.repo_writes.specs.Kinds.{a_user}
 use Rattle.words.specs.declared.edit.Edit.TheVariants as edit
 use Rattle.repo_steps.proofs.AddLemmas.{MayExtend, added_below, added_extends, added_head, added_only, added_wrote, added_writes, after_add}
 use Rattle.repo_steps.proofs.BugDoneLemmas.{IsId-op_id, MadeBug, bug_begun, bug_grown, some_user_is}
 use Rattle.repo_steps.proofs.ClearLemmas.{bug_one, says_one}
-use Rattle.repo_steps.proofs.HeadLemmas.{head_at-absent}
-use Rattle.repo_state.proofs.FoundLemmas.{IsLocal-user, finds_an_id, found_is}
-use Rattle.repo_steps.proofs.OnlyLemmas.{OnlyChanges-none, OnlyChanges-put, OnlyChanges-then, ref_left, user_left}
+use Rattle.repo_state.proofs.FoundLemmas.{finds_an_id}
+use Rattle.repo_steps.proofs.OnlyLemmas.{OnlyChanges-none, OnlyChanges-put, OnlyChanges-then, ref_left, user_left, all_both, head_at-absent}
 use Rattle.repo_steps.proofs.RuleLemmas.{adds_keep}
-use Rattle.repo_steps.proofs.WriteLemmas.{all_both}
 
 -- what stands after all writes of a command
 abbrev pub after : Doing → History → History
@@ -75,13 +31,6 @@ pub record IsMade (env : Env) (command : Edit) (doing : Doing) (old : History) :
 
 -- ---- the user behind a version that was added
 
-only_place : (place other : List ℕ) → Contains (place ∷ []) other → place ≡ other
-only_place place other among =
-    elim (Contains-cons_cases place [] other among) [
-      | inl same ↦ same
-      | inr none ↦ absurd (omega (arith, none.1))
-    ]
-
 module _ (folder : List ℕ) (id : Id) (head : Name) (old new : Files) (only : OnlyChanges folder (ref_place side.Identities id ∷ []) old new)
     (is : head_at new folder side.Identities id ≡ Head head) where
   -- each ref that stood stands
@@ -91,14 +40,14 @@ module _ (folder : List ℕ) (id : Id) (head : Name) (old new : Files) (only : O
     | inr differ ↦
         ap (λ (file : Option (List ℕ)). is_there (ref_of file))
         (ref_left folder (ref_place side.Identities id ∷ []) old new only side.Identities other
-        (λ place among e. differ (e ∙ ap (joined folder) (sym (only_place (ref_place side.Identities id) place among)))))
+        (λ place among e. differ (e ∙ ap (joined folder) (sym (Contains-one (ref_place side.Identities id) place among)))))
         ∙ stood
   ]
 
   user_stays : (user_at old folder ≡ BadUser → ⊥) → user_at new folder ≡ user_at old folder
   user_stays sound =
       user_left folder (ref_place side.Identities id ∷ []) old new only
-      (λ place among e. ref-not_user folder side.Identities id (ap (joined folder) (only_place (ref_place side.Identities id) place among) ∙ sym e)) stand sound
+      (λ place among e. ref-not_user folder side.Identities id (ap (joined folder) (Contains-one (ref_place side.Identities id) place among) ∙ sym e)) stand sound
 
 -- ---- what words and the user file find
 
@@ -322,34 +271,6 @@ made_so env (edit.UserEdit name email) picked old passes = edited_made_so env na
 made_so env (edit.UserSet word) picked old passes = set_made_so env word picked.person old passes
 made_so env (edit.New title message) picked old passes = begun_made_so env title message old passes
 made_so env (edit.OfBug word e) picked old passes = longer_made_so env e word picked.bug picked.op old passes
-
--- ---- whatever is answered
-
--- a front of what is written is of the kinds
-some_wrote : (folder : List ℕ) (writes : List Change) (old new : History) → Wrote (IsWrite folder) old (reverse writes ++ old) → WroteSome writes old new → Wrote (IsWrite folder) old new
-some_wrote folder writes old new wrote some =
-    let is = WroteSome-there writes old new some in
-    WroteBy-before (at_moment (IsWrite folder)) old (reverse writes ++ old) new wrote (record {
-      later = reverse is.1;
-      done = reverse is.0;
-      before = is.3;
-      after = ap (λ (ws : List Change). reverse ws ++ old) is.2 ∙ ap (λ (ws : List Change). ws ++ old) (reverse-append is.0 is.1)
-          ∙ append_assoc (reverse is.1) (reverse is.0) old ∙ ap (λ (h : History). reverse is.1 ++ h) (sym is.3);
-    })
-
--- whatever an edit answers, its writes are of a kind
-pub answers_wrote : (env : Env) (command : Edit) (old new : History) (r : Result Id Stop) → EditAnswers env command old new r → Wrote (IsWrite env.folder) old new
-answers_wrote env command old new r (picked, answers) = each r answers
-  where
-    stopped : IsStopped (doing_of env command picked old) old new → Wrote (IsWrite env.folder) old new
-    stopped (inl same) = Wrote-none (IsWrite env.folder) old new same
-    stopped (inr some) = some_wrote env.folder (doing_of env command picked old).writes old new (made_so env command picked old some.0).wrote some.1
-
-    each : (r : Result Id Stop) → DoingAnswers (doing_of env command picked old) old new r → Wrote (IsWrite env.folder) old new
-    each (Ok id) done = subst (Wrote (IsWrite env.folder) old) (sym done.writes) (made_so env command picked old done.may).wrote
-    each (Err stop.Memory) some = stopped some
-    each (Err stop.Disk) some = stopped some
-    each (Err (stop.Refused r)) refused = Wrote-none (IsWrite env.folder) old new refused.1
 
 -- a command that was done made its step
 pub done_steps : (env : Env) (command : Edit) (old new : History) (id : Id) → Done env command old new id → Steps env command (files_of old) (files_of new) id

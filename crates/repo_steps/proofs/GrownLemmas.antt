@@ -2,37 +2,10 @@
 use Rattle.std.proofs.Common.{◌≡◌, ℕ, List, [], ◌∷◌, refl, sym, ◌∙◌, ap, subst}
 use Rattle.std.proofs.lemmas.Grind.{flat_map-append}
 use Rattle.std.proofs.lemmas.Option.{same_Some}
-use Rattle.gb_text.specs.declared.ruled.Title.{Title}
-use Rattle.gb_text.specs.declared.ruled.Message.{Message}
-use Rattle.gb_text.specs.declared.id.Id.{Id}
-use Rattle.gb_store.specs.Files.{Files}
-use Rattle.ref_store.specs.Refs.{Head}
-use Rattle.lamport.specs.Clock.{root_time_of}
-use Rattle.op_kind.specs.declared.place.Place.{Place}
-use Rattle.op_pack.specs.Packs.{place_of}
-use Rattle.bug_ops.specs.Kind.{bug_kind}
-use Rattle.bug_ops.specs.declared.op.BugOp.{BugOp}
-use Rattle.snapshot.specs.LastMention.{snapshot_of}
-use Rattle.dag_entity.specs.Appending.{appended_head, appended_node}
-use Rattle.dag_entity.specs.Extending.{extended}
-use Rattle.dag_entity.specs.declared.entity.Entity.{Entity}
-use Rattle.dag_entity.specs.declared.entity.Loaded.{Loaded}
-use Rattle.dag_entity.specs.declared.entity.Placed.{Placed}
-use Rattle.repo_state.specs.Bugs.{IsBug}
-use Rattle.repo_state.specs.Clocks.{clock_at}
-use Rattle.repo_state.specs.Sides.{head_at}
+use Rattle.repo_steps.proofs.Names.{Title, Message, Id, Files, Head, root_time_of, Place, place_of, bug_kind, BugOp, snapshot_of, appended_head, appended_node, extended, Entity, Loaded, Placed, IsBug, clock_at, head_at, Env, HeadEntry, one_entity, found_is, HasBug, addition_head, bug_says, later_addition, root_addition, create_op, BugBegins, BugGrows, begun_entity, Addition, BugEdit}
 use Rattle.repo_state.specs.declared.clocks.ClockFile.TheVariants as file
-use Rattle.repo_steps.specs.declared.env.Env.{Env}
-use Rattle.repo_state.specs.declared.side.HeadEntry.{HeadEntry}
 use Rattle.repo_state.specs.declared.side.Side.TheVariants as side
-use Rattle.repo_state.proofs.BugLemmas.{one_entity}
-use Rattle.repo_state.proofs.FoundLemmas.{found_is}
-use Rattle.repo_steps.specs.BugDoings.{HasBug, addition_head, bug_says, later_addition, root_addition}
 use Rattle.repo_steps.specs.Grown.{EndsWithTheEdit, begun_says}
-use Rattle.bug_edits.specs.NewOps.{create_op}
-use Rattle.repo_steps.specs.Steps.{BugBegins, BugGrows, begun_entity}
-use Rattle.repo_steps.specs.declared.plan.Addition.{Addition}
-use Rattle.bug_edits.specs.declared.edit.BugEdit.{BugEdit}
 
 -- ---- a bug with one operation more
 

@@ -1,26 +1,12 @@
 -- At each moment of a command a ref has the head that it had at entry, or the one that the command sets.
 use Rattle.std.proofs.Common.{◌≡◌, ◌⊎◌, inl, inr, List, ◌∷◌, ◌++◌, Contains, reverse, Result, refl, sym, ◌∙◌, ap, subst}
 use Rattle.std.proofs.lemmas.List.Elements.{Contains-append_right}
-use Rattle.gb_text.specs.Digits.{IsId}
-use Rattle.gb_text.specs.declared.id.Id.{Id}
-use Rattle.gb_text.specs.declared.id.Name.{Name}
-use Rattle.gb_store.specs.Files.{Files, History, files_of, written}
+use Rattle.repo_steps.proofs.Names.{IsId, Id, Name, Files, History, files_of, written, Change, Contains-first, Head, ref_write, head_at, ref_place, Env, Stop, Side, IsWrite, EditAnswers, IsWriteOf, Edit}
 use Rattle.gb_store.specs.Moments.{AllMoments}
-use Rattle.gb_store.specs.declared.store.Change.{Change}
 use Rattle.gb_store.proofs.MomentLemmas.{AllMoments-from_WroteBy}
-use Rattle.object_batch.proofs.ClashLemmas.{Contains-first}
-use Rattle.ref_store.specs.Refs.{Head}
-use Rattle.ref_store.specs.Setting.{ref_write}
-use Rattle.repo_state.specs.Sides.{head_at, ref_place}
-use Rattle.repo_steps.specs.declared.env.Env.{Env}
-use Rattle.repo_steps.specs.declared.refusal.Stop.{Stop}
-use Rattle.repo_state.specs.declared.side.Side.{Side}
 use Rattle.repo_state.specs.declared.side.Side.TheVariants as side
-use Rattle.repo_writes.specs.Kinds.{IsWrite}
 use Rattle.repo_writes.proofs.SoundLemmas.{bug-after, identity-after}
-use Rattle.repo_steps.specs.Doings.{EditAnswers}
-use Rattle.repo_steps.specs.Writes.{IsNext, IsOldOrSet, IsWriteOf, SetsHead}
-use Rattle.words.specs.declared.edit.Edit.{Edit}
+use Rattle.repo_steps.specs.Writes.{IsNext, IsOldOrSet, SetsHead}
 use Rattle.repo_steps.proofs.WriteOfLemmas.{answers_wrote_of}
 
 -- the next of some writes is one of them

@@ -7,14 +7,12 @@ pub mod ClockOrderLemmas
 pub mod DamageLemmas
 pub mod DoneLemmas
 pub mod GrownLemmas
-pub mod HeadLemmas
 pub mod HeadMoveLemmas
+pub mod Names
 pub mod OnlyLemmas
 pub mod OwnLemmas
-pub mod PickLemmas
 pub mod RankLemmas
 pub mod ReportLemmas
 pub mod RuleLemmas
 pub mod StepLemmas
-pub mod WriteLemmas
 pub mod WriteOfLemmas

@@ -1,27 +1,13 @@
 -- What writes change of a folder's files, and what they leave of its refs and its user.
-use Rattle.std.proofs.Common.{◌≡◌, ◌≢◌, ℕ, IsTrue, List, [], ◌∷◌, ◌++◌, Contains, Option, None, refl, sym, ◌∙◌, ap, subst, arith}
+use Rattle.std.proofs.Common.{◌≡◌, ◌≢◌, ℕ, false, IsTrue, List, [], ◌∷◌, ◌++◌, reverse, Contains, Option, None, refl, sym, ◌∙◌, ap, append_assoc, subst, arith}
+use Rattle.std.proofs.lemmas.List.{reverse-append}
 use Rattle.std.proofs.lemmas.List.Elements.{Contains-append_left, Contains-append_right}
-use Rattle.gb_text.specs.Folder.{joined}
-use Rattle.gb_text.specs.declared.id.Id.{Id}
-use Rattle.gb_text.specs.declared.id.Name.{Name}
-use Rattle.gb_store.specs.Files.{Files, History, Put, files_of, written}
-use Rattle.gb_store.specs.Moments.{EachWrite, Wrote, at_moment}
+use Rattle.repo_steps.proofs.Names.{Absent, Head, joined, Id, Name, Files, History, files_of, written, EachWrite, Wrote, at_moment, Change, object_name, objects_in, object_write, Contains-first, IsName-object_name, ref_of, has_ref, head_at, is_there, ref_place, OnlyChanges, BadUser, user_at, user_place, Side, written-other, ref-not_object, user-not_object}
+use Rattle.gb_store.specs.Files.{Put}
 use Rattle.gb_store.specs.ObjectPath.{object_place}
-use Rattle.gb_store.specs.declared.store.Change.{Change}
-use Rattle.git_object.specs.Grammar.{object_name}
-use Rattle.object_store.specs.Held.{objects_in}
-use Rattle.object_store.specs.Puts.{object_write}
-use Rattle.object_batch.proofs.ClashLemmas.{Contains-first}
-use Rattle.git_object.proofs.NameLaws.{IsName-object_name}
-use Rattle.ref_store.specs.Refs.{ref_of}
-use Rattle.repo_state.specs.Sides.{has_ref, head_at, is_there, ref_place}
-use Rattle.repo_steps.specs.Steps.{OnlyChanges}
-use Rattle.repo_state.specs.Users.{BadUser, user_at, user_place}
-use Rattle.repo_state.specs.declared.side.Side.{Side}
+use Rattle.ref_store.specs.Refs.{Ref, Bad}
 use Rattle.repo_state.specs.declared.side.Side.TheVariants as side
-use Rattle.ref_store.proofs.MapLemmas.{written-other}
 use Rattle.repo_state.proofs.KindLemmas.{user_at-kept}
-use Rattle.repo_state.proofs.PlaceLemmas.{ref-not_object, user-not_object}
 
 -- ---- what is changed
 
@@ -97,3 +83,19 @@ module _ (folder : List ℕ) where
 
     user_kept : (user_at old folder ≡ BadUser → ⊥) → user_at new folder ≡ user_at old folder
     user_kept sound = user_left [] old new only (none_among (joined folder user_place)) (λ id stands. ap (λ (file : Option (List ℕ)). is_there (ref_of file)) (ref_kept side.Identities id) ∙ stands) sound
+
+-- ---- what comes first
+
+-- all of the first writes, and all of the others
+pub all_both : (writes more : List Change) (old mid new : History) → mid ≡ reverse writes ++ old → new ≡ reverse more ++ mid → new ≡ reverse (writes ++ more) ++ old
+all_both writes more old mid new first then =
+    then ∙ ap (λ (h : History). reverse more ++ h) first ∙ sym (ap (λ (ws : List Change). ws ++ old) (reverse-append writes more) ∙ append_assoc (reverse more) (reverse writes) old)
+
+-- a ref that does not stand
+pub head_at-absent : (files : Files) (folder : List ℕ) (of : Side) (id : Id) → has_ref files folder of id ≡ false → head_at files folder of id ≡ Absent
+head_at-absent files folder of id none = each (head_at files folder of id) none
+  where
+    each : (ref : Ref) → is_there ref ≡ false → ref ≡ Absent
+    each Absent e = refl
+    each (Head name) e = cc
+    each Bad e = cc

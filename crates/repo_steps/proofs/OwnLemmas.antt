@@ -4,37 +4,13 @@ use Rattle.std.specs.Prelude.{is_some, option_and_then}
 use Rattle.std.specs.Option.{option_map}
 use Rattle.std.proofs.lemmas.List.Elements.{Contains-append_cases, Contains-append_left, Contains-append_right}
 use Rattle.std.specs.Bool.{nat_lt}
-use Rattle.gb_text.specs.declared.ruled.Title.{Title}
-use Rattle.gb_text.specs.declared.ruled.Line.{Line}
-use Rattle.gb_text.specs.declared.id.Id.{Id}
-use Rattle.gb_text.specs.declared.id.Name.{Name}
-use Rattle.gb_store.specs.Files.{Files, History, files_of, written}
-use Rattle.gb_store.specs.declared.store.Change.{Change}
-use Rattle.git_object.specs.Grammar.{object_name}
-use Rattle.object_store.specs.Held.{objects_in}
-use Rattle.object_store.specs.Puts.{object_write}
-use Rattle.object_batch.specs.Batches.{missing_writes}
-use Rattle.object_batch.proofs.ClashLemmas.{Contains-cons_cases, Contains-first, Contains-later}
-use Rattle.commit_walk.proofs.DistinctLemmas.{Contains-nil}
-use Rattle.ref_store.specs.Setting.{ref_write}
-use Rattle.lamport.specs.Clock.{seen_by}
-use Rattle.repo_state.specs.Clocks.{clock_at, clock_write, see_writes}
-use Rattle.repo_state.specs.Sides.{ref_place}
-use Rattle.repo_state.specs.Users.{UserFound, BadUser, NoUser, User, user_at, user_entry, user_write}
-use Rattle.repo_state.specs.declared.clocks.ClockFile.{ClockFile}
+use Rattle.repo_steps.proofs.Names.{Contains-one, Title, Line, Id, Name, Files, History, files_of, written, Change, object_name, objects_in, object_write, missing_writes, Contains-cons_cases, Contains-first, Contains-later, Contains-nil, ref_write, seen_by, clock_at, clock_write, see_writes, ref_place, UserFound, BadUser, NoUser, User, user_at, user_entry, user_write, ClockFile, Env, HeadEntry, addition_objects, addition_writes, clock_writes, later_by, longer_bug, new_bug, root_addition, some_id, doing_of, Doing, create_op, edited_user, first_user_write, new_made, new_objects, new_user, user_writes, version_writes, Picked, Addition, Edit}
 use Rattle.repo_state.specs.declared.clocks.ClockFile.TheVariants as file
-use Rattle.repo_steps.specs.declared.env.Env.{Env}
-use Rattle.repo_state.specs.declared.side.HeadEntry.{HeadEntry}
 use Rattle.repo_state.specs.declared.side.Side.TheVariants as side
-use Rattle.repo_steps.specs.BugDoings.{addition_objects, addition_shows, addition_writes, bug_set, clock_writes, create_writes, later_by, longer_bug, new_bug, root_addition, shown_create, some_id}
-use Rattle.repo_steps.specs.Doings.{doing_of}
-use Rattle.repo_steps.specs.Doing.{Doing, HeadSet, Shown}
-use Rattle.bug_edits.specs.NewOps.{create_op}
+use Rattle.repo_steps.specs.BugDoings.{addition_shows, bug_set, create_writes, shown_create}
+use Rattle.repo_steps.specs.Doing.{HeadSet, Shown}
 use Rattle.repo_steps.specs.Own.{IsOwn, a_clock, a_head, an_object, the_user}
-use Rattle.repo_steps.specs.PeopleDoings.{edited_user, first_user_write, new_made, new_objects, new_user, person_set, user_writes, version_set, version_writes}
-use Rattle.repo_steps.specs.Picked.{Picked}
-use Rattle.repo_steps.specs.declared.plan.Addition.{Addition}
-use Rattle.words.specs.declared.edit.Edit.{Edit}
+use Rattle.repo_steps.specs.PeopleDoings.{person_set, version_set}
 use Rattle.words.specs.declared.edit.Edit.TheVariants as edit
 
 -- ---- lists of writes
@@ -63,10 +39,7 @@ seen_is : (folder : List ℕ) (which : ClockFile) (clock number : ℕ) (change :
 seen_is folder which clock number change has = each (nat_lt clock (seen_by clock number)) has
   where
     each : (rises : Bool) → Contains (cond rises (clock_write folder which (seen_by clock number) ∷ []) []) change → change ≡ clock_write folder which (seen_by clock number)
-    each true among = elim (Contains-cons_cases (clock_write folder which (seen_by clock number)) [] change among) [
-      | inl same ↦ sym same
-      | inr none ↦ absurd (Contains-nil change none)
-    ]
+    each true among = sym (Contains-one (clock_write folder which (seen_by clock number)) change among)
     each false among = absurd (Contains-nil change among)
 
 module _ (env : Env) (entry : History) (change : Change) where
@@ -120,10 +93,7 @@ module _ (env : Env) (entry : History) (change : Change) where
         | inl made ↦
             let found = missing_is env.folder (new_objects env name email parent) files change made in
             an_object found.0 (subst (λ (ts : List (List ℕ)). Contains ts found.0) (sym objects) found.1) found.2
-        | inr last ↦ elim (Contains-cons_cases (ref_write env.folder (ref_place side.Identities id) (new_made env name email parent).head) [] change last) [
-          | inl same ↦ a_head set sets (sym same ∙ sym head)
-          | inr none ↦ absurd (Contains-nil change none)
-        ]
+        | inr last ↦ a_head set sets (sym (Contains-one (ref_write env.folder (ref_place side.Identities id) (new_made env name email parent).head) change last) ∙ sym head)
       ]
 
   -- ---- each command
@@ -136,10 +106,7 @@ module _ (env : Env) (entry : History) (change : Change) where
       ]
     where
       by_user : (found : UserFound) → Contains (first_user_write env.folder found (new_made env name email None).id) change → IsOwn env (new_user env name email entry) entry change
-      by_user NoUser has = elim (Contains-cons_cases (user_write env.folder (new_made env name email None).id) [] change has) [
-        | inl same ↦ the_user (new_made env name email None).id refl (sym same)
-        | inr none ↦ absurd (Contains-nil change none)
-      ]
+      by_user NoUser has = the_user (new_made env name email None).id refl (sym (Contains-one (user_write env.folder (new_made env name email None).id) change has))
       by_user (User other) has = absurd (Contains-nil change has)
       by_user BadUser has = absurd (Contains-nil change has)
   own (edit.UserEdit name email) picked among = by_entry (user_entry files env.folder) refl among
@@ -150,10 +117,7 @@ module _ (env : Env) (entry : History) (change : Change) where
       by_entry (Some user) e has = version_own (edited_user env name email entry) name email user.id (Some user.name)
           (ap (λ (o : Option HeadEntry). new_objects env name email (option_map (λ (u : HeadEntry). u.name) o)) e) (version_set env name email user)
           (ap (option_map (version_set env name email)) e) refl has
-  own (edit.UserSet word) picked among = elim (Contains-cons_cases (user_write env.folder picked.person) [] change among) [
-    | inl same ↦ the_user picked.person refl (sym same)
-    | inr none ↦ absurd (Contains-nil change none)
-  ]
+  own (edit.UserSet word) picked among = the_user picked.person refl (sym (Contains-one (user_write env.folder picked.person) change among))
   own (edit.New title message) picked among =
       let added = option_map (root_addition env.folder files (create_op env.moment title message)) (some_id (user_at files env.folder)) in
       addition_own (new_bug env title message entry) added refl refl refl added refl among

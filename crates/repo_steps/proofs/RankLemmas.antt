@@ -1,41 +1,17 @@
 -- Each check of a command has its place in the order of refusals, or tells damage alone. So which check told a refusal follows from its
 -- place, and of the causes that hold one that comes first is told.
-use Rattle.std.proofs.Common.{◌≡◌, ℕ, zero, suc, ◌≤◌, ◌+◌, ◌⊎◌, ◌&&◌, Bool, true, false, inl, inr, List, [], ◌∷◌, Option, Some, None, refl, sym, ◌∙◌, ap, subst, arith}
+use Rattle.std.proofs.Common.{◌≡◌, ℕ, zero, suc, ◌≤◌, ◌+◌, ◌⊎◌, ◌&&◌, Bool, true, false, inl, inr, List, [], ◌∷◌, Option, Some, None, refl, sym, ◌∙◌, ap, arith}
 use Rattle.std.specs.Prelude.{⊤, nat_le, option_and_then}
 use Rattle.std.specs.Option.{option_map}
 use Rattle.std.proofs.lemmas.Bool.{leb-true}
 use Rattle.std.proofs.lemmas.Option.{same_Some}
-use Rattle.gb_text.specs.Folder.{joined}
-use Rattle.gb_text.specs.declared.id.Id.{Id}
-use Rattle.gb_store.specs.Files.{Files, History, files_of}
-use Rattle.object_store.specs.declared.read.TheConstants.{MOST_BYTES}
+use Rattle.repo_steps.proofs.Names.{joined, Id, Files, History, files_of, MOST_BYTES, MOST_COMMITS, create_op, op_id, BugEdit, NoChange, BugOp, Finder, bug_finder, person_finder, ref_place, user_at, user_entry, user_place, HeadEntry, Side, Missed, addition_objects, bug_reads, clock_room, commit_room, edit_adds, later_by, new_operation, root_addition, some_id, AreClear, Check, FirstFails, found, fresh, names, sizes, some_user, user_file, doing_of, new_made, new_objects, user_chain, user_room, Picked, of_missed, of_no_change, Edit, Env, Refusal}
 use Rattle.commit_walk.specs.declared.below.TheConstants.{MOST_COMMITS as MOST_VERSIONS}
-use Rattle.commit_walk.specs.declared.below.TheConstants.{MOST_COMMITS}
-use Rattle.bug_edits.specs.NewOps.{create_op, op_id}
-use Rattle.bug_edits.specs.declared.edit.BugEdit.{BugEdit}
-use Rattle.bug_edits.specs.declared.edit.NoChange.{NoChange}
 use Rattle.bug_edits.specs.declared.edit.NoChange.TheVariants as no_change
-use Rattle.bug_ops.specs.declared.op.BugOp.{BugOp}
-use Rattle.repo_state.specs.Finds.{Finder, bug_finder, person_finder}
-use Rattle.repo_state.specs.Sides.{ref_place}
-use Rattle.repo_state.specs.Users.{user_at, user_entry, user_place}
-use Rattle.repo_state.specs.declared.side.HeadEntry.{HeadEntry}
-use Rattle.repo_state.specs.declared.side.Side.{Side}
 use Rattle.repo_state.specs.declared.side.Side.TheVariants as side
-use Rattle.repo_state.specs.declared.stop.Missed.{Missed}
 use Rattle.repo_state.specs.declared.stop.Missed.TheVariants as missed
-use Rattle.repo_steps.specs.BugDoings.{addition_objects, bug_reads, clock_room, commit_room, edit_adds, later_by, new_operation, root_addition, some_id}
-use Rattle.repo_steps.specs.Checks.{AreClear, Check, FirstFails}
-use Rattle.repo_steps.specs.Doing.{found, fresh, names, sizes, some_user, user_file}
-use Rattle.repo_steps.specs.Doings.{doing_of}
-use Rattle.repo_steps.specs.PeopleDoings.{new_made, new_objects, user_chain, user_room}
-use Rattle.repo_steps.specs.Picked.{Picked}
 use Rattle.repo_steps.specs.Ranks.{SomeFails, rank_of}
-use Rattle.repo_steps.specs.Stops.{of_missed, of_no_change}
-use Rattle.words.specs.declared.edit.Edit.{Edit}
 use Rattle.words.specs.declared.edit.Edit.TheVariants as edit
-use Rattle.repo_steps.specs.declared.env.Env.{Env}
-use Rattle.repo_steps.specs.declared.refusal.Refusal.{Refusal}
 use Rattle.repo_steps.specs.declared.refusal.Refusal.TheVariants as refusal
 use Rattle.repo_steps.proofs.ClearLemmas.{checks_clear}
 
@@ -223,26 +199,18 @@ checks_within env (edit.New title message) picked old =
     let objects = addition_objects env.moment.now (option_map (root_addition env.folder files new) (some_id (user_at files env.folder))) in
     (user_file_rank env.folder files, (some_user_rank env.folder files, (sizes_rank objects, (fresh_rank env.folder files side.Bugs (op_id new), (names_rank env.folder objects old, tt)))))
 checks_within env (edit.OfBug word e) picked old =
-    let files = files_of old in
-    let objects = addition_objects env.moment.now (option_and_then (later_by env.folder files picked.bug picked.op) (some_id (user_at files env.folder))) in (
-      user_file_rank env.folder files,
-      (
-        some_user_rank env.folder files,
-        (
-          found_rank (bug_finder files env.folder word) picked.bug,
-          (
-            bug_reads_rank env.folder files word picked.bug,
-            (
-              edit_adds_rank env files word e picked.op,
-              (
-                clock_room_rank env.folder files word,
-                (commit_room_rank env.folder files word, (sizes_rank objects, (new_operation_rank env.folder files word picked.op, (names_rank env.folder objects old, tt)))),
-              ),
-            ),
-          ),
-        ),
-      ),
-    )
+    let user = user_file_rank env.folder files in
+    let is_found = found_rank (bug_finder files env.folder word) picked.bug in
+    (user, (some_user_rank env.folder files, (is_found, (bug_reads_rank env.folder files word picked.bug, (edit_adds_rank env files word e picked.op, then)))))
+  where
+    files : Files
+    files = files_of old
+
+    objects : List (List ℕ)
+    objects = addition_objects env.moment.now (option_and_then (later_by env.folder files picked.bug picked.op) (some_id (user_at files env.folder)))
+
+    then : AreWithin (clock_room env.folder files word ∷ commit_room env.folder files word ∷ sizes objects ∷ new_operation env.folder files word picked.op ∷ names env.folder objects old ∷ []) (Some 6 ∷ Some 7 ∷ Some 7 ∷ Some 8 ∷ Some 9 ∷ [])
+    then = (clock_room_rank env.folder files word, (commit_room_rank env.folder files word, (sizes_rank objects, (new_operation_rank env.folder files word picked.op, (names_rank env.folder objects old, tt)))))
 
 -- of the causes that hold, one that comes first is told
 pub told_in_order : (env : Env) (command : Edit) (picked : Picked) (old : History) (told other : Refusal) (first last : ℕ)

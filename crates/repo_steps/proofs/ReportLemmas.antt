@@ -1,42 +1,22 @@
 -- Where a cause holds and all checks before it pass, a command is refused for it.
 use Rattle.std.proofs.Common.{◌≡◌, ◌≢◌, ◌≤◌, ◌+◌, ◌^◌, ℕ, All, IsTrue, inl, inr, List, [], ◌∷◌, length, Contains, Some, None, Ok, refl, sym, ◌∙◌}
 use Rattle.std.proofs.lemmas.Option.{same_Some}
-use Rattle.gb_text.specs.declared.decimal.TheConstants.{GREATEST_TIME}
-use Rattle.gb_text.specs.declared.id.Id.{Id}
-use Rattle.gb_text.specs.declared.id.Name.{Name}
-use Rattle.gb_text.specs.declared.ruled.Line.{Line}
-use Rattle.gb_text.specs.declared.ruled.Message.{Message}
-use Rattle.gb_text.specs.declared.ruled.Title.{Title}
-use Rattle.gb_store.specs.Files.{Files, History, files_of}
-use Rattle.object_store.specs.Held.{objects_in}
-use Rattle.object_store.specs.Texts.{IsShort}
-use Rattle.object_store.specs.declared.read.TheConstants.{MOST_BYTES}
-use Rattle.object_batch.specs.Batches.{CannotHave, HasLong}
-use Rattle.commit_walk.specs.declared.below.TheConstants.{MOST_COMMITS}
-use Rattle.bug_edits.specs.EditTable.{edit_op}
-use Rattle.bug_edits.specs.NewOps.{create_op, op_id}
-use Rattle.bug_edits.specs.declared.edit.BugEdit.{BugEdit}
-use Rattle.bug_ops.specs.Kind.{bug_kind}
-use Rattle.bug_ops.specs.declared.op.BugOp.{BugOp}
-use Rattle.dag_entity.specs.Entities.{ops_in}
-use Rattle.dag_entity.specs.Nodes.{edit_at}
-use Rattle.repo_state.proofs.BugLemmas.{head_edit}
+use Rattle.repo_steps.proofs.Names.{HeadEntry, Picked, GREATEST_TIME, Id, Name, Line, Message, Title, Files, History, files_of, objects_in, IsShort, MOST_BYTES, CannotHave, HasLong, MOST_COMMITS, edit_op, create_op, op_id, BugEdit, bug_kind, BugOp, ops_in, edit_at, head_edit, has_ref, BadUser, NoUser, User, user_at, HasBug, bug_says, clock_room, commit_room, longer_bug, new_bug, new_operation, op_ids, FirstFails, names, sizes, Refused, HasUser, new_made, new_user, Env, Refusal}
+use Rattle.bug_edits.specs.NewOps.{noop_op}
+use Rattle.bug_ops.specs.Snapshots.{zero_id}
 use Rattle.repo_state.specs.Finds.{Finds, Nothing}
-use Rattle.repo_state.specs.Sides.{has_ref}
-use Rattle.repo_state.specs.Users.{BadUser, NoUser, User, user_at}
 use Rattle.repo_state.specs.declared.side.Side.TheVariants as side
 use Rattle.repo_state.specs.declared.stop.Missed.TheVariants as missed
-use Rattle.repo_steps.specs.BugDoings.{HasBug, bug_says, clock_room, commit_room, longer_bug, new_bug, new_operation, op_ids}
-use Rattle.repo_steps.specs.Checks.{FirstFails}
-use Rattle.repo_steps.specs.Doing.{names, sizes}
-use Rattle.repo_steps.specs.Doings.{Refused}
-use Rattle.repo_steps.specs.PeopleDoings.{HasUser, new_made, new_user}
 use Rattle.words.specs.declared.edit.Edit.TheVariants as edit
-use Rattle.repo_steps.specs.declared.env.Env.{Env}
-use Rattle.repo_steps.specs.declared.refusal.Refusal.{Refusal}
 use Rattle.repo_steps.specs.declared.refusal.Refusal.TheVariants as refusal
 use Rattle.repo_steps.proofs.CauseLemmas.{at_limit}
-use Rattle.repo_steps.proofs.PickLemmas.{no_pick}
+
+-- what a command picks where it may be any
+abbrev pub no_entry : HeadEntry
+no_entry = record { id = zero_id; name = record { bytes = [] } }
+
+abbrev pub no_pick : Env → Picked
+no_pick env = record { op = noop_op env.moment; bug = no_entry; person = zero_id }
 
 module _ (env : Env) (old : History) where
   abbrev files : Files

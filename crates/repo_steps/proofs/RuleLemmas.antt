@@ -1,36 +1,17 @@
 -- The operations of a bug keep the rules of bugs' operations, and so does one that an edit adds.
-use Rattle.std.proofs.Common.{◌≡◌, ◌≤◌, ℕ, List, [], ◌∷◌, ◌++◌, map, get_or, Contains, Some, Ok, refl, sym, ap, subst}
+use Rattle.std.proofs.Common.{◌≡◌, ℕ, List, [], ◌∷◌, ◌++◌, map, get_or, Contains, Some, Ok, sym, ap, subst}
 use Rattle.std.specs.List.{AllByRecursion}
 use Rattle.std.proofs.lemmas.List.Elements.{Contains-get_or}
-use Rattle.gb_text.specs.Digits.{IsId}
-use Rattle.gb_text.specs.declared.id.Id.{Id}
-use Rattle.gb_text.specs.declared.id.Name.{Name}
-use Rattle.gb_store.specs.Files.{Files}
-use Rattle.git_object.specs.declared.commit.Commit.{Commit}
-use Rattle.object_store.specs.Held.{Objects, objects_in}
-use Rattle.object_store.specs.Typed.{commit_at}
-use Rattle.object_store.proofs.GrowthLemmas.{bind-some}
-use Rattle.object_batch.proofs.ClashLemmas.{Contains-first, Contains-later}
-use Rattle.identity.proofs.IdLemmas.{IsId-version_id}
+use Rattle.repo_steps.proofs.Names.{IsId, Id, Files, Commit, Objects, objects_in, commit_at, bind-some, Contains-first, Contains-later, IsId-version_id, place_of, Place, edit_op, BugEdit, bug_kind, bug_keeps_laws, BugOp, snapshot_of, ops_in, Placed, HasBug, bug_says, Env}
 use Rattle.op_pack.specs.declared.head.TreeHead.{TreeHead}
-use Rattle.op_pack.specs.Packs.{place_of}
 use Rattle.op_pack.proofs.RuleLaws.{pack_keeps, pack_stands}
-use Rattle.op_kind.specs.declared.place.Place.{Place}
 use Rattle.commit_pack.specs.Packs.{pack_under}
 use Rattle.commit_pack.proofs.LawLemmas.{pack_under-found}
-use Rattle.bug_edits.specs.EditTable.{edit_op}
-use Rattle.bug_edits.specs.declared.edit.BugEdit.{BugEdit}
 use Rattle.bug_edits.proofs.EditLemmas.{added_keeps}
-use Rattle.bug_ops.specs.Kind.{bug_kind}
-use Rattle.bug_ops.specs.Laws.{bug_keeps_laws}
-use Rattle.bug_ops.specs.declared.op.BugOp.{BugOp}
-use Rattle.snapshot.specs.LastMention.{IsBugList, snapshot_of}
-use Rattle.dag_entity.specs.Entities.{KeepsRules, ops_in}
+use Rattle.snapshot.specs.LastMention.{IsBugList}
+use Rattle.dag_entity.specs.Entities.{KeepsRules}
 use Rattle.dag_entity.specs.Nodes.{pack_at}
-use Rattle.dag_entity.specs.declared.entity.Placed.{Placed}
 use Rattle.repo_state.proofs.BugListLemmas.{entity_is_bug_list}
-use Rattle.repo_steps.specs.BugDoings.{HasBug, bug_says}
-use Rattle.repo_steps.specs.declared.env.Env.{Env}
 
 -- an operation that keeps the rules, with an id of 32 bytes
 record IsGood (op : BugOp) : Type 0 where

@@ -1,35 +1,14 @@
 -- What a step of a command leaves and prints is determined by the files before it.
 use Rattle.std.proofs.Common.{◌≡◌, ◌≢◌, ℕ, inl, inr, Bool, cond, List, [], ◌∷◌, Contains, Option, Some, None, refl, sym, ◌∙◌, ap, subst, arith}
-use Rattle.gb_text.specs.declared.ruled.Title.{Title}
-use Rattle.gb_text.specs.declared.ruled.Line.{Line}
+use Rattle.repo_steps.proofs.Names.{Title, Line, joined, Id, Name, Files, written, Contains-cons_cases, Head, ref_of, edit_time_of, seen_by, BugOp, Entity, clock_at, clock_in, clock_place, has_ref, head_at, is_there, ref_place, UserFound, BadUser, NoUser, User, user_at, user_place, user_write, ClockFile, Env, HeadEntry, Side, clock-not_object, ref-not_clock, ref-not_object, ref-not_user, same_or_other, user-not_object, addition_head, later_addition, root_addition, create_op, op_id, new_made, BugBegins, BugGrows, OnlyChanges, Steps, first_user, first_user_place, BugEdit, Edit}
 use Rattle.gb_text.specs.Digits.{id_of}
-use Rattle.gb_text.specs.Folder.{joined}
 use Rattle.gb_text.specs.LineEnd.{line_of}
-use Rattle.gb_text.specs.declared.id.Id.{Id}
-use Rattle.gb_text.specs.declared.id.Name.{Name}
-use Rattle.gb_store.specs.Files.{Files, written}
-use Rattle.object_batch.proofs.ClashLemmas.{Contains-cons_cases}
-use Rattle.ref_store.specs.Refs.{Head, ref_of}
-use Rattle.lamport.specs.Clock.{edit_time_of, seen_by}
-use Rattle.bug_ops.specs.declared.op.BugOp.{BugOp}
-use Rattle.dag_entity.specs.declared.entity.Entity.{Entity}
-use Rattle.repo_state.specs.Clocks.{clock_at, clock_in, clock_place}
-use Rattle.repo_state.specs.Sides.{has_ref, head_at, is_there, ref_place}
-use Rattle.repo_state.specs.Users.{UserFound, BadUser, NoUser, User, local_user, user_at, user_of, user_place, user_write}
-use Rattle.repo_state.specs.declared.clocks.ClockFile.{ClockFile}
+use Rattle.repo_state.specs.Users.{local_user, user_of}
 use Rattle.repo_state.specs.declared.clocks.ClockFile.TheVariants as file
-use Rattle.repo_steps.specs.declared.env.Env.{Env}
-use Rattle.repo_state.specs.declared.side.HeadEntry.{HeadEntry}
-use Rattle.repo_state.specs.declared.side.Side.{Side}
 use Rattle.repo_state.specs.declared.side.Side.TheVariants as side
-use Rattle.repo_state.proofs.PlaceLemmas.{clock-not_object, clock-not_user, clock-other, ref-not_clock, ref-not_object, ref-not_user, same_or_other, user-not_object}
-use Rattle.repo_steps.specs.BugDoings.{addition_head, later_addition, root_addition}
-use Rattle.bug_edits.specs.NewOps.{create_op, op_id}
-use Rattle.repo_steps.specs.PeopleDoings.{new_made}
+use Rattle.repo_state.proofs.PlaceLemmas.{clock-not_user, clock-other}
 use Rattle.repo_state.proofs.FoundLemmas.{finds_the_same}
-use Rattle.repo_steps.specs.Steps.{BugBegins, BugGrows, IsObjectFile, OnlyChanges, Steps, UserEditSteps, UserNewSteps, UserSetSteps, first_user, first_user_place}
-use Rattle.bug_edits.specs.declared.edit.BugEdit.{BugEdit}
-use Rattle.words.specs.declared.edit.Edit.{Edit}
+use Rattle.repo_steps.specs.Steps.{IsObjectFile, UserEditSteps, UserNewSteps, UserSetSteps}
 use Rattle.words.specs.declared.edit.Edit.TheVariants as edit
 use Rattle.repo_steps.proofs.ClearLemmas.{adds_one, bug_one, one_user, user-head, user-same}
 

@@ -1,21 +1,10 @@
 -- Whatever a command answers, each of its writes is the next that it makes, and of a kind.
 use Rattle.std.proofs.Common.{◌≡◌, inl, inr, List, [], ◌∷◌, ◌++◌, reverse, Result, Ok, Err, sym, ◌∙◌, ap, subst, append_assoc}
 use Rattle.std.proofs.lemmas.List.{append_cancel_right, reverse-append, reverse-reverse}
-use Rattle.gb_text.specs.declared.id.Id.{Id}
-use Rattle.gb_store.specs.Files.{History}
-use Rattle.gb_store.specs.Moments.{EachWrite, WroteBy, WroteSome, at_moment}
-use Rattle.gb_store.specs.declared.store.Change.{Change}
-use Rattle.gb_store.proofs.MomentLemmas.{WroteBy-before, WroteBy-none, WroteSome-there}
-use Rattle.repo_steps.specs.declared.env.Env.{Env}
+use Rattle.repo_steps.proofs.Names.{Id, History, EachWrite, Wrote, WroteSome, at_moment, Change, WroteBy-before, WroteSome-there, Env, Stop, IsWrite, DoingAnswers, IsStopped, AllPass, EditAnswers, doing_of, Picked, IsWriteOf, Edit}
+use Rattle.gb_store.specs.Moments.{WroteBy}
+use Rattle.gb_store.proofs.MomentLemmas.{WroteBy-none, WroteBy-wider}
 use Rattle.repo_steps.specs.declared.refusal.Stop.TheVariants as stop
-use Rattle.repo_steps.specs.declared.refusal.Stop.{Stop}
-use Rattle.repo_writes.specs.Kinds.{IsWrite}
-use Rattle.repo_steps.specs.Answers.{DoingAnswers, IsStopped}
-use Rattle.repo_steps.specs.Checks.{AllPass}
-use Rattle.repo_steps.specs.Doings.{EditAnswers, doing_of}
-use Rattle.repo_steps.specs.Picked.{Picked}
-use Rattle.repo_steps.specs.Writes.{IsWriteOf}
-use Rattle.words.specs.declared.edit.Edit.{Edit}
 use Rattle.repo_steps.proofs.DoneLemmas.{after, made_so}
 
 module _ (env : Env) (command : Edit) (picked : Picked) (old : History) (may : AllPass (doing_of env command picked old).checks) where
@@ -66,3 +55,7 @@ answers_wrote_of env command old new r (picked, answers) = each r answers
     each (Err stop.Memory) some = stopped some
     each (Err stop.Disk) some = stopped some
     each (Err (stop.Refused r)) refused = WroteBy-none (IsWriteOf env command) old new refused.1
+
+-- so each is of a kind
+pub answers_wrote : (env : Env) (command : Edit) (old new : History) (r : Result Id Stop) → EditAnswers env command old new r → Wrote (IsWrite env.folder) old new
+answers_wrote env command old new r is = WroteBy-wider (IsWriteOf env command) (at_moment (IsWrite env.folder)) old new (λ earlier change write. write.kind) (answers_wrote_of env command old new r is)

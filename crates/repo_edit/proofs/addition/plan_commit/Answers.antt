@@ -1,6 +1,5 @@
 use Rattle.std.proofs.Common.{refl, sym, subst}
-use Rattle.bug_ops.specs.Kind.{bug_kind}
-use Rattle.dag_entity.specs.Appending.{MayBeAppended}
+use Rattle.repo_steps.proofs.Names.{bug_kind, MayBeAppended}
 use Rattle.repo_edit.proofs.KeepsLemmas.{keeps}
 use Rattle.repo_edit.proofs.addition.plan_commit.Goals as goal
 

@@ -1,6 +1,6 @@
 -- The changes so far and those that are left are all changes.
 use Rattle.std.proofs.Common.{◌≡◌, ◌++◌}
-use Rattle.repo_state.specs.Clocks.{see_writes}
+use Rattle.repo_steps.proofs.Names.{see_writes}
 use Rattle.repo_edit.proofs.addition.with_clock.Given as goal
 
 -- what was pushed, and the changes that are left, are the writes and those of the clock

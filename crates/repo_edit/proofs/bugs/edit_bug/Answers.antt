@@ -1,9 +1,6 @@
 use Rattle.std.proofs.Common.{◌≡◌, ℕ, Result, Err, sym, subst, rules}
-use Rattle.gb_text.specs.declared.id.Id.{Id}
-use Rattle.gb_store.specs.Files.{files_of}
-use Rattle.repo_steps.specs.declared.refusal.Stop.{Stop}
-use Rattle.repo_steps.specs.BugDoings.{longer_bug}
-use Rattle.repo_steps.specs.Doings.{BugEditAnswers}
+use Rattle.repo_steps.proofs.Names.{Id, files_of, longer_bug}
+use Rattle.repo_edit.proofs.Names.{Stop, BugEditAnswers}
 use Rattle.repo_edit.specs.Reads.{ReadsEdit}
 use Rattle.repo_edit.proofs.PlanLemmas.{carried, not_planned}
 use Rattle.repo_edit.proofs.bugs.edit_bug.Goals as goal

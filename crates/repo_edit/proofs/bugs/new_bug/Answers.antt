@@ -1,7 +1,6 @@
 use Rattle.std.proofs.Common.{subst}
-use Rattle.bug_ops.specs.declared.op.BugOp.{BugOp}
-use Rattle.repo_steps.specs.Answers.{DoingAnswers}
-use Rattle.repo_steps.specs.BugDoings.{begun_bug}
+use Rattle.repo_steps.proofs.Names.{BugOp, DoingAnswers}
+use Rattle.repo_edit.proofs.Names.{begun_bug}
 use Rattle.repo_edit.proofs.bugs.new_bug.Goals as goal
 
 pub returns-clause-answers : goal.returns-clause-answers

@@ -1,8 +1,6 @@
 use Rattle.std.proofs.Common.{List, ℕ, sym, subst}
-use Rattle.repo_steps.proofs.PickLemmas.{no_pick}
-use Rattle.repo_steps.specs.Doings.{BugEditAnswers, EditAnswers}
-use Rattle.words.specs.declared.edit.Edit.{Edit}
-use Rattle.words.specs.declared.edit.Edit.TheVariants.{UserSet}
+use Rattle.repo_steps.proofs.Names.{EditAnswers, Edit}
+use Rattle.repo_edit.proofs.Names.{no_pick, BugEditAnswers, UserSet}
 use Rattle.repo_edit.proofs.command.run_edit.Goals as goal
 
 pub returns-in-UserNew-clause-answers : goal.returns-in-UserNew-clause-answers

@@ -1,16 +1,8 @@
 use Rattle.std.proofs.Common.{◌≡◌, ◌∙◌, Result, Err, sym, ap, subst, rules}
-use Rattle.gb_store.specs.Files.{History, files_of}
-use Rattle.repo_state.specs.Bugs.{BugRefused, FindsBug, IsBug}
-use Rattle.repo_state.specs.Clocks.{clock_at}
+use Rattle.repo_steps.proofs.Names.{History, files_of, IsBug, clock_at, bug_finder, HeadEntry}
+use Rattle.repo_edit.proofs.Names.{Stop, BugRefused, FindsBug, FinderAnswers, GrowingAnswers, Growing, FindStop, stop_of_find, stop_of_read}
 use Rattle.repo_state.specs.declared.clocks.ClockFile.TheVariants as file
-use Rattle.repo_state.specs.Finds.{FinderAnswers, bug_finder}
-use Rattle.repo_steps.specs.declared.refusal.Stop.{Stop}
-use Rattle.repo_state.specs.declared.side.HeadEntry.{HeadEntry}
-use Rattle.repo_edit.specs.Growing.{GrowingAnswers}
-use Rattle.repo_edit.specs.declared.growing.Growing.{Growing}
 use Rattle.repo_edit.proofs.GrowingLemmas.{growing_broken, growing_grows, growing_lost, growing_nobody}
-use Rattle.repo_state.specs.declared.stop.FindStop.{FindStop}
-use Rattle.repo_steps.specs.Stops.{stop_of_find, stop_of_read}
 use Rattle.repo_edit.proofs.growing.growing_bug.Goals as goal
 
 pub returns-clause-answers : goal.returns-clause-answers

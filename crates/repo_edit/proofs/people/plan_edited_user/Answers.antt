@@ -1,13 +1,6 @@
 use Rattle.std.proofs.Common.{◌≡◌, ◌∙◌, ℕ, List, length, Option, Some, Ok, Result, Err, ap, sym, subst, rules, arith}
-use Rattle.gb_store.specs.Files.{Files, History, files_of}
-use Rattle.identity.specs.declared.making.VersionPlan.{VersionPlan}
-use Rattle.repo_state.specs.Answers.{FindsUser}
-use Rattle.repo_steps.specs.Stops.{stop_of_put, stop_of_read}
-use Rattle.repo_steps.specs.declared.refusal.Stop.{Stop}
-use Rattle.repo_state.specs.declared.side.HeadEntry.{HeadEntry}
-use Rattle.repo_steps.specs.Answers.{Plans}
-use Rattle.repo_steps.specs.PeopleDoings.{edited_user}
-use Rattle.repo_steps.specs.declared.plan.Plan.{Plan}
+use Rattle.repo_steps.proofs.Names.{Files, History, files_of, HeadEntry, edited_user}
+use Rattle.repo_edit.proofs.Names.{Stop, VersionPlan, FindsUser, stop_of_put, stop_of_read, Plans, Plan}
 use Rattle.repo_edit.specs.Reads.{ReadsRoom}
 use Rattle.repo_state.proofs.EntryLemmas.{entry_is}
 use Rattle.repo_edit.proofs.PlanLemmas.{edit_damaged, edit_full, edit_nobody, edit_planned, edit_refused, edit_taken}

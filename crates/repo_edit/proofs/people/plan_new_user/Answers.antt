@@ -1,9 +1,6 @@
 use Rattle.std.proofs.Common.{◌≡◌, ◌∙◌, Result, Err, sym, subst, rules}
-use Rattle.repo_steps.specs.Stops.{stop_of_put, stop_of_read}
-use Rattle.repo_steps.specs.declared.refusal.Stop.{Stop}
-use Rattle.repo_steps.specs.Answers.{Plans}
-use Rattle.repo_steps.specs.PeopleDoings.{new_user}
-use Rattle.repo_steps.specs.declared.plan.Plan.{Plan}
+use Rattle.repo_steps.proofs.Names.{new_user}
+use Rattle.repo_edit.proofs.Names.{Stop, stop_of_put, stop_of_read, Plans, Plan}
 use Rattle.repo_edit.proofs.PlanLemmas.{new_exists, new_planned, new_refused, new_taken, user_damaged}
 use Rattle.repo_edit.proofs.people.plan_new_user.Goals as goal
 

@@ -1,8 +1,5 @@
 use Rattle.std.proofs.Common.{◌≡◌, Result, Err, sym, subst, rules}
-use Rattle.repo_steps.specs.Stops.{stop_of_find}
-use Rattle.repo_steps.specs.declared.plan.Plan.{Plan}
-use Rattle.repo_steps.specs.declared.refusal.Stop.{Stop}
-use Rattle.repo_edit.specs.Growing.{SetPlans}
+use Rattle.repo_edit.proofs.Names.{Stop, stop_of_find, Plan, SetPlans}
 use Rattle.repo_edit.proofs.PlanLemmas.{set_lost}
 use Rattle.repo_edit.proofs.people.plan_set_user.Goals as goal
 

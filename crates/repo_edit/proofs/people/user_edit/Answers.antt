@@ -1,8 +1,6 @@
 use Rattle.std.proofs.Common.{◌≡◌, Result, Err, sym, subst, rules}
-use Rattle.gb_text.specs.declared.id.Id.{Id}
-use Rattle.repo_steps.specs.declared.refusal.Stop.{Stop}
-use Rattle.repo_steps.specs.Answers.{DoingAnswers}
-use Rattle.repo_steps.specs.PeopleDoings.{edited_user}
+use Rattle.repo_steps.proofs.Names.{Id, DoingAnswers, edited_user}
+use Rattle.repo_edit.proofs.Names.{Stop}
 use Rattle.repo_edit.proofs.PlanLemmas.{not_planned}
 use Rattle.repo_edit.proofs.people.user_edit.Goals as goal
 

@@ -1,8 +1,6 @@
 use Rattle.std.proofs.Common.{◌≡◌, Result, Err, sym, subst, rules}
-use Rattle.gb_text.specs.declared.id.Id.{Id}
-use Rattle.repo_steps.specs.declared.refusal.Stop.{Stop}
-use Rattle.repo_steps.specs.Doings.{EditAnswers}
-use Rattle.words.specs.declared.edit.Edit.TheVariants.{UserSet}
+use Rattle.repo_steps.proofs.Names.{Id, EditAnswers}
+use Rattle.repo_edit.proofs.Names.{Stop, UserSet}
 use Rattle.repo_edit.proofs.PlanLemmas.{set_carried, set_not_planned}
 use Rattle.repo_edit.proofs.people.user_set.Goals as goal
 

@@ -1,9 +1,6 @@
 use Rattle.std.proofs.Common.{◌≡◌, Result, Err, sym, subst, rules}
-use Rattle.gb_store.specs.Files.{History, files_of}
-use Rattle.repo_steps.specs.declared.refusal.Stop.{Stop}
-use Rattle.repo_steps.specs.Answers.{Plans}
-use Rattle.repo_steps.specs.BugDoings.{begun_bug}
-use Rattle.repo_steps.specs.declared.plan.Plan.{Plan}
+use Rattle.repo_steps.proofs.Names.{History, files_of}
+use Rattle.repo_edit.proofs.Names.{Stop, Plans, begun_bug, Plan}
 use Rattle.repo_edit.specs.Growing.{Begins}
 use Rattle.repo_edit.proofs.PlanBugLemmas.{begun_nobody}
 use Rattle.repo_edit.proofs.plan_bug.plan_begun.Goals as goal

@@ -1,12 +1,6 @@
 use Rattle.std.proofs.Common.{◌≡◌, List, Result, Ok, Err, sym, subst, rules}
-use Rattle.gb_store.specs.Files.{History}
-use Rattle.bug_ops.specs.declared.op.BugOp.{BugOp}
-use Rattle.repo_steps.specs.declared.refusal.Stop.{Stop}
-use Rattle.snapshot.specs.LastMention.{snapshot_of}
-use Rattle.repo_steps.specs.Stops.{stop_of_edit}
-use Rattle.repo_steps.specs.declared.plan.Plan.{Plan}
-use Rattle.bug_edits.specs.Answers.{OpAnswers}
-use Rattle.repo_edit.specs.Growing.{EditPlans, GrownPlans}
+use Rattle.repo_steps.proofs.Names.{History, BugOp, snapshot_of}
+use Rattle.repo_edit.proofs.Names.{Stop, stop_of_edit, Plan, OpAnswers, EditPlans, GrownPlans}
 use Rattle.repo_edit.proofs.PlanBugLemmas.{edit_barred, edit_full, edit_planned, edit_unmade}
 use Rattle.repo_edit.proofs.plan_bug.plan_edit.Goals as goal
 

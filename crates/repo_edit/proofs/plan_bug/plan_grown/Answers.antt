@@ -1,10 +1,7 @@
 use Rattle.std.proofs.Common.{◌≡◌, ◌∙◌, Result, Err, refl, ap, sym, subst, rules}
 use Rattle.std.specs.List.{list_any}
-use Rattle.bug_ops.specs.Kind.{bug_kind}
-use Rattle.repo_steps.specs.Stops.{stop_of_put}
-use Rattle.repo_steps.specs.declared.refusal.Stop.{Stop}
-use Rattle.repo_steps.specs.declared.plan.Plan.{Plan}
-use Rattle.repo_edit.specs.Growing.{GrownPlans, has_id}
+use Rattle.repo_steps.proofs.Names.{bug_kind}
+use Rattle.repo_edit.proofs.Names.{Stop, stop_of_put, Plan, GrownPlans, has_id}
 use Rattle.repo_edit.proofs.PlanBugLemmas.{grown_planned, grown_repeated, grown_taken}
 use Rattle.repo_edit.proofs.plan_bug.plan_grown.Goals as goal
 

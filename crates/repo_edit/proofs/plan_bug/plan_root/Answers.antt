@@ -1,9 +1,5 @@
 use Rattle.std.proofs.Common.{◌≡◌, ◌∙◌, Ok, Result, Err, sym, subst, rules}
-use Rattle.repo_steps.specs.Stops.{stop_of_put}
-use Rattle.repo_steps.specs.declared.refusal.Stop.{Stop}
-use Rattle.repo_steps.specs.Answers.{Plans}
-use Rattle.repo_steps.specs.BugDoings.{begun_bug}
-use Rattle.repo_steps.specs.declared.plan.Plan.{Plan}
+use Rattle.repo_edit.proofs.Names.{Stop, stop_of_put, Plans, begun_bug, Plan}
 use Rattle.repo_edit.proofs.PlanBugLemmas.{begun_exists, begun_large, begun_planned, begun_taken, packed_at}
 use Rattle.repo_edit.proofs.plan_bug.plan_root.Goals as goal
 

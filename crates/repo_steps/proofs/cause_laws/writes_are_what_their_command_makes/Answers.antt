@@ -1,4 +1,4 @@
-use Rattle.repo_steps.specs.Doings.{doing_of}
+use Rattle.repo_steps.proofs.Names.{doing_of}
 use Rattle.repo_steps.proofs.HeadMoveLemmas.{next_in}
 use Rattle.repo_steps.proofs.OwnLemmas.{own}
 use Rattle.repo_steps.proofs.cause_laws.writes_are_what_their_command_makes.Goals as goal

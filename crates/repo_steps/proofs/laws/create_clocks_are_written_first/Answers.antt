@@ -1,6 +1,4 @@
-use Rattle.gb_store.specs.Files.{files_of}
-use Rattle.repo_state.specs.Users.{user_at}
-use Rattle.bug_edits.specs.NewOps.{create_op}
+use Rattle.repo_steps.proofs.Names.{files_of, user_at, create_op}
 use Rattle.repo_steps.proofs.ClockOrderLemmas.{clocks_in_order}
 use Rattle.repo_steps.proofs.laws.create_clocks_are_written_first.Goals as goal
 
