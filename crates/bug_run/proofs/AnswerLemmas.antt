@@ -22,33 +22,33 @@ use Rattle.repo_view.proofs.LawLemmas.{log_not_missed, one_log}
 use Rattle.repo_view.proofs.MissedLemmas.{one_log_missed, one_show_missed, one_users_damage}
 use Rattle.repo_view.proofs.ShownLemmas.{one_show, one_users, show_not_missed, shown_not_damaged}
 use Rattle.bug_run.specs.Run.{CommandAnswers}
-use Rattle.bug_run.specs.Told.{Said}
+use Rattle.bug_run.specs.Answer.{Answer}
 use Rattle.words.specs.declared.words.Command.{Command}
 use Rattle.words.specs.declared.words.Command.TheVariants.{Edit, Log, Show, Users}
 
 -- answers with the same text, none of whose lines is a refusal, are one
-same_said : (first second : Said) → first.text ≡ second.text → first.refused ≡ 0 → second.refused ≡ 0 → first ≡ second
-same_said first second text here there = let counts : first.refused ≡ second.refused = here ∙ sym there in λ i. record { text = text i; refused = counts i }
+same_answer : (first second : Answer) → first.text ≡ second.text → first.refused ≡ 0 → second.refused ≡ 0 → first ≡ second
+same_answer first second text here there = let counts : first.refused ≡ second.refused = here ∙ sym there in λ i. record { text = text i; refused = counts i }
 
 -- a command that is done tells one text
-pub one_told : (env : Env) (command : Command) (old elder one two : History) (first second : Said) → files_of old ≡ files_of elder
+pub one_told : (env : Env) (command : Command) (old elder one two : History) (first second : Answer) → files_of old ≡ files_of elder
     → CommandAnswers env command old one (Ok first) → CommandAnswers env command elder two (Ok second) → first ≡ second
 one_told env Users old elder one two first second same here there =
     let there' = subst (λ (files : Files). UsersAnswers files env.folder (Ok second.text)) (sym same) there.0.0 in
-    same_said first second (one_users (files_of old) env.folder first.text second.text here.0.0 there') here.0.1 there.0.1
+    same_answer first second (one_users (files_of old) env.folder first.text second.text here.0.0 there') here.0.1 there.0.1
 one_told env (Show bug) old elder one two first second same here there =
     let there' = subst (λ (files : Files). ShowAnswers files env.folder bug (Ok second.text)) (sym same) there.0.0 in
-    same_said first second (one_show (files_of old) env.folder bug first.text second.text here.0.0 there') here.0.1 there.0.1
+    same_answer first second (one_show (files_of old) env.folder bug first.text second.text here.0.0 there') here.0.1 there.0.1
 one_told env (Log bug) old elder one two first second same here there =
     let there' = subst (λ (files : Files). LogAnswers files env.folder bug (Ok second.text)) (sym same) there.0.0 in
-    same_said first second (one_log (files_of old) env.folder bug first.text second.text here.0.0 there') here.0.1 there.0.1
+    same_answer first second (one_log (files_of old) env.folder bug first.text second.text here.0.0 there') here.0.1 there.0.1
 one_told env (Edit edit) old elder one two first second same (id, here, is) (other, there, also) =
     let step = subst (λ (files : Files). Steps env edit files (files_of two) other) (sym same) (done_steps env edit elder two other there) in
     let told : id ≡ other = (steps-same env edit (files_of old) (files_of one) (files_of two) id other (done_steps env edit old one id here) step).told in
     cc (told, is, also)
 
 -- and has no refusal
-pub done_not_refused : (env : Env) (command : Command) (old one two : History) (said : Said) (r : Refusal)
+pub done_not_refused : (env : Env) (command : Command) (old one two : History) (said : Answer) (r : Refusal)
     → CommandAnswers env command old one (Ok said) → CommandAnswers env command old two (Err (stop.Refused r)) → ⊥
 done_not_refused env Users old one two said r here ((path, there, is), same) = shown_not_damaged (files_of old) env.folder said.text path here.0.0 there
 done_not_refused env (Show bug) old one two said r here ((why, there, is), same) = show_not_missed (files_of old) env.folder bug said.text why here.0.0 there
@@ -70,6 +70,6 @@ one_refusal env (Log bug) old elder one two first second same reads ((why, here,
 one_refusal env (Edit edit) old elder one two first second same reads here there = absurd (reads edit refl)
 
 -- one that edits and is done tells the line of the id of its step
-pub tells_its_id : (env : Env) (edit : Edits) (old new : History) (said : Said) → CommandAnswers env (Edit edit) old new (Ok said)
+pub tells_its_id : (env : Env) (edit : Edits) (old new : History) (said : Answer) → CommandAnswers env (Edit edit) old new (Ok said)
     → (id : Id) × Steps env edit (files_of old) (files_of new) id × (said.text ≡ encode_lower id.bytes ++ codes "\n") × (said.refused ≡ 0)
-tells_its_id env edit old new said (id, answers, is) = (id, done_steps env edit old new id answers, ap (λ (s : Said). s.text) is, ap (λ (s : Said). s.refused) is)
+tells_its_id env edit old new said (id, answers, is) = (id, done_steps env edit old new id answers, ap (λ (s : Answer). s.text) is, ap (λ (s : Answer). s.refused) is)

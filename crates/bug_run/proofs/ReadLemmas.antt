@@ -9,20 +9,19 @@ use Rattle.repo_edit.specs.Reads.{ReadsFor}
 use Rattle.bug_run.specs.Printed.{Printed}
 use Rattle.bug_run.specs.Reads.{ReadsCommand}
 use Rattle.bug_run.specs.Run.{status_of, text_of}
-use Rattle.bug_run.specs.Told.{as_said}
 use Rattle.bug_run.specs.declared.status.Status.{Status}
 use Rattle.bug_run.specs.declared.status.Status.TheVariants as status
-use Rattle.bug_run.specs.declared.told.Answer.{Answer}
+use Rattle.bug_run.specs.Answer.{Answer}
 use Rattle.words.specs.declared.words.Command.{Command}
 use Rattle.words.specs.declared.words.Command.TheVariants.{Edit, Log, Show, Users}
 
 -- a run that is told as done answered a text
 pub done_was_ok : (tells takes_memory : Bool) (before after : List ℕ) (r : Result Answer Stop) (answer : Status)
-    → Printed tells takes_memory (text_of (as_said r)) (status_of (as_said r)) before after answer → answer ≡ status.Done → IsOk r
+    → Printed tells takes_memory (text_of r) (status_of r) before after answer → answer ≡ status.Done → IsOk r
 done_was_ok tells takes_memory before after (Ok said) answer printed done = refl
 done_was_ok tells takes_memory before after (Err s) answer (inl (is, all)) done = absurd (each s is)
   where
-    each : (s : Stop) → answer ≡ status_of (as_said (Err s)) → ⊥
+    each : (s : Stop) → answer ≡ status_of (Err s) → ⊥
     each stop.Memory e = cc (e, done)
     each stop.Disk e = cc (e, done)
     each (stop.Refused r) e = cc (e, done)

@@ -12,8 +12,8 @@ use Rattle.repo_steps.specs.Writes.{IsWriteOf}
 use Rattle.repo_steps.proofs.WriteOfLemmas.{answers_wrote_of}
 use Rattle.repo_writes.proofs.SoundLemmas.{keeps_parts, keeps_sound}
 use Rattle.bug_run.specs.Asked.{AsksIn, Folders, folders_of, written_in}
-use Rattle.bug_run.specs.Run.{AskedAnswers, Call, CommandAnswers, CommandWrites, EditSaid, RequestAnswers, RunAnswers, RunStaysSound, RunWrites, env_at}
-use Rattle.bug_run.specs.Told.{Said}
+use Rattle.bug_run.specs.Run.{AskedAnswers, Call, CommandAnswers, CommandWrites, EditTells, RequestAnswers, RunAnswers, RunStaysSound, RunWrites, env_at}
+use Rattle.bug_run.specs.Answer.{Answer}
 use Rattle.bug_run.specs.declared.status.Status.{Status}
 use Rattle.words.specs.declared.words.Asked.{Asked}
 use Rattle.words.specs.declared.words.Asked.TheVariants as asked
@@ -21,11 +21,11 @@ use Rattle.words.specs.declared.words.Command.{Command}
 use Rattle.words.specs.declared.words.Command.TheVariants.{Edit, Log, Show, Users}
 use Rattle.words.specs.declared.words.Request.{Request}
 
-edit_wrote : (env : Env) (edit : Edits) (old new : History) (result : Result Said Stop) → EditSaid env edit old new result → WroteBy (IsWriteOf env edit) old new
+edit_wrote : (env : Env) (edit : Edits) (old new : History) (result : Result Answer Stop) → EditTells env edit old new result → WroteBy (IsWriteOf env edit) old new
 edit_wrote env edit old new (Ok said) is = answers_wrote_of env edit old new (Ok is.0) is.1
 edit_wrote env edit old new (Err s) is = answers_wrote_of env edit old new (Err s) is
 
-command_wrote : (env : Env) (command : Command) (old new : History) (result : Result Said Stop) → CommandAnswers env command old new result → WroteBy (CommandWrites env command) old new
+command_wrote : (env : Env) (command : Command) (old new : History) (result : Result Answer Stop) → CommandAnswers env command old new result → WroteBy (CommandWrites env command) old new
 command_wrote env Users old new result is = WroteBy-none (CommandWrites env Users) old new is.1
 command_wrote env (Show bug) old new result is = WroteBy-none (CommandWrites env (Show bug)) old new is.1
 command_wrote env (Log bug) old new result is = WroteBy-none (CommandWrites env (Log bug)) old new is.1
@@ -33,7 +33,7 @@ command_wrote env (Edit edit) old new result is = edit_wrote env edit old new re
 
 module _ (call : Call) where
   -- what a request writes is its command's in its folder
-  request_wrote : (request : Request) (old new : History) (result : Result Said Stop) → call.asked ≡ asked.Request request → IsTrue call.store_tells
+  request_wrote : (request : Request) (old new : History) (result : Result Answer Stop) → call.asked ≡ asked.Request request → IsTrue call.store_tells
       → RequestAnswers call.store_tells request call.moment old new result → WroteBy (RunWrites call) old new
   request_wrote request old new result asks tells answers =
       WroteBy-wider (CommandWrites (env_at call.moment request.folder) request.command) (RunWrites call) old new

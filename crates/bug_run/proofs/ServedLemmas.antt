@@ -18,7 +18,7 @@ use Rattle.repo_view.proofs.ShownLemmas.{show_not_damaged, users_not_damaged}
 use Rattle.bug_run.specs.Printed.{IsTold, Printed}
 use Rattle.bug_run.specs.Run.{Call, CommandAnswers, RunAnswers, env_at, status_for, status_of, text_of}
 use Rattle.bug_run.specs.Served.{HasCause, ShowsOperations}
-use Rattle.bug_run.specs.Told.{Said}
+use Rattle.bug_run.specs.Answer.{Answer}
 use Rattle.bug_run.specs.declared.status.Status.{Status}
 use Rattle.bug_run.specs.declared.status.Status.TheVariants as status
 use Rattle.words.specs.declared.words.Asked.TheVariants as asked
@@ -47,11 +47,11 @@ served env (Log word) old new sound none r ((why, is, told), same) = log_served 
 served env (Edit edit) old new sound none r is = none (r, (is.0, is.1.0))
 
 -- one that is done prints no line that is a refusal
-no_line : (env : Env) (command : Command) (old new : History) (said : Said) → CommandAnswers env command old new (Ok said) → said.refused ≡ 0
+no_line : (env : Env) (command : Command) (old new : History) (said : Answer) → CommandAnswers env command old new (Ok said) → said.refused ≡ 0
 no_line env Users old new said is = is.0.1
 no_line env (Show word) old new said is = is.0.1
 no_line env (Log word) old new said is = is.0.1
-no_line env (Edit edit) old new said is = ap (λ (s : Said). s.refused) is.2
+no_line env (Edit edit) old new said is = ap (λ (s : Answer). s.refused) is.2
 
 -- ---- a run
 
@@ -60,7 +60,7 @@ abbrev pub IsServed : Status → Type 0
 IsServed answer = (answer ≡ status.Done) ⊎ ((answer ≡ status.Memory) ⊎ ((answer ≡ status.DiskFault) ⊎ (answer ≡ status.OutFault)))
 
 -- what is told of an answer that is no refusal
-served_told : (result : Result Said Stop) (answer : Status) → ((said : Said) → result ≡ Ok said → said.refused ≡ 0) → ((r : Refusal) → result ≡ Err (stop.Refused r) → ⊥)
+served_told : (result : Result Answer Stop) (answer : Status) → ((said : Answer) → result ≡ Ok said → said.refused ≡ 0) → ((r : Refusal) → result ≡ Err (stop.Refused r) → ⊥)
     → IsTold (status_of result) answer → IsServed answer
 served_told result answer plain taken (inr (inl fault)) = inr (inr (inr fault))
 served_told result answer plain taken (inr (inr memory)) = inr (inl memory)
@@ -83,8 +83,8 @@ run_served call old new before after answer request tells asks sound none is =
 -- ---- a bug as it is shown
 
 -- a run that is done answered a text, and printed all of it
-done_was : (tells takes : Bool) (before after : List ℕ) (result : Result Said Stop) → Printed tells takes (text_of result) (status_of result) before after status.Done
-    → (said : Said) × (result ≡ Ok said) × (IsTrue tells → after ≡ before ++ said.text)
+done_was : (tells takes : Bool) (before after : List ℕ) (result : Result Answer Stop) → Printed tells takes (text_of result) (status_of result) before after status.Done
+    → (said : Answer) × (result ≡ Ok said) × (IsTrue tells → after ≡ before ++ said.text)
 done_was tells takes before after (Ok said) (inl h) = (said, refl, h.1)
 done_was tells takes before after (Ok said) (inr (inl h)) = absurd (cc (h.0))
 done_was tells takes before after (Ok said) (inr (inr h)) = absurd (cc (h.0))

@@ -22,7 +22,7 @@ use Rattle.bug_run.specs.Printed.{Printed, PrintedFront}
 use Rattle.bug_run.specs.Reads.{ReadsCommand}
 use Rattle.bug_run.specs.Refusals.{refusal_line, usage_text}
 use Rattle.bug_run.specs.Run.{AskedAnswers, Call, RequestAnswers, RunAnswers, status_of, text_of}
-use Rattle.bug_run.specs.Told.{Said}
+use Rattle.bug_run.specs.Answer.{Answer}
 use Rattle.bug_run.specs.declared.status.Refused.TheVariants.{ByWords}
 use Rattle.bug_run.specs.declared.status.Status.{Status}
 use Rattle.bug_run.specs.declared.status.Status.TheVariants as status
@@ -104,7 +104,7 @@ refusal_cut call old new before after bad asks is =
     cut_of call (refusal_line (ByWords bad)) before after (status.Refused (ByWords bad)) (λ e. cc e) answers.1
 
 pub command_cut : (call : Call) (old new : History) (before after : List ℕ) (request : Request) → call.asked ≡ asked.Request request → RunAnswers call old new before after status.OutFault
-    → (result : Result Said Stop) × (count : ℕ) × RequestAnswers call.store_tells request call.moment old new result × (count < length (text_of result))
+    → (result : Result Answer Stop) × (count : ℕ) × RequestAnswers call.store_tells request call.moment old new result × (count < length (text_of result))
     × (IsTrue call.sink_tells → after ≡ before ++ take count (text_of result))
 command_cut call old new before after request asks is =
     let a = answered call request old new before after status.OutFault asks is in
@@ -112,7 +112,7 @@ command_cut call old new before after request asks is =
     (a.result, cut.0, a.done, cut.1, cut.2)
 
 pub done_whole : (call : Call) (old new : History) (before after : List ℕ) (request : Request) → call.asked ≡ asked.Request request → RunAnswers call old new before after status.Done
-    → (result : Result Said Stop) × RequestAnswers call.store_tells request call.moment old new result × (IsTrue call.sink_tells → after ≡ before ++ text_of result)
+    → (result : Result Answer Stop) × RequestAnswers call.store_tells request call.moment old new result × (IsTrue call.sink_tells → after ≡ before ++ text_of result)
 done_whole call old new before after request asks is =
     let a = answered call request old new before after status.Done asks is in
     (a.result, a.done, whole (text_of a.result) (status_of a.result) a.printed)

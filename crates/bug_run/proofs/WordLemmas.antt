@@ -6,7 +6,7 @@ use Rattle.repo_steps.specs.declared.refusal.Stop.TheVariants as stop
 use Rattle.bug_run.specs.Printed.{IsTold, Printed}
 use Rattle.bug_run.specs.Refusals.{refusal_line, usage_text}
 use Rattle.bug_run.specs.Run.{AskedAnswers, Call, PrintedAnswer, RequestAnswers, RunAnswers, status_for, status_of}
-use Rattle.bug_run.specs.Told.{Said}
+use Rattle.bug_run.specs.Answer.{Answer}
 use Rattle.bug_run.specs.declared.status.Status.{Status}
 use Rattle.bug_run.specs.declared.status.Status.TheVariants as status
 use Rattle.bug_run.specs.declared.status.Refused.TheVariants.{ByWords}
@@ -22,7 +22,7 @@ printed_told call text before after told answer (inr (inl h)) = inr (inl h.0)
 printed_told call text before after told answer (inr (inr h)) = inr (inr h.0)
 
 -- the status of a command is none of those that the arguments or the sink decide
-pub never_by_words : (result : Result Said Stop) → (status_of result ≡ status.Usage → ⊥) × ((bad : BadWord) → status_of result ≡ status.Refused (ByWords bad) → ⊥) × (status_of result ≡ status.OutFault → ⊥)
+pub never_by_words : (result : Result Answer Stop) → (status_of result ≡ status.Usage → ⊥) × ((bad : BadWord) → status_of result ≡ status.Refused (ByWords bad) → ⊥) × (status_of result ≡ status.OutFault → ⊥)
 never_by_words (Ok said) = each said.refused
   where
     each : (n : ℕ) → (status_for n ≡ status.Usage → ⊥) × ((bad : BadWord) → status_for n ≡ status.Refused (ByWords bad) → ⊥) × (status_for n ≡ status.OutFault → ⊥)
@@ -77,7 +77,7 @@ refusal_only call old new before after bad is = each call.asked is
 
 -- what was answered to them
 pub record Answered (call : Call) (request : Request) (old new : History) (before after : List ℕ) (answer : Status) : Type 0 where
-  pub result : Result Said Stop
+  pub result : Result Answer Stop
   pub done : RequestAnswers call.store_tells request call.moment old new result
   pub printed : PrintedAnswer call result before after answer
 

@@ -1,3 +1,4 @@
+pub mod Answer
 pub mod Asked
 pub mod Moments
 pub mod Printed
@@ -6,4 +7,3 @@ pub mod Refusals
 pub mod Run
 pub mod Runs
 pub mod Served
-pub mod Told

@@ -25,7 +25,7 @@ use Rattle.repo_view.specs.Shown.{ShowAnswers, UsersAnswers}
 use Rattle.bug_run.specs.Asked.{AsksIn, Folders, written_in}
 use Rattle.bug_run.specs.Printed.{Printed}
 use Rattle.bug_run.specs.Refusals.{refusal_line, usage_text}
-use Rattle.bug_run.specs.Told.{Said}
+use Rattle.bug_run.specs.Answer.{Answer}
 use Rattle.bug_run.specs.declared.status.Refused.{Refused}
 use Rattle.bug_run.specs.declared.status.Refused.TheVariants.{ByCommand, ByWords, SomeLines}
 use Rattle.bug_run.specs.declared.status.Status.{Status}
@@ -52,38 +52,38 @@ call_of store_tells sink_tells takes_memory asked moment =
 -- ---- the answer
 
 -- the answer to a command that reads, none of whose lines is a refusal, by the relation of its texts and of why it has none
-abbrev pub TextRead : (Result (List ℕ) ReadStop → Type 0) → Result Said Stop → Type 0
-TextRead Answers (Ok said) = Answers (Ok said.text) × (said.refused ≡ 0)
+abbrev pub TextRead : (Result (List ℕ) ReadStop → Type 0) → Result Answer Stop → Type 0
+TextRead Answers (Ok answer) = Answers (Ok answer.text) × (answer.refused ≡ 0)
 TextRead Answers (Err stop.Memory) = ⊤
 TextRead Answers (Err stop.Disk) = ⊤
 TextRead Answers (Err (stop.Refused r)) = (path : List ℕ) × Answers (Err (read.Damaged path)) × (r ≡ refusal.Damaged path)
 
 -- and that to one which finds a bug
-abbrev pub TextFound : (Result (List ℕ) FindStop → Type 0) → Result Said Stop → Type 0
-TextFound Answers (Ok said) = Answers (Ok said.text) × (said.refused ≡ 0)
+abbrev pub TextFound : (Result (List ℕ) FindStop → Type 0) → Result Answer Stop → Type 0
+TextFound Answers (Ok answer) = Answers (Ok answer.text) × (answer.refused ≡ 0)
 TextFound Answers (Err stop.Memory) = ⊤
 TextFound Answers (Err stop.Disk) = ⊤
 TextFound Answers (Err (stop.Refused r)) = (why : Missed) × Answers (Err (find.Missed why)) × (r ≡ of_missed why)
 
 -- the answer to an edit, which tells the line of an id
-abbrev pub EditSaid : Env → Edits → History → History → Result Said Stop → Type 0
-EditSaid env edit old new (Ok said) =
-    (id : Id) × EditAnswers env edit old new (Ok id) × (said ≡ record { text = id_line id; refused = 0 })
-EditSaid env edit old new (Err s) = EditAnswers env edit old new (Err s)
+abbrev pub EditTells : Env → Edits → History → History → Result Answer Stop → Type 0
+EditTells env edit old new (Ok answer) =
+    (id : Id) × EditAnswers env edit old new (Ok id) × (answer ≡ record { text = id_line id; refused = 0 })
+EditTells env edit old new (Err s) = EditAnswers env edit old new (Err s)
 
 -- the answer to a command in a folder, with what was written: that of the one call that it makes
-abbrev pub CommandAnswers : Env → Command → History → History → Result Said Stop → Type 0
+abbrev pub CommandAnswers : Env → Command → History → History → Result Answer Stop → Type 0
 CommandAnswers env Users old new result = TextRead (UsersAnswers (files_of old) env.folder) result × (new ≡ old)
 CommandAnswers env (Show bug) old new result = TextFound (ShowAnswers (files_of old) env.folder bug) result × (new ≡ old)
 CommandAnswers env (Log bug) old new result = TextFound (LogAnswers (files_of old) env.folder bug) result × (new ≡ old)
-CommandAnswers env (Edit edit) old new result = EditSaid env edit old new result
+CommandAnswers env (Edit edit) old new result = EditTells env edit old new result
 
 -- in a folder, at this time and with this seed
 abbrev pub env_at : Moment → List ℕ → Env
 env_at moment folder = record { folder = folder; moment = moment }
 
 -- the answer to a request, with what was written, where the store shows its files: that of its command in its folder
-abbrev pub RequestAnswers : Bool → Request → Moment → History → History → Result Said Stop → Type 0
+abbrev pub RequestAnswers : Bool → Request → Moment → History → History → Result Answer Stop → Type 0
 RequestAnswers tells request moment old new result = IsTrue tells → CommandAnswers (env_at moment request.folder) request.command old new result
 
 -- the status of a command that was done, by the number of its lines that are refusals
@@ -92,15 +92,15 @@ status_for zero = status.Done
 status_for (suc n) = status.Refused (SomeLines (suc n))
 
 -- the status of an answer
-abbrev pub status_of : Result Said Stop → Status
-status_of (Ok said) = status_for said.refused
+abbrev pub status_of : Result Answer Stop → Status
+status_of (Ok answer) = status_for answer.refused
 status_of (Err stop.Memory) = status.Memory
 status_of (Err stop.Disk) = status.DiskFault
 status_of (Err (stop.Refused r)) = status.Refused (ByCommand r)
 
 -- the text of an answer
-abbrev pub text_of : Result Said Stop → List ℕ
-text_of (Ok said) = said.text
+abbrev pub text_of : Result Answer Stop → List ℕ
+text_of (Ok answer) = answer.text
 text_of (Err stop.Memory) = []
 text_of (Err stop.Disk) = []
 text_of (Err (stop.Refused r)) = refusal_line (ByCommand r)
@@ -109,7 +109,7 @@ text_of (Err (stop.Refused r)) = refusal_line (ByCommand r)
 abbrev pub PrintedLine : Call → Refused → List ℕ → List ℕ → Status → Type 0
 PrintedLine call refused before after answer = Printed call.sink_tells call.takes_memory (refusal_line refused) (status.Refused refused) before after answer
 
-abbrev pub PrintedAnswer : Call → Result Said Stop → List ℕ → List ℕ → Status → Type 0
+abbrev pub PrintedAnswer : Call → Result Answer Stop → List ℕ → List ℕ → Status → Type 0
 PrintedAnswer call result before after answer = Printed call.sink_tells call.takes_memory (text_of result) (status_of result) before after answer
 
 -- what a run answers to arguments that ask this, and writes for it; then what it printed of that
@@ -119,7 +119,7 @@ AskedAnswers asked.Nothing call old new before after answer =
 AskedAnswers (asked.Refused bad) call old new before after answer =
     (IsTrue call.store_tells → new ≡ old) × PrintedLine call (ByWords bad) before after answer
 AskedAnswers (asked.Request request) call old new before after answer =
-    (result : Result Said Stop) × RequestAnswers call.store_tells request call.moment old new result
+    (result : Result Answer Stop) × RequestAnswers call.store_tells request call.moment old new result
     × PrintedAnswer call result before after answer
 
 -- What a run answers, writes and prints.

@@ -19,7 +19,7 @@ ghost use Rattle.bug_run.specs.Reads.{ReadsCommand};
 ghost use Rattle.bug_run.specs.Run.{Call, CommandAnswers, RunAnswers, env_at};
 ghost use Rattle.bug_run.specs.Runs.{AreApart, Runs};
 ghost use Rattle.bug_run.specs.Served.{HasCause, ShowsOperations};
-ghost use Rattle.bug_run.specs.Told.{Said};
+ghost use Rattle.bug_run.specs.Answer.{Answer};
 ghost use Rattle.bug_run.specs.declared.status.Refused.TheVariants as refused;
 ghost use Rattle.bug_run.specs.declared.status.Status.{Status as StatusValue};
 ghost use Rattle.bug_run.specs.declared.status.Status.TheVariants as status;
@@ -78,11 +78,11 @@ pub fn show_prints_the_operations_in_order()
 /// refusal too, so that all that it tells is determined.
 pub fn answers_are_determined()
     ensures told { (env : Env) (command : Command) (old elder one two : History)
-        (first second : Said) → files_of old ≡ files_of elder
+        (first second : Answer) → files_of old ≡ files_of elder
         → CommandAnswers env command old one (Ok first)
         → CommandAnswers env command elder two (Ok second) → first ≡ second }
-    ensures refused { (env : Env) (command : Command) (old one two : History) (said : Said)
-        (refusal : Refusal) → CommandAnswers env command old one (Ok said)
+    ensures refused { (env : Env) (command : Command) (old one two : History) (answer : Answer)
+        (refusal : Refusal) → CommandAnswers env command old one (Ok answer)
         → CommandAnswers env command old two (Err (stop.Refused refusal)) → ⊥ }
     ensures one_refusal { (env : Env) (command : Command) (old elder one two : History)
         (first second : Refusal) → files_of old ≡ files_of elder
@@ -93,10 +93,10 @@ pub fn answers_are_determined()
 
 /// A done command that edits prints the line of the id of what it made, and no refusal.
 pub fn edits_tell_what_they_made()
-    ensures { (env : Env) (edit : Edits) (old new : History) (said : Said)
-        → CommandAnswers env (ask.Edit edit) old new (Ok said)
+    ensures { (env : Env) (edit : Edits) (old new : History) (answer : Answer)
+        → CommandAnswers env (ask.Edit edit) old new (Ok answer)
         → (id : Id) × Steps env edit (files_of old) (files_of new) id
-        × (said.text ≡ encode_lower id.bytes ++ codes "\n") × (said.refused ≡ 0) }
+        × (answer.text ≡ encode_lower id.bytes ++ codes "\n") × (answer.refused ≡ 0) }
 {}
 
 /// Commands that read no chain and no bug read few objects: `user-new` at most three, `new` four,

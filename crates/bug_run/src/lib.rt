@@ -1,12 +1,12 @@
 //! The top call: what the arguments ask, done over a store and printed to a sink.
 #![tactic(auto)]
 
+mod answer;
 mod laws;
 mod moment;
 mod print;
 mod refusal;
 mod status;
-mod told;
 mod top;
 mod usage;
 

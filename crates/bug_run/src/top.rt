@@ -5,15 +5,14 @@ ghost use Rattle.gb_store.specs.Files.{files_of};
 ghost use Rattle.gb_store.specs.Moments.{WroteByIf};
 ghost use Rattle.bug_run.specs.Printed.{Printed};
 ghost use Rattle.bug_run.specs.Reads.{ReadsAsked, ReadsCommand};
-ghost use Rattle.bug_run.specs.Run.{CommandAnswers, RunAnswers, RunStaysSound, RunWrites, call_of, env_at, status_for, status_of, text_of};
+ghost use Rattle.bug_run.specs.Run.{CommandAnswers, RunAnswers, RunStaysSound, RunWrites, call_of, env_at, status_of, text_of};
 ghost use Rattle.bug_run.specs.Refusals.{refusal_line};
-ghost use Rattle.bug_run.specs.Told.{as_said, told_text};
 ghost use Rattle.words.specs.Words.{asked_of};
 
+use crate::answer::Answer;
 use crate::print::print;
 use crate::refusal::refusal_line;
 use crate::status::{Refused, Status};
-use crate::told::{Answer, Told, id_line};
 use bug_edits::Moment;
 use gb_store::{Sink, Store};
 use repo_edit::run_edit;
@@ -72,7 +71,7 @@ fn perform<S: Store>(
     moment: Moment,
 ) -> Result<Answer, Stop>
     ensures answers { IsTrue S.tells → CommandAnswers (env_at moment request.folder)
-        request.command (S.history disk.old) (S.history disk.new) (as_said result) }
+        request.command (S.history disk.old) (S.history disk.new) result }
     ensures reads { IsTrue S.tells → ReadsCommand (files_of (S.history disk.old))
         request.folder request.command (IsOk result)
         (S.object_reads disk.old) (S.object_reads disk.new) }
@@ -92,7 +91,7 @@ fn run_command<S: Store>(
     command: &Command,
 ) -> Result<Answer, Stop>
     ensures answers { IsTrue S.tells → CommandAnswers env.now command.now
-        (S.history disk.old) (S.history disk.new) (as_said result) }
+        (S.history disk.old) (S.history disk.new) result }
     ensures reads { IsTrue S.tells → ReadsCommand (files_of (S.history disk.old))
         env.now.folder command.now (IsOk result)
         (S.object_reads disk.old) (S.object_reads disk.new) }
@@ -100,62 +99,27 @@ fn run_command<S: Store>(
         disk.old disk.new }
 {
     match command {
-        Command::Users => {
-            let text = users(alloc, disk, &env.folder)?;
-            Ok(all_done(Told::Text(text)))
-        }
-        Command::Show { bug } => {
-            let text = show(alloc, disk, &env.folder, bug.as_str())?;
-            Ok(all_done(Told::Text(text)))
-        }
-        Command::Log { bug } => {
-            let text = log(alloc, disk, &env.folder, bug.as_str())?;
-            Ok(all_done(Told::Text(text)))
-        }
-        Command::Edit(command) => {
-            let id = run_edit(alloc, disk, env, command)?;
-            Ok(all_done(Told::Id(id)))
-        }
+        Command::Users => Ok(Answer::text(users(alloc, disk, &env.folder)?)),
+        Command::Show { bug } => Ok(Answer::text(show(alloc, disk, &env.folder, bug.as_str())?)),
+        Command::Log { bug } => Ok(Answer::text(log(alloc, disk, &env.folder, bug.as_str())?)),
+        Command::Edit(command) => Ok(Answer::line(run_edit(alloc, disk, env, command)?)),
     }
-}
-
-// What is answered where no line is a refusal.
-fn all_done(told: Told) -> Answer
-    ensures { result ≡ record { told = told; refused = 0 } }
-{
-    Answer { told, refused: 0 }
 }
 
 // Prints the text of an answer, and answers its status.
 fn tell<K: Sink>(alloc: Global, out: &mut K, outcome: Result<Answer, Stop>) -> Status
     ensures answers { Printed K.tells K.takes_memory
-        (text_of (as_said outcome)) (status_of (as_said outcome))
+        (text_of outcome) (status_of outcome)
         (K.written out.old) (K.written out.new) result }
     ensures disk { result ≡ Status.DiskFault ↔ IsErrOf outcome Stop.Disk }
     ensures caused { KeepsFaults K.never_fails K.faults (result ≡ Status.OutFault)
         out.old out.new }
 {
     match outcome {
-        Ok(answer) => tell_answer(alloc, out, answer),
+        Ok(answer) => answer.print(alloc, out),
         Err(Stop::Memory) => Status::Memory,
         Err(Stop::Disk) => Status::DiskFault,
         Err(Stop::Refused(refusal)) => print_refusal(alloc, out, Refused::ByCommand(refusal)),
-    }
-}
-
-// Prints what a command that was done tells.
-fn tell_answer<K: Sink>(alloc: Global, out: &mut K, answer: Answer) -> Status
-    ensures answers { Printed K.tells K.takes_memory
-        (told_text answer.told) (status_for answer.refused)
-        (K.written out.old) (K.written out.new) result }
-    ensures disk { result ≡ Status.DiskFault → ⊥ }
-    ensures caused { KeepsFaults K.never_fails K.faults (result ≡ Status.OutFault)
-        out.old out.new }
-{
-    let status = status_for(answer.refused);
-    match answer.told {
-        Told::Text(text) => print(alloc, out, text.as_str().as_bytes(), status),
-        Told::Id(id) => print(alloc, out, &id_line(&id), status),
     }
 }
 
@@ -176,16 +140,5 @@ fn print_refusal<K: Sink>(alloc: Global, out: &mut K, refused: Refused) -> Statu
             Status::Refused(refused),
         ),
         Err(_) => Status::Memory,
-    }
-}
-
-// The status of a command that was done, by the number of its lines that are refusals.
-fn status_for(refused: u64) -> Status
-    ensures { result ≡ status_for refused }
-{
-    if refused == 0 {
-        Status::Done
-    } else {
-        Status::Refused(Refused::SomeLines(refused))
     }
 }

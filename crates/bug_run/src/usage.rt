@@ -19,7 +19,7 @@ ghost use Rattle.words.specs.declared.edit.Edit.TheVariants as edits;
 ghost use Rattle.bug_run.specs.Reads.{ReadsCommand};
 ghost use Rattle.bug_run.specs.Refusals.{usage_text};
 ghost use Rattle.bug_run.specs.Run.{Call, RequestAnswers, RunAnswers, text_of};
-ghost use Rattle.bug_run.specs.Told.{Said};
+ghost use Rattle.bug_run.specs.Answer.{Answer};
 ghost use Rattle.bug_run.specs.declared.status.Status.TheVariants as status;
 ghost use Rattle.words.specs.declared.words.Command.TheVariants as ask;
 ghost use Rattle.words.specs.declared.words.Request.{Request};
@@ -88,14 +88,14 @@ pub fn failed_output_is_cut_short()
     ensures command { (call : Call) (old new : History) (before after : List ℕ)
         (request : Request) → call.asked ≡ asked.Request request
         → RunAnswers call old new before after status.OutFault
-        → (result : Result Said Stop) × (count : ℕ)
+        → (result : Result Answer Stop) × (count : ℕ)
         × RequestAnswers call.store_tells request call.moment old new result
         × (count < length (text_of result))
         × (IsTrue call.sink_tells → after ≡ before ++ take count (text_of result)) }
     ensures done { (call : Call) (old new : History) (before after : List ℕ)
         (request : Request) → call.asked ≡ asked.Request request
         → RunAnswers call old new before after status.Done
-        → (result : Result Said Stop)
+        → (result : Result Answer Stop)
         × RequestAnswers call.store_tells request call.moment old new result
         × (IsTrue call.sink_tells → after ≡ before ++ text_of result) }
 {}

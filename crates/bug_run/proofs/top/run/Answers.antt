@@ -6,7 +6,6 @@ use Rattle.bug_run.specs.Asked.{folders_of}
 use Rattle.bug_run.specs.Printed.{Printed}
 use Rattle.bug_run.specs.Refusals.{usage_text}
 use Rattle.bug_run.specs.Run.{AskedAnswers, RunWrites, call_of}
-use Rattle.bug_run.specs.Told.{as_said}
 use Rattle.bug_run.specs.declared.status.Status.TheVariants as status
 use Rattle.words.specs.Words.{asked_of}
 use Rattle.words.specs.declared.words.Asked.{Asked}
@@ -22,7 +21,7 @@ returns-in-Request-clause-answers g c =
     let is : asks ≡ asked.Request c.in-Request.request = search rules in
     subst (λ (asks : Asked). AskedAnswers asks call (g.S.Store.history c.args.disk.now) (g.S.Store.history c.perform-outcome.new.disk)
     (g.K.Sink.written c.args.out.now) (g.K.Sink.written c.tell.new.out) c.tell.result) (sym is)
-    (as_said c.perform-outcome.result, c.perform-outcome.ensures.answers, c.tell.ensures.answers)
+    (c.perform-outcome.result, c.perform-outcome.ensures.answers, c.tell.ensures.answers)
 
 pub returns-in-Request-clause-wrote : goal.returns-in-Request-clause-wrote
 returns-in-Request-clause-wrote g c = record {
