@@ -1,0 +1,5 @@
+pub mod AgainLemmas
+pub mod MergeLemmas
+pub mod PlanLemmas
+pub mod UnionLemmas
+pub mod WordLemmas
