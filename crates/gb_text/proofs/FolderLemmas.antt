@@ -1,11 +1,13 @@
 -- Parts joined by slashes, one part more.
-use Rattle.std.proofs.Common.{◌≡◌, ℕ, ◌+◌, ◌<◌, ◌≤◌, ◌==◌, Bool, true, false, cond, List, [], ◌∷◌, ◌++◌, length, map, take, filter, get_or, Bor, refl, sym, ◌∙◌, ap, append-nil, append_assoc, arith}
+use Rattle.std.proofs.Common.{◌≡◌, ℕ, ◌+◌, ◌<◌, ◌≤◌, ◌==◌, Bool, true, false, cond, List, [], ◌∷◌, ◌++◌, length, map, take, filter, get_or, Bor, Result, Ok, Err, None, refl, sym, ◌∙◌, ap, append-nil, append_assoc, arith}
 use Rattle.std.proofs.lemmas.Grind.{common_steps}
 use Rattle.std.proofs.lemmas.List.{take_more, take_all}
 use Rattle.std.proofs.lemmas.List.Elements.{filter-append}
 use Rattle.std.proofs.lemmas.List.{map-append}
 use Rattle.std.specs.List.{join_with_byte}
-use Rattle.gb_text.specs.Folder.{counts}
+use Rattle.gb_text.specs.Folder.{counts, folder_of, FolderAnswers}
+use Rattle.gb_text.specs.declared.folder.FolderFault.{FolderFault}
+use Rattle.gb_text.specs.declared.folder.FolderFault.TheVariants.{Memory, BadFolder}
 
 join_with_byte-more : (c : ℕ) (xs : List (List ℕ)) (x : List ℕ) → 0 < length xs → join_with_byte c (xs ++ x ∷ []) ≡ join_with_byte c xs ++ c ∷ x
 join_with_byte-more c [] x lt = absurd (omega (arith, lt))
@@ -55,3 +57,9 @@ length-push (y ∷ ys) x = grind (arith, common_steps)
 -- all parts
 pub counted-all : (parts : List (Bor (List ℕ))) (i : ℕ) → length parts ≤ i → counted parts i ≡ filter counts (map (λ (part : Bor (List ℕ)). part.now) parts)
 counted-all parts i le = ap (λ (xs : List (Bor (List ℕ))). filter counts (map (λ (part : Bor (List ℕ)). part.now) xs)) (take_all i parts le)
+
+-- a word that names no folder has one answer
+pub FolderAnswers-none : (word : List ℕ) (answer : Result (List ℕ) FolderFault) → folder_of word ≡ None → FolderAnswers (folder_of word) answer → answer ≡ Err BadFolder
+FolderAnswers-none word (Ok text) none answers = absurd cc
+FolderAnswers-none word (Err BadFolder) none answers = refl
+FolderAnswers-none word (Err Memory) none answers = absurd (answers none)

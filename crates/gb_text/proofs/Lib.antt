@@ -9,5 +9,6 @@ pub mod OverlapLemmas
 pub mod PartLemmas
 pub mod PathLemmas
 pub mod ReadBackLemmas
+pub mod RuleLemmas
 pub mod RuledLemmas
 pub mod SortedLemmas

@@ -1,5 +1,5 @@
 -- A line feed at the end of a text.
-use Rattle.std.proofs.Common.{◌≡◌, ℕ, zero, suc, ◌-◌, ◌<◌, ◌^◌, Bool, true, false, cond, List, [], ◌∷◌, ◌++◌, length, take, drop, refl, ◌∙◌, ap, subst, decimal, bytes_eq, arith, length-append}
+use Rattle.std.proofs.Common.{◌≡◌, ◌≢◌, ℕ, zero, suc, ◌-◌, ◌<◌, ◌^◌, Bool, true, false, cond, List, [], ◌∷◌, ◌++◌, length, take, drop, refl, ◌∙◌, ap, subst, decimal, bytes_eq, arith, length-append}
 use Rattle.std.proofs.lemmas.Fmt.{decimal_is_IsNumeral}
 use Rattle.std.proofs.lemmas.Slice.Eq.{bytes_eq-Decides}
 use Rattle.std.specs.Str.Parse.{AllDigits}
@@ -13,6 +13,23 @@ line_of-more text =
     let last : drop (length (text ++ 10 ∷ []) - 1) (text ++ 10 ∷ []) ≡ 10 ∷ [] = ap (λ (k : ℕ). drop k (text ++ 10 ∷ [])) count ∙ drop-append_seam text (10 ∷ []) in
     let front : take (length (text ++ 10 ∷ []) - 1) (text ++ 10 ∷ []) ≡ text = ap (λ (k : ℕ). take k (text ++ 10 ∷ [])) count ∙ take-append_seam text (10 ∷ []) in
     rw (last, front) refl
+
+-- another byte at the end stays
+pub line_of-other : (text : List ℕ) (last : ℕ) → last ≢ 10 → line_of (text ++ last ∷ []) ≡ text ++ last ∷ []
+line_of-other text last other = each (bytes_eq (drop (length (text ++ last ∷ []) - 1) (text ++ last ∷ [])) (10 ∷ [])) refl
+  where
+    end : drop (length (text ++ last ∷ []) - 1) (text ++ last ∷ []) ≡ last ∷ []
+    end =
+        let count : length (text ++ last ∷ []) - 1 ≡ length text = omega (arith, length-append text (last ∷ [])) in
+        ap (λ (k : ℕ). drop k (text ++ last ∷ [])) count ∙ drop-append_seam text (last ∷ [])
+
+    each : (b : Bool) → bytes_eq (drop (length (text ++ last ∷ []) - 1) (text ++ last ∷ [])) (10 ∷ []) ≡ b
+        → cond b (take (length (text ++ last ∷ []) - 1) (text ++ last ∷ [])) (text ++ last ∷ []) ≡ text ++ last ∷ []
+    each true e =
+        let feed : drop (length (text ++ last ∷ []) - 1) (text ++ last ∷ []) ≡ 10 ∷ [] = (bytes_eq-Decides (drop (length (text ++ last ∷ []) - 1) (text ++ last ∷ [])) (10 ∷ [])).0 e in
+        let same : last ≡ 10 = cc (end, feed) in
+        absurd (other same)
+    each false e = refl
 
 AllDigits-drop : (k : ℕ) (text : List ℕ) → AllDigits 10 text → AllDigits 10 (drop k text)
 AllDigits-drop zero text all = all

@@ -1,7 +1,8 @@
 -- Paths below folders.
-use Rattle.std.proofs.Common.{◌≡◌, ◌⊎◌, ℕ, Bool, true, false, List, [], ◌∷◌, ◌++◌, refl, sym, ◌∙◌, ap, inl, inr, append_assoc, append-nil, filter}
+use Rattle.std.proofs.Common.{◌≡◌, ◌⊎◌, ℕ, Bool, true, false, List, [], ◌∷◌, ◌++◌, refl, sym, ◌∙◌, ap, inl, inr, arith, take, append_assoc, append-nil, filter}
 use Rattle.std.specs.Prelude.{codes}
 use Rattle.std.specs.Str.{bytes_eq}
+use Rattle.std.proofs.lemmas.Bool.Decides.{nat_tests}
 use Rattle.std.proofs.lemmas.List.{append_cancel_left}
 use Rattle.std.proofs.lemmas.List.Elements.{filter-append}
 use Rattle.std.proofs.lemmas.Slice.Eq.{bytes_eq-Decides}
@@ -70,3 +71,15 @@ Overlap-mutual one two over = record { same_root = sym over.same_root; front = s
 -- paths below one folder differ in their rests
 pub joined-rest : (folder one two : List ℕ) → joined folder one ≡ joined folder two → one ≡ two
 joined-rest folder one two e = append_cancel_left (folder ++ joint folder) one two e
+
+rooted_first : (word : List ℕ) → is_rooted word ≡ true → take 1 word ≡ codes "/"
+rooted_first [] e = absurd cc
+rooted_first (c ∷ cs) e = let slash : c ≡ 47 = grind (arith, nat_tests, e) in ap (λ (d : ℕ). d ∷ []) slash
+
+first_rooted : (word : List ℕ) → take 1 word ≡ codes "/" → is_rooted word ≡ true
+first_rooted [] e = absurd cc
+first_rooted (c ∷ cs) e = let slash : c ≡ 47 = cc e in rw slash refl
+
+-- a folder that overlaps a rooted one is rooted
+pub Overlap-rooted : (one two : List ℕ) → Overlap one two → take 1 one ≡ codes "/" → take 1 two ≡ codes "/"
+Overlap-rooted one two over e = rooted_first two (sym over.same_root ∙ first_rooted one e)

@@ -63,6 +63,15 @@ impl Folder {
         })
     }
 
+    /// A copy of the folder, whose text is not read again.
+    pub fn copy(&self, alloc: Global) -> Result<Folder, Memory>
+        ensures { IfOk result (λ folder. folder ≡ self.now) }
+    {
+        Ok(Folder {
+            text: Text::from_str(alloc, self.text.as_str())?,
+        })
+    }
+
     /// The path of a file below the folder: the folder's text, a slash where that text is neither
     /// empty nor `/`, and the rest as it stands.
     pub fn join(&self, alloc: Global, rest: &str) -> Result<Text, Memory>
@@ -98,7 +107,6 @@ impl Folder {
 
     /// Whether some path can lie below both folders: both are rooted or neither is, and the parts
     /// of one begin with those of the other. Takes no memory.
-
     pub fn overlaps(&self, other: &Folder) -> bool
         ensures { IsTrue result ↔ Overlap self.now other.now }
     {

@@ -17,9 +17,11 @@ pub use decimal::{GREATEST_TIME, limit_is_known, read_decimal};
 pub use folder::{Folder, FolderFault};
 pub use id::{Id, Name};
 pub use laws::{
-    ascending_lists_are_their_items, folders_apart_share_no_path, folders_overlap_each_other,
-    folders_read_again, ids_are_in_order_of_their_texts, names_are_in_order_of_their_texts,
-    paths_keep_their_rest, ruled_texts_read_back,
+    ascending_lists_are_their_items, bad_folders_are_answered_so, controls_by_number,
+    folders_apart_share_no_path, folders_overlap_each_other, folders_read_again,
+    ids_are_in_order_of_their_texts, line_ends_are_one_line_feed,
+    names_are_in_order_of_their_texts, paths_keep_their_rest, rooted_folders_are_apart,
+    ruled_texts_by_their_characters, ruled_texts_read_back,
 };
 pub use line_end::without_line_end;
 pub use list::List;
