@@ -8,6 +8,8 @@ pub mod OrderLemmas
 pub mod OverlapLemmas
 pub mod PartLemmas
 pub mod PathLemmas
+mod PrefixExamples
+pub mod PrefixLemmas
 pub mod ReadBackLemmas
 pub mod RuleLemmas
 pub mod RuledLemmas

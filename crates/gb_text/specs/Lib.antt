@@ -3,5 +3,7 @@ pub mod Digits
 pub mod Folder
 pub mod LineEnd
 pub mod Overlap
+pub mod Prefix
+pub mod PrefixText
 pub mod Ruled
 pub mod Rules
