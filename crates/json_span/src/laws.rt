@@ -1,9 +1,10 @@
 //! Laws of the definitions that the contracts of the calls cite. No call of them does anything.
 
-ghost use Rattle.std.specs.Prelude.{◌≡◌, ◌+◌, ◌++◌, ◌∷◌, [], ◌<◌, ◌≤◌, ◌^◌, ℕ, suc, List, Some, All, codes};
+ghost use Rattle.std.specs.Prelude.{◌≡◌, ◌+◌, ◌++◌, ◌∷◌, [], ◌<◌, ◌≤◌, ◌^◌, ℕ, suc, not, filter, List, Some, All, codes};
+ghost use Rattle.std.specs.List.{range_with_len};
 ghost use Rattle.std.specs.Fmt.{decimal};
 ghost use Rattle.std.specs.Str.{IsUtf8};
-ghost use Rattle.json_span.specs.Grammar.{Each, is_space, Chars, IsString, IsNumber, IsValueText, IsPartText, IsObject, IsArray};
+ghost use Rattle.json_span.specs.Grammar.{Each, is_digit, is_escape, is_exponent_letter, is_hex, is_minus, is_plain, is_sign, is_space, Chars, IsString, IsNumber, IsValueText, IsPartText, IsObject, IsArray};
 ghost use Rattle.json_span.specs.Joined.{array_text, object_text, IsMemberOf};
 ghost use Rattle.json_span.specs.Order.{AscendFrom, spans_of};
 ghost use Rattle.json_span.specs.Parts.{members_of, elements_of, HasMembers, HasElements};
@@ -115,4 +116,19 @@ pub fn parts_are_utf8()
         → members_of text ≡ Some parts → All (λ m. IsUtf8 m.0 × IsUtf8 m.1) parts }
     ensures elements { (text : List ℕ) (parts : List (List ℕ)) → IsUtf8 text
         → elements_of text ≡ Some parts → All IsUtf8 parts }
+{}
+
+/// The bytes of each class in RFC 8259: white space (section 2), digits and signs of numbers (section
+/// 6), and what stands in a string (section 7). `escaped` are the bytes that do not stand for
+/// themselves in a string.
+pub fn bytes_by_number()
+    ensures spaces { filter is_space (range_with_len 0 256) ≡ 0x09 ∷ 0x0a ∷ 0x0d ∷ 0x20 ∷ [] }
+    ensures digits { filter is_digit (range_with_len 0 256) ≡ codes "0123456789" }
+    ensures hex_digits { filter is_hex (range_with_len 0 256) ≡ codes "0123456789ABCDEFabcdef" }
+    ensures minus { filter is_minus (range_with_len 0 256) ≡ codes "-" }
+    ensures signs { filter is_sign (range_with_len 0 256) ≡ codes "+-" }
+    ensures exponents { filter is_exponent_letter (range_with_len 0 256) ≡ codes "Ee" }
+    ensures escapes { filter is_escape (range_with_len 0 256) ≡ codes "\"/\\bfnrt" }
+    ensures escaped { filter (λ b. not (is_plain b)) (range_with_len 0 256)
+        ≡ range_with_len 0 0x20 ++ codes "\"\\" }
 {}

@@ -15,8 +15,9 @@ mod split;
 mod state;
 
 pub use laws::{
-    joined_splits, lists_are_values, lists_split, one_split, parts_are_shallower, parts_are_utf8,
-    parts_by_grammar, scalars_are_values, spaces_change_nothing, spans_ascend, strings_are_joined,
+    bytes_by_number, joined_splits, lists_are_values, lists_split, one_split, parts_are_shallower,
+    parts_are_utf8, parts_by_grammar, scalars_are_values, spaces_change_nothing, spans_ascend,
+    strings_are_joined,
 };
 pub use nest::MOST_BRACKETS;
 pub use split::{elements, members};
