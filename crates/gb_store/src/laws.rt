@@ -1,15 +1,20 @@
 //! Laws of files, of the writes of a call and of paths, each the contract of a function that does
 //! nothing.
-ghost use Rattle.std.specs.Prelude.{◌≡◌, ◌≢◌, ◌↔◌, ◌⊎◌, ◌≤◌, ◌++◌, ◌∷◌, ℕ, List, length, reverse, Some, None, Bool, IsTrue};
+ghost use Rattle.std.specs.Prelude.{◌≡◌, ◌≢◌, ◌↔◌, ◌⊎◌, ◌<◌, ◌≤◌, ◌-◌, ◌^◌, ◌++◌, ◌∷◌, [], ℕ, List, length, reverse, Some, None, Err, Bool, true, false, IsTrue};
 ghost use Rattle.gb_text.specs.Digits.{IsName};
 ghost use Rattle.gb_text.specs.Folder.{joined};
 ghost use Rattle.gb_text.specs.declared.id.Name.{Name};
-ghost use Rattle.gb_store.specs.Counts.{HasRisen};
+ghost use Rattle.gb_store.specs.Counts.{HasRisen, raised};
 ghost use Rattle.gb_store.specs.Faults.{KeepsFaults};
-ghost use Rattle.gb_store.specs.Files.{Files, History, Put, Removed, file_at, files_of, written};
+ghost use Rattle.gb_store.specs.Files.{Files, History, Put, Removed, TellsFile, file_at, files_of, written};
+ghost use Rattle.gb_store.specs.MemStore.{MemState, WriteAnswers, after_call, after_read, fail_at, next_fail};
 ghost use Rattle.gb_store.specs.Moments.{AllMoments, IsMoment, Wrote, WroteSome, first_writes};
 ghost use Rattle.gb_store.specs.ObjectPath.{IsObjectPath, is_object_path, object_place};
+ghost use Rattle.gb_store.specs.declared.fault.StoreFault.TheVariants as fault;
+ghost use Rattle.gb_store.specs.declared.mem_store.Fail.{Fail as FailValue};
 ghost use Rattle.gb_store.specs.declared.store.Change.{Change};
+ghost use Rattle.gb_store.specs.declared.store.Content.{Content as ContentValue};
+ghost use Rattle.gb_store.specs.declared.store.Content.TheVariants as content;
 
 use crate::{Sink, Store};
 
@@ -141,4 +146,52 @@ pub fn object_paths_by_form()
 pub fn objects_have_object_paths()
     ensures { (folder : List ℕ) (name : Name) → IsName name
         → IsTrue (is_object_path (joined folder (object_place name))) }
+{}
+
+/// A read answers with a file of at most the limit, with `Long` for a longer one, and with `Absent`
+/// for none.
+pub fn files_are_read_up_to_the_limit()
+    ensures whole { (bytes : List ℕ) (limit : ℕ) (read : ContentValue) → length bytes ≤ limit
+        → TellsFile (Some bytes) limit read → read ≡ content.Whole bytes }
+    ensures long { (bytes : List ℕ) (limit : ℕ) (read : ContentValue) → limit < length bytes
+        → TellsFile (Some bytes) limit read → read ≡ content.Long }
+    ensures absent { (limit : ℕ) (read : ContentValue) → TellsFile None limit read
+        → read ≡ content.Absent }
+{}
+
+/// A count that has risen is higher, below its last value.
+pub fn risen_counts_are_higher()
+    ensures { (before now : ℕ) → HasRisen before now → before < 2 ^ 64 - 1 → before < now }
+{}
+
+/// A store in memory fails at the calls of its list, by the first entry for each, and counts each
+/// failure.
+pub fn listed_calls_fail()
+    ensures none { (call : ℕ) → fail_at call [] ≡ None }
+    ensures listed { (entry : FailValue) (later : List FailValue)
+        → fail_at entry.call (entry ∷ later) ≡ Some entry.after }
+    ensures other { (call : ℕ) (entry : FailValue) (later : List FailValue) → entry.call ≢ call
+        → fail_at call (entry ∷ later) ≡ fail_at call later }
+    ensures counted { (state : MemState) (after : Bool) → next_fail state ≡ Some after
+        → (after_call state).faults ≡ raised state.faults }
+    ensures not_counted { (state : MemState) → next_fail state ≡ None
+        → (after_call state).faults ≡ state.faults }
+{}
+
+/// A write that fails is made if its entry says that it fails after the write, and not if it fails
+/// before.
+pub fn failed_writes_are_made_if_listed_so()
+    ensures after { (change : Change) (old new : MemState) → next_fail old ≡ Some true
+        → WriteAnswers change old new (Err fault.Failed)
+        → new.history ≡ change ∷ old.history }
+    ensures before { (change : Change) (old new : MemState) → next_fail old ≡ Some false
+        → WriteAnswers change old new (Err fault.Failed) → new.history ≡ old.history }
+{}
+
+/// A read of an object's path counts as one, and a read of another file does not.
+pub fn reads_of_objects_are_counted()
+    ensures object { (path : List ℕ) (state : MemState) → is_object_path path ≡ true
+        → (after_read path state).reads ≡ raised state.reads }
+    ensures other { (path : List ℕ) (state : MemState) → is_object_path path ≡ false
+        → (after_read path state).reads ≡ state.reads }
 {}

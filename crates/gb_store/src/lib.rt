@@ -26,8 +26,10 @@ pub use frame_laws::{
     writes_leave_other_places,
 };
 pub use laws::{
-    Property, Rule, counts_rise_in_part, cuts_are_moments, each_part_is_allowed, faults_compose,
-    kept_at_each_moment, moments_compose, object_paths_by_form, objects_have_object_paths,
+    Property, Rule, counts_rise_in_part, cuts_are_moments, each_part_is_allowed,
+    failed_writes_are_made_if_listed_so, faults_compose, files_are_read_up_to_the_limit,
+    kept_at_each_moment, listed_calls_fail, moments_compose, object_paths_by_form,
+    objects_have_object_paths, reads_of_objects_are_counted, risen_counts_are_higher,
     sink_faults_compose, some_are_the_first, writes_change_their_path, wrote_composes,
     wrote_nothing, wrote_one, wrote_weakens,
 };
