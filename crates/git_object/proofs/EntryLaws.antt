@@ -1,7 +1,7 @@
 -- An entry that is read has this text, and the text of an entry is read.
 use Rattle.std.proofs.lemmas.Bool.{and_parts}
 use Rattle.std.proofs.lemmas.Option.{same_Some}
-use Rattle.std.proofs.Common.{◌≡◌, ℕ, zero, suc, Bool, true, false, cond, eqb, ltb, List, [], ◌∷◌, ◌++◌, length, take, drop, Option, Some, None, refl, sym, ap, subst, ◌∙◌, append_assoc, arith}
+use Rattle.std.proofs.Common.{◌≡◌, ◌≢◌, ℕ, zero, suc, Bool, true, false, cond, eqb, ltb, List, [], ◌∷◌, ◌++◌, length, take, drop, Option, Some, None, refl, sym, ap, subst, ◌∙◌, append_assoc, arith}
 use Rattle.std.specs.Prelude.{codes, not}
 use Rattle.std.specs.List.{list_any, list_all}
 use Rattle.std.specs.Str.{bytes_eq}
@@ -15,7 +15,7 @@ use Rattle.gb_text.specs.declared.id.Name.{Name}
 use Rattle.git_object.specs.declared.entry.Mode.{Mode}
 use Rattle.git_object.specs.declared.entry.Mode.TheVariants.{Plain, Exec, Link, Folder, Module}
 use Rattle.git_object.specs.declared.entry.Entry.{Entry}
-use Rattle.git_object.specs.Grammar.{Lacks, mode_text, entry_text, IsEntryName, IsEntry}
+use Rattle.git_object.specs.Grammar.{Lacks, is_folder, mode_text, entry_text, IsEntryName, IsEntry}
 use Rattle.git_object.specs.Reading.{has_entry_name, ◌>>=◌, cut_at, mode_of, is_entry_name, are_name_bytes, name_at, entry_at}
 use Rattle.git_object.proofs.CutLaws.{lacks_from_any, any_from_lacks, lacks_by_test, bind_some, if_some, cut_takes, cut_again, nil_length, some_length}
 
@@ -45,6 +45,24 @@ mode_lacks Exec = lacks_by_test 32 (mode_text Exec) refl
 mode_lacks Link = lacks_by_test 32 (mode_text Link) refl
 mode_lacks Folder = lacks_by_test 32 (mode_text Folder) refl
 mode_lacks Module = lacks_by_test 32 (mode_text Module) refl
+
+-- ---- keys by which entries are sorted
+
+-- a folder's has a slash
+pub folder_key : (name : List ℕ) (m : Mode) → m ≡ Folder → cond (is_folder m) (name ++ 47 ∷ []) name ≡ name ++ codes "/"
+folder_key name Plain e = absurd cc
+folder_key name Exec e = absurd cc
+folder_key name Link e = absurd cc
+folder_key name Folder e = refl
+folder_key name Module e = absurd cc
+
+-- any other's has none
+pub other_key : (name : List ℕ) (m : Mode) → m ≢ Folder → cond (is_folder m) (name ++ 47 ∷ []) name ≡ name
+other_key name Plain differs = refl
+other_key name Exec differs = refl
+other_key name Link differs = refl
+other_key name Folder differs = absurd (differs refl)
+other_key name Module differs = refl
 
 -- ---- names of entries
 

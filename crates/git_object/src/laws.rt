@@ -1,9 +1,12 @@
 //! Laws of the format, each the contract of a function that does nothing.
-ghost use Rattle.std.specs.Prelude.{◌≡◌, ◌↔◌, ℕ, List, Some};
+ghost use Rattle.std.specs.Prelude.{◌≡◌, ◌≢◌, ◌↔◌, ◌++◌, ℕ, List, Some, codes};
 ghost use Rattle.gb_text.specs.Digits.{IsName};
-ghost use Rattle.git_object.specs.Grammar.{IsObjectText, IsContent, IsTreeText, IsCommitText, IsSortedForm, framed, kind_of, object_name};
+ghost use Rattle.git_object.specs.Grammar.{IsObjectText, IsContent, IsTreeText, IsCommitText, IsSortedForm, framed, kind_of, kind_text, mode_text, object_name, sort_key};
 ghost use Rattle.git_object.specs.Reading.{frame_of, object_of, object_with, tree_of, commit_of};
+ghost use Rattle.git_object.specs.declared.entry.Entry.{Entry as EntryValue};
+ghost use Rattle.git_object.specs.declared.entry.Mode.TheVariants.{Plain, Exec, Link, Folder, Module};
 ghost use Rattle.git_object.specs.declared.frame.Kind.{Kind as KindValue};
+ghost use Rattle.git_object.specs.declared.frame.Kind.TheVariants as kinds;
 ghost use Rattle.git_object.specs.declared.object.Object.{Object as ObjectValue};
 ghost use Rattle.git_object.specs.declared.tree.Tree.{Tree as TreeValue};
 ghost use Rattle.git_object.specs.declared.commit.Commit.{Commit as CommitValue};
@@ -54,4 +57,24 @@ pub fn each_value_has_one_text()
 /// The hash of a text is an object name.
 pub fn hashed_texts_have_names()
     ensures { (text : List ℕ) → IsName (object_name text) }
+{}
+
+/// Modes have the digits, and kinds the words, of Git's object format.
+pub fn modes_and_kinds_have_gits_texts()
+    ensures plain { mode_text Plain ≡ codes "100644" }
+    ensures exec { mode_text Exec ≡ codes "100755" }
+    ensures link { mode_text Link ≡ codes "120000" }
+    ensures folder { mode_text Folder ≡ codes "40000" }
+    ensures module { mode_text Module ≡ codes "160000" }
+    ensures blob { kind_text kinds.Blob ≡ codes "blob" }
+    ensures tree { kind_text kinds.Tree ≡ codes "tree" }
+    ensures commit { kind_text kinds.Commit ≡ codes "commit" }
+{}
+
+/// The key by which an entry is sorted is its name, followed by a slash if and only if the entry
+/// is a folder. A module is not one (Git's object format).
+pub fn folders_alone_are_sorted_with_a_slash()
+    ensures folder { (entry : EntryValue) → entry.mode ≡ Folder
+        → sort_key entry ≡ entry.name ++ codes "/" }
+    ensures others { (entry : EntryValue) → entry.mode ≢ Folder → sort_key entry ≡ entry.name }
 {}

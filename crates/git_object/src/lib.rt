@@ -17,7 +17,8 @@ pub use commit_view::CommitView;
 pub use entry::{Entry, Mode};
 pub use frame::{Frame, Kind, frame_text, name_of, name_of_text};
 pub use laws::{
-    each_text_has_one_value, each_value_has_one_text, frames_read_through, hashed_texts_have_names,
+    each_text_has_one_value, each_value_has_one_text, folders_alone_are_sorted_with_a_slash,
+    frames_read_through, hashed_texts_have_names, modes_and_kinds_have_gits_texts,
     values_are_exact,
 };
 pub use object::Object;
