@@ -1,9 +1,10 @@
 -- A name holds an object, or has a fault.
-use Rattle.std.proofs.Common.{◌≡◌, ◌⊎◌, inl, inr, ℕ, List, length, Option, Some, None, option_and_then, refl, sym, ◌∙◌, ap, arith}
+use Rattle.std.proofs.Common.{◌≡◌, ◌⊎◌, ◌↔◌, inl, inr, ℕ, List, length, Option, Some, None, option_and_then, refl, sym, ◌∙◌, ap, arith}
 use Rattle.std.proofs.lemmas.Bool.{cases_lt}
 use Rattle.gb_text.specs.declared.id.Name.{Name}
 use Rattle.git_object.specs.declared.object.Object.{Object}
 use Rattle.git_object.specs.Reading.{object_of}
+use Rattle.object_store.specs.Faults.{kind_fault}
 use Rattle.object_store.specs.Held.{HasObjectFault, IsHeld, IsLarge, ObjectFaultHolds, Objects, named, object_at}
 use Rattle.object_store.specs.Typed.{CannotReadAs, HasKindFault, HoldsAs}
 use Rattle.object_store.specs.declared.read.TheConstants.{MOST_BYTES}
@@ -88,3 +89,11 @@ module _ {T : Type 0} (read : Object → Option T) (objects : Objects) (name : N
   not_both_as (value, held) (f, fails) =
       let no : None ≡ Some value = sym (kind_fault-none f fails) ∙ held in
       cc
+
+  -- a fault of an object is the same fault of one of a kind
+  pub same_faults : (f : ObjFault) → CannotReadAs read objects name (kind_fault f) ↔ ObjectFaultHolds objects name f
+  same_faults fault.Memory = (λ h. h, λ h. h)
+  same_faults fault.Disk = (λ h. h, λ h. h)
+  same_faults (fault.Missing n) = (λ h. h, λ h. h)
+  same_faults (fault.Damaged n) = (λ h. h, λ h. h)
+  same_faults (fault.Large n) = (λ h. h, λ h. h)

@@ -1,16 +1,22 @@
 //! Laws of what names hold, each the contract of a function that does nothing.
-ghost use Rattle.std.specs.Prelude.{◌≡◌, ◌↔◌, ◌⊎◌, ◌^◌, ℕ, List, Some};
+ghost use Rattle.std.specs.Prelude.{◌≡◌, ◌↔◌, ◌⊎◌, ◌^◌, ◌<◌, ◌≤◌, ℕ, List, Some, None, Err, length};
 ghost use Rattle.gb_text.specs.Digits.{IsName};
 ghost use Rattle.gb_text.specs.Folder.{joined};
 ghost use Rattle.gb_text.specs.declared.id.Name.{Name};
 ghost use Rattle.gb_store.specs.Files.{History};
 ghost use Rattle.gb_store.specs.Moments.{Wrote};
 ghost use Rattle.gb_store.specs.ObjectPath.{object_place};
+ghost use Rattle.git_object.specs.Grammar.{IsObjectText, object_name};
 ghost use Rattle.git_object.specs.declared.object.Object.{Object};
+ghost use Rattle.object_store.specs.Faults.{kind_fault};
 ghost use Rattle.object_store.specs.Growth.{OnlyGrew};
-ghost use Rattle.object_store.specs.Held.{HasObjectFault, IsHeld, Objects, object_at, objects_after, text_at};
-ghost use Rattle.object_store.specs.Puts.{PutsObject};
-ghost use Rattle.object_store.specs.Typed.{HasKindFault, HoldsAs, as_blob, as_commit, as_tree};
+ghost use Rattle.object_store.specs.Held.{HasObjectFault, IsHeld, ObjectFaultHolds, Objects, object_at, objects_after, text_at};
+ghost use Rattle.object_store.specs.Puts.{PutsObject, TextAnswers};
+ghost use Rattle.object_store.specs.Texts.{IsShort};
+ghost use Rattle.object_store.specs.Typed.{CannotReadAs, HasKindFault, HoldsAs, as_blob, as_commit, as_tree};
+ghost use Rattle.object_store.specs.declared.fault.ObjFault.{ObjFault as FaultValue};
+ghost use Rattle.object_store.specs.declared.fault.ObjFault.TheVariants as fault;
+ghost use Rattle.object_store.specs.declared.fault.PutFault.TheVariants as put;
 
 use crate::read::MOST_BYTES;
 
@@ -81,4 +87,46 @@ pub fn additions_compose()
 /// An object may have 4 MiB.
 pub fn an_object_has_at_most_4_mebibytes()
     ensures { MOST_BYTES ≡ 2 ^ 22 }
+{}
+
+/// A name holds an object if and only if its file has at most 4,194,304 bytes, the name's SHA-1
+/// and the object's text. A longer file is large, any other file is damaged, and no file is
+/// missing.
+pub fn what_a_file_gives()
+    ensures held { (objects : Objects) (name : Name) (object : Object)
+        → IsHeld objects name object ↔ ((text : List ℕ) × (objects name ≡ Some text)
+        × (length text ≤ 4194304) × (object_name text ≡ name) × IsObjectText text object) }
+    ensures large { (objects : Objects) (name at : Name)
+        → ObjectFaultHolds objects name (fault.Large at) ↔ ((at ≡ name)
+        × ((text : List ℕ) × (objects name ≡ Some text) × (4194304 < length text))) }
+    ensures damaged { (objects : Objects) (name at : Name)
+        → ObjectFaultHolds objects name (fault.Damaged at) ↔ ((at ≡ name)
+        × ((text : List ℕ) × (objects name ≡ Some text) × (length text ≤ 4194304)
+        × (object_at objects name ≡ None))) }
+    ensures missing { (objects : Objects) (name at : Name)
+        → ObjectFaultHolds objects name (fault.Missing at)
+        ↔ ((at ≡ name) × (objects name ≡ None)) }
+{}
+
+/// A read of an object of one kind fails with the faults of a read of any object, for the same
+/// reasons.
+pub fn faults_of_kinds_are_those_of_objects()
+    ensures commit { (objects : Objects) (name : Name) (fault : FaultValue)
+        → CannotReadAs as_commit objects name (kind_fault fault)
+        ↔ ObjectFaultHolds objects name fault }
+    ensures tree { (objects : Objects) (name : Name) (fault : FaultValue)
+        → CannotReadAs as_tree objects name (kind_fault fault)
+        ↔ ObjectFaultHolds objects name fault }
+    ensures blob { (objects : Objects) (name : Name) (fault : FaultValue)
+        → CannotReadAs as_blob objects name (kind_fault fault)
+        ↔ ObjectFaultHolds objects name fault }
+{}
+
+/// A text is too long to be put if and only if it has more than 4,194,304 bytes. The refusal has
+/// the number 4,194,305.
+pub fn what_is_too_long_to_be_put()
+    ensures short { (text : List ℕ) → IsShort text ↔ (length text ≤ 4194304) }
+    ensures large { (folder text : List ℕ) (old new : History) (count : ℕ)
+        → TextAnswers folder text old new (Err (put.Large count))
+        ↔ ((count ≡ 4194305) × (4194304 < length text) × (new ≡ old)) }
 {}
