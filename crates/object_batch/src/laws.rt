@@ -1,8 +1,11 @@
 //! Laws of putting several objects, each the contract of a function that does nothing.
-ghost use Rattle.std.specs.Prelude.{◌≡◌, ◌++◌, ℕ, List, Contains, Some, None, reverse};
+ghost use Rattle.std.specs.Prelude.{◌≡◌, ◌↔◌, ◌<◌, ◌++◌, ℕ, List, Contains, Some, None, Err, codes, decimal, length, reverse};
+ghost use Rattle.std.specs.List.{flat_map};
+ghost use Rattle.hex.specs.Hex.{encode_lower};
 ghost use Rattle.gb_text.specs.declared.id.Name.{Name};
 ghost use Rattle.gb_store.specs.Files.{History, files_of};
 ghost use Rattle.gb_store.specs.Moments.{Wrote};
+ghost use Rattle.git_object.specs.Grammar.{commit_text};
 ghost use Rattle.git_object.specs.declared.commit.Commit.{Commit as CommitValue};
 ghost use Rattle.git_object.specs.declared.entry.Entry.{Entry as EntryValue};
 ghost use Rattle.git_object.specs.declared.entry.Mode.TheVariants.{Plain, Exec, Link, Folder, Module};
@@ -12,7 +15,9 @@ ghost use Rattle.git_object.specs.declared.tree.Tree.{Tree as TreeValue};
 ghost use Rattle.object_store.specs.Growth.{OnlyGrew};
 ghost use Rattle.object_store.specs.Held.{Objects, objects_in};
 ghost use Rattle.object_store.specs.Typed.{HoldsAs, as_blob, as_commit, as_tree};
-ghost use Rattle.object_batch.specs.Batches.{AllStand, CannotHave, HasLong, MayBePut, missing_writes};
+ghost use Rattle.object_store.specs.declared.fault.PutFault.TheVariants as put;
+ghost use Rattle.object_batch.specs.Batches.{AllStand, BatchAnswers, CannotHave, HasLong, MayBePut, missing_writes};
+ghost use Rattle.object_batch.specs.Commits.{written_commit};
 ghost use Rattle.object_batch.specs.Needs.{AllHeld, InNeedOrder, IsHeldAs, IsWhole, LeadsTo, PutsAfterNeeds, Reference, kind_named};
 
 /// Texts that may be put are not refused: no text is too long, and each name can have its text.
@@ -99,4 +104,26 @@ pub fn paths_compose()
         → LeadsTo held from mid → LeadsTo held mid to → LeadsTo held from to }
     ensures stays { (old new : Objects) (from to : Reference) → OnlyGrew old new
         → LeadsTo old from to → LeadsTo new from to }
+{}
+
+/// A commit is written with this text, by Git's object format. Its parents are in the given order,
+/// and its message ends in a line feed.
+pub fn written_commits_have_this_text()
+    ensures { (tree : Name) (parents : List Name) (now : ℕ)
+        → commit_text (written_commit tree parents now)
+        ≡ codes "tree " ++ encode_lower tree.bytes ++ codes "\n"
+        ++ flat_map
+        (λ (parent : Name). (codes "parent " ++ encode_lower parent.bytes) ++ codes "\n") parents
+        ++ codes "author git-bug <git-bug@localhost> " ++ decimal now ++ codes " +0000\n"
+        ++ codes "committer git-bug <git-bug@localhost> " ++ decimal now ++ codes " +0000\n"
+        ++ codes "\ngit-bug\n" }
+{}
+
+/// A batch is refused as large only with the number 4,194,305, if a text has more than 4,194,304
+/// bytes, and then nothing is written.
+pub fn long_batches_are_refused()
+    ensures { (folder : List ℕ) (texts : List (List ℕ)) (old new : History) (count : ℕ)
+        → BatchAnswers folder texts old new (Err (put.Large count))
+        ↔ ((count ≡ 4194305) × ((text : List ℕ) × Contains texts text × (4194304 < length text))
+        × (new ≡ old)) }
 {}
