@@ -1,5 +1,5 @@
 -- The entries of a listing's names are the refs of the ids.
-use Rattle.std.proofs.Common.{◌≡◌, ℕ, zero, suc, ◌+◌, ◌<◌, ◌==◌, true, false, List, [], ◌∷◌, ◌++◌, length, map, take, get_or, Option, Some, None, option_and_then, refl, sym, ◌∙◌, ap, subst, append_assoc, arith}
+use Rattle.std.proofs.Common.{◌≡◌, ◌↔◌, ℕ, zero, suc, ◌+◌, ◌<◌, ◌==◌, true, false, List, [], ◌∷◌, ◌++◌, length, map, take, get_or, Option, Some, None, option_and_then, refl, sym, ◌∙◌, ap, subst, append_assoc, arith}
 use Rattle.std.specs.Prelude.{Contains, IsSome}
 use Rattle.std.proofs.lemmas.Bool.Decides.{nat_tests}
 use Rattle.std.proofs.lemmas.List.Elements.{filter_map-append}
@@ -10,15 +10,18 @@ use Rattle.std.specs.List.Sorted.{IsStrictlySortedBy}
 use Rattle.std.specs.Ordering.{nat_cmp}
 use Rattle.std.specs.declared.cmp.Ordering.TheVariants.{Less}
 use Rattle.hex.specs.Hex.{encode_lower, is_hex_digit}
-use Rattle.gb_text.specs.Digits.{IsId, id_of}
+use Rattle.gb_text.specs.Digits.{IsId, id_of, name_of}
 use Rattle.gb_text.specs.Folder.{joined}
+use Rattle.gb_text.specs.LineEnd.{line_of}
 use Rattle.gb_text.specs.declared.id.Id.{Id}
 use Rattle.gb_text.proofs.DigitLemmas.{id_of-encode_lower, id_of-is}
 use Rattle.gb_store.specs.Files.{Files, IsListing}
-use Rattle.ref_store.specs.Refs.{Ref, ref_at, ref_of}
+use Rattle.gb_text.specs.declared.id.Name.{Name}
+use Rattle.ref_store.specs.Refs.{Ref, Absent, Head, Bad, head_or_bad, ref_at, ref_of}
 use Rattle.ref_store.specs.Listing.{IsRefList, entry_named, entry_of, found_of, id_place}
 use Rattle.ref_store.specs.declared.listing.RefEntry.{RefEntry}
 use Rattle.ref_store.specs.declared.listing.RefFound.{RefFound}
+use Rattle.ref_store.specs.declared.listing.RefFound.TheVariants as variant
 use Rattle.std.proofs.lemmas.Bool.{and_parts}
 use Rattle.gb_text.proofs.AsciiLemmas.{encode_lower-digits}
 use Rattle.gb_text.proofs.OrderLemmas.{encode_lower-order}
@@ -54,6 +57,14 @@ pub filter_map-more : {X Y : Type 0} (f : X → Option Y) (xs : List X) (i : ℕ
 filter_map-more f xs i d lt = ap (filter_map f) (take_more xs i d lt) ∙ filter_map-append f (take i xs) (get_or xs i d ∷ [])
 
 -- ---- the entry of a name
+
+-- a file is no absent ref
+some_is_present : (text : List ℕ) → ref_of (Some text) ≡ Absent → ⊥
+some_is_present text e = each (name_of (line_of text)) e
+  where
+    each : (o : Option Name) → head_or_bad o ≡ Absent → ⊥
+    each None h = cc
+    each (Some name) h = cc
 
 module _ (files : Files) (folder dir : List ℕ) where
   named : List ℕ → Option RefEntry
@@ -152,3 +163,36 @@ module _ (files : Files) (folder dir : List ℕ) where
       λ h. listed names listing entry h.0 h.1,
     );
   })
+
+  -- an id has an entry exactly where it has a file
+  pub each_ref_file : (entries : List RefEntry) (id : Id) → IsRefList files folder dir entries → IsId id
+      → IsSome (files (joined folder (id_place dir id))) ↔ ((entry : RefEntry) × Contains entries entry × (entry.id ≡ id))
+  each_ref_file entries id is valid = (
+    λ stands. each (files (joined folder (id_place dir id))) refl stands,
+    λ h. subst (λ (at : Id). IsSome (files (joined folder (id_place dir at)))) h.2
+        (found_stands (files (joined folder (id_place dir h.0.id))) h.0.found ((is.members h.0).0 h.1).1),
+  )
+    where
+      of : (found : RefFound) → found_of (ref_at files folder (id_place dir id)) ≡ Some found → (entry : RefEntry) × Contains entries entry × (entry.id ≡ id)
+      of found e = (record { id = id; found = found }, (is.members (record { id = id; found = found })).1 (valid, e), refl)
+
+      read : (ref : Ref) → ref_at files folder (id_place dir id) ≡ ref → (ref ≡ Absent → ⊥) → (entry : RefEntry) × Contains entries entry × (entry.id ≡ id)
+      read Absent e some = absurd (some refl)
+      read (Head name) e some = of (variant.Head name) (ap found_of e)
+      read Bad e some = of variant.Bad (ap found_of e)
+
+      each : (file : Option (List ℕ)) → files (joined folder (id_place dir id)) ≡ file → IsSome file → (entry : RefEntry) × Contains entries entry × (entry.id ≡ id)
+      each None e stands = cc
+      each (Some text) e stands = read (ref_of (Some text)) (ap ref_of e) (some_is_present text)
+
+-- what is found is a head where the ref is that head
+pub head_found : (found : RefFound) (name : Name) (ref : Ref) → found_of ref ≡ Some found → (found ≡ variant.Head name) ↔ (ref ≡ Head name)
+head_found found name Absent e = absurd cc
+head_found found name (Head other) e = (λ is. cc, λ is. cc)
+head_found found name Bad e = (λ is. cc, λ is. cc)
+
+-- and it is bad where the ref is
+pub bad_found : (found : RefFound) (ref : Ref) → found_of ref ≡ Some found → (found ≡ variant.Bad) ↔ (ref ≡ Bad)
+bad_found found Absent e = absurd cc
+bad_found found (Head other) e = (λ is. cc, λ is. cc)
+bad_found found Bad e = (λ is. cc, λ is. cc)

@@ -1,5 +1,8 @@
 //! Laws of refs, each the contract of a function that does nothing.
-ghost use Rattle.std.specs.Prelude.{◌≡◌, ◌≢◌, ◌++◌, ℕ, List, Option, codes, false, IsTrue};
+ghost use Rattle.std.specs.Prelude.{◌≡◌, ◌≢◌, ◌↔◌, ◌++◌, ℕ, List, Option, Contains, IsSome, codes, false, map, IsTrue};
+ghost use Rattle.std.specs.Cmp.Lexicographic.{slice_cmp};
+ghost use Rattle.std.specs.List.Sorted.{IsStrictlySortedBy};
+ghost use Rattle.std.specs.Ordering.{nat_cmp};
 ghost use Rattle.gb_text.specs.Digits.{IsId, IsName};
 ghost use Rattle.gb_text.specs.Folder.{is_rooted, joined};
 ghost use Rattle.gb_text.specs.Overlap.{Overlap};
@@ -8,9 +11,11 @@ ghost use Rattle.gb_text.specs.declared.id.Name.{Name};
 ghost use Rattle.gb_store.specs.Files.{Files, written};
 ghost use Rattle.gb_store.specs.ObjectPath.{is_object_path, object_place};
 ghost use Rattle.gb_store.specs.declared.store.Change.{Change};
-ghost use Rattle.ref_store.specs.Listing.{id_place};
-ghost use Rattle.ref_store.specs.Refs.{Head, ref_at};
+ghost use Rattle.ref_store.specs.Listing.{IsRefList, id_place};
+ghost use Rattle.ref_store.specs.Refs.{Bad, Head, ref_at};
 ghost use Rattle.ref_store.specs.Setting.{ref_write};
+ghost use Rattle.ref_store.specs.declared.listing.RefEntry.{RefEntry};
+ghost use Rattle.ref_store.specs.declared.listing.RefFound.TheVariants as found;
 
 /// A ref that was set reads as its head, and every other ref of the folder reads as before.
 pub fn refs_are_a_map()
@@ -65,4 +70,25 @@ pub fn refs_of_folders_apart()
         → is_rooted path ≡ false → is_rooted place ≡ false → (Overlap folder other → ⊥)
         → ref_at (written files (ref_write other place head)) folder path
         ≡ ref_at files folder path }
+{}
+
+/// A listing has an entry for an id if and only if the id has a file, also one that is not a ref
+/// text. Entries are in ascending order of ids.
+pub fn listings_have_each_ref_file()
+    ensures every { (files : Files) (folder dir : List ℕ) (entries : List RefEntry) (id : Id)
+        → IsRefList files folder dir entries → IsId id
+        → IsSome (files (joined folder (id_place dir id)))
+        ↔ ((entry : RefEntry) × Contains entries entry × (entry.id ≡ id)) }
+    ensures head { (files : Files) (folder dir : List ℕ) (entries : List RefEntry)
+        (entry : RefEntry) (name : Name)
+        → IsRefList files folder dir entries → Contains entries entry
+        → (entry.found ≡ found.Head name)
+        ↔ (ref_at files folder (id_place dir entry.id) ≡ Head name) }
+    ensures bad { (files : Files) (folder dir : List ℕ) (entries : List RefEntry)
+        (entry : RefEntry)
+        → IsRefList files folder dir entries → Contains entries entry
+        → (entry.found ≡ found.Bad) ↔ (ref_at files folder (id_place dir entry.id) ≡ Bad) }
+    ensures ascending { (files : Files) (folder dir : List ℕ) (entries : List RefEntry)
+        → IsRefList files folder dir entries → IsStrictlySortedBy (slice_cmp nat_cmp)
+        (map (λ (entry : RefEntry). entry.id.bytes) entries) }
 {}
