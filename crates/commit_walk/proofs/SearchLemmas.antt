@@ -1,18 +1,19 @@
 -- A search: ways that do not pass the sought name lead to all that is known.
 use Rattle.std.proofs.Common.{◌≡◌, ⊎_elim, ◌≤◌, ◌<◌, ◌+◌, ◌∷◌, [], ℕ, List, length, take, get_or, Contains, Some, sym, ◌∙◌, ap, subst, arith}
 use Rattle.std.specs.List.{slice_get}
-use Rattle.std.proofs.lemmas.List.{get_or-take, length-take-le}
+use Rattle.std.proofs.lemmas.List.{get_or-take, length-map, length-take-le}
 use Rattle.std.proofs.lemmas.Option.{get_or_from_slice_get, slice_get-get_or, slice_get_within}
 use Rattle.gb_text.specs.declared.id.Name.{Name}
 use Rattle.object_store.specs.Held.{Objects}
 use Rattle.commit_walk.specs.Answers.{ReadsBelow}
-use Rattle.commit_walk.specs.Below.{IsBelow, head, parent}
+use Rattle.commit_walk.specs.Below.{AreBelow, IsBelow, head, names_of, parent}
 use Rattle.commit_walk.specs.Distinct.{AreDistinct}
 use Rattle.commit_walk.specs.Queues.{Adds}
 use Rattle.commit_walk.specs.Reaches.{Reached, Seeks, TurnedIn, a_commit, known, no_commit}
 use Rattle.commit_walk.specs.Searches.{IsOnWay, ReadsUntil, onward, start}
+use Rattle.commit_walk.specs.declared.below.Met.{Met}
 use Rattle.commit_walk.specs.declared.reach.Reach.{Reach}
-use Rattle.commit_walk.proofs.DistinctLemmas.{AreDistinct-nil, AreDistinct-take, Contains-first, Contains-nil, Contains-one, Contains-take}
+use Rattle.commit_walk.proofs.DistinctLemmas.{AreDistinct-nil, AreDistinct-take, Contains-first, Contains-nil, Contains-one, Contains-take, length-distinct}
 use Rattle.commit_walk.proofs.ReachLemmas.{name_is_known, stands_still}
 
 -- a way leads down
@@ -23,6 +24,17 @@ way_below objects high low (onward w _ p) = parent (way_below objects high low w
 -- what is read before a name is met lies below the other
 pub reads_below : (objects : Objects) (high low : Name) (before after : ℕ) → ReadsUntil objects high low before after → ReadsBelow objects (high ∷ []) before after
 reads_below objects high low before after r = record { names = r.names; once = r.once; each = λ name c. way_below objects high low (r.each name c); few = r.few }
+
+-- at most one object is read for each commit of a whole walk
+pub few_reads : (objects : Objects) (heads : List Name) (walk : List Met) (before after : ℕ) → AreBelow objects heads walk → ReadsBelow objects heads before after → after ≤ before + length walk
+few_reads objects heads walk before after all reads =
+    let few = length-distinct reads.names (names_of walk) reads.once (λ name has. all.all name (reads.each name has)) in
+    omega (arith, few, reads.few, length-map walk (λ (met : Met). met.name))
+
+-- and for each commit below the high name before the low one is met
+pub few_searched : (objects : Objects) (high low : Name) (walk : List Met) (before after : ℕ) → AreBelow objects (high ∷ []) walk → ReadsUntil objects high low before after
+    → after ≤ before + length walk
+few_searched objects high low walk before after all reads = few_reads objects (high ∷ []) walk before after all (reads_below objects high low before after reads)
 
 -- no name was read
 pub reads_nothing : (objects : Objects) (high low : Name) (before after : ℕ) → after ≤ before → ReadsUntil objects high low before after

@@ -1,11 +1,18 @@
 //! Laws of what lies below heads, each the contract of a function that does nothing.
-ghost use Rattle.std.specs.Prelude.{◌≡◌, ◌≤◌, ◌↔◌, ◌⊎◌, ◌^◌, ◌∷◌, [], List, Contains, length};
+ghost use Rattle.std.specs.Prelude.{◌≡◌, ◌<◌, ◌≤◌, ◌↔◌, ◌⊎◌, ◌+◌, ◌^◌, ◌∷◌, [], ℕ, List, Contains, Some, None, length};
 ghost use Rattle.gb_text.specs.declared.id.Name.{Name};
 ghost use Rattle.object_store.specs.Growth.{OnlyGrew};
-ghost use Rattle.object_store.specs.Held.{Objects};
+ghost use Rattle.git_object.specs.declared.commit.Commit.{Commit};
+ghost use Rattle.git_object.specs.declared.object.Object.{Object};
+ghost use Rattle.object_store.specs.Held.{Objects, object_at};
+ghost use Rattle.object_store.specs.Typed.{as_commit, commit_at};
+ghost use Rattle.commit_walk.specs.Answers.{ReadsBelow};
 ghost use Rattle.commit_walk.specs.Below.{AreBelow, FaultHolds, IsBelow};
+ghost use Rattle.commit_walk.specs.Distinct.{AreDistinct};
+ghost use Rattle.commit_walk.specs.Searches.{ReadsUntil};
 ghost use Rattle.commit_walk.specs.declared.below.Met.{Met};
 ghost use Rattle.commit_walk.specs.declared.fault.WalkFault.{WalkFault};
+ghost use Rattle.commit_walk.specs.declared.fault.WalkFault.TheVariants as fault;
 
 use crate::below::MOST_COMMITS;
 
@@ -53,4 +60,39 @@ pub fn what_lies_below_stays()
 /// A walk may have 2^16 commits, over a graph and along a chain.
 pub fn a_walk_has_at_most_65536_commits()
     ensures { MOST_COMMITS ≡ 2 ^ 16 }
+{}
+
+/// What each fault of a walk says of the files. Under a name below the heads there is no file, one
+/// of more than 4,194,304 bytes, one that is no object, or an object that is not a commit; or
+/// there are more than 65,536 commits.
+pub fn walk_faults_are_exact()
+    ensures missing { (objects : Objects) (heads : List Name) (name : Name)
+        → FaultHolds objects heads (fault.Missing name)
+        ↔ (IsBelow objects heads name × (objects name ≡ None)) }
+    ensures large { (objects : Objects) (heads : List Name) (name : Name)
+        → FaultHolds objects heads (fault.Large name) ↔ (IsBelow objects heads name
+        × ((text : List ℕ) × (objects name ≡ Some text) × (4194304 < length text))) }
+    ensures damaged { (objects : Objects) (heads : List Name) (name : Name)
+        → FaultHolds objects heads (fault.Damaged name) ↔ (IsBelow objects heads name
+        × ((text : List ℕ) × (objects name ≡ Some text) × (length text ≤ 4194304)
+        × (object_at objects name ≡ None))) }
+    ensures no_commit { (objects : Objects) (heads : List Name) (name : Name)
+        → FaultHolds objects heads (fault.NotCommit name) ↔ (IsBelow objects heads name
+        × ((object : Object) × (object_at objects name ≡ Some object)
+        × (as_commit object ≡ None))) }
+    ensures many { (objects : Objects) (heads : List Name)
+        → FaultHolds objects heads fault.TooMany
+        ↔ ((names : List Name) × AreDistinct names × (65536 < length names)
+        × ((name : Name) → Contains names name → IsBelow objects heads name
+        × ((commit : Commit) × (commit_at objects name ≡ Some commit)))) }
+{}
+
+/// A whole walk reads at most one object for each commit below its heads, and so does a search.
+pub fn walks_read_each_commit_at_most_once()
+    ensures walk { (objects : Objects) (heads : List Name) (walk : List Met) (before after : ℕ)
+        → AreBelow objects heads walk → ReadsBelow objects heads before after
+        → after ≤ before + length walk }
+    ensures search { (objects : Objects) (high low : Name) (walk : List Met) (before after : ℕ)
+        → AreBelow objects (high ∷ []) walk → ReadsUntil objects high low before after
+        → after ≤ before + length walk }
 {}
