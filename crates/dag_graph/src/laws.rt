@@ -69,3 +69,35 @@ pub fn a_graph_without_faults_has_one_root()
         → (root : ℕ) × IsRoot nodes root × ((place : ℕ) → place < length nodes
         → IsAncestor nodes (node_at nodes root).name (node_at nodes place).name) }
 {}
+
+/// A graph without the cause of a fault does not have that fault: `SecondRoot` needs two names of
+/// roots, `ClockOrder` a clock that does not rise above a parent's, `MergeHasOperations` a merge
+/// commit with operations. A fault names its commit.
+pub fn graph_faults_have_causes()
+    ensures root { (nodes : List Node) (name : Name)
+        → ((one other : Node) → Contains nodes one → Contains nodes other
+        → one.parents ≡ [] → other.parents ≡ [] → one.name ≡ other.name)
+        → GraphFaultHolds nodes (fault.SecondRoot name) → ⊥ }
+    ensures order { (nodes : List Node) (high low : Name)
+        → ((child parent : Node) → Contains nodes child → Contains nodes parent
+        → Contains child.parents parent.name → parent.edit < child.edit)
+        → GraphFaultHolds nodes (fault.ClockOrder high low) → ⊥ }
+    ensures merge { (nodes : List Node) (name : Name)
+        → ((commit : Node) → Contains nodes commit → 2 ≤ length commit.parents → commit.count ≡ 0)
+        → GraphFaultHolds nodes (fault.MergeHasOperations name) → ⊥ }
+    ensures root_named { (nodes : List Node) (name : Name)
+        → GraphFaultHolds nodes (fault.SecondRoot name)
+        → (commit : Node) × Contains nodes commit × (commit.name ≡ name) × (commit.parents ≡ []) }
+    ensures order_named { (nodes : List Node) (high low : Name)
+        → GraphFaultHolds nodes (fault.ClockOrder high low)
+        → (commit : Node) × Contains nodes commit × (commit.name ≡ high)
+        × Contains commit.parents low }
+    ensures jump_named { (nodes : List Node) (high low : Name)
+        → GraphFaultHolds nodes (fault.ClockJump high low)
+        → (commit : Node) × Contains nodes commit × (commit.name ≡ high)
+        × (commit.parents ≡ low ∷ []) }
+    ensures merge_named { (nodes : List Node) (name : Name)
+        → GraphFaultHolds nodes (fault.MergeHasOperations name)
+        → (commit : Node) × Contains nodes commit × (commit.name ≡ name)
+        × (2 ≤ length commit.parents) × (1 ≤ commit.count) }
+{}
