@@ -1,11 +1,19 @@
 //! Laws of the packs of commits, each the contract of a function that does nothing.
-ghost use Rattle.std.specs.Prelude.{◌≡◌, ◌⊎◌, Some};
+ghost use Rattle.std.specs.Prelude.{◌≡◌, ◌⊎◌, ◌↔◌, ◌<◌, ◌≤◌, ℕ, List, Some, None, length};
 ghost use Rattle.gb_text.specs.declared.id.Name.{Name as NameValue};
+ghost use Rattle.git_object.specs.declared.object.Object.{Object};
+ghost use Rattle.git_object.specs.declared.tree.Tree.{Tree};
 ghost use Rattle.object_store.specs.Growth.{OnlyGrew};
-ghost use Rattle.object_store.specs.Held.{Objects};
+ghost use Rattle.object_store.specs.Held.{Objects, object_at};
+ghost use Rattle.object_store.specs.Typed.{as_blob, blob_at, tree_at};
+ghost use Rattle.op_kind.specs.declared.place.TheConstants.{VERSION};
+ghost use Rattle.op_pack.specs.Heads.{HeadFault};
+ghost use Rattle.op_pack.specs.Packs.{PackTextFault};
+ghost use Rattle.op_pack.specs.declared.fault.PackFault.TheVariants as pack;
 ghost use Rattle.op_pack.specs.declared.pack.Pack.{Pack as PackValue};
-ghost use Rattle.commit_pack.specs.Packs.{CommitPackFaultHolds, IsPackUnder, pack_under};
+ghost use Rattle.commit_pack.specs.Packs.{CommitPackFaultHolds, IsPackUnder, NamesOps, PackNeeds, pack_under};
 ghost use Rattle.commit_pack.specs.declared.fault.CommitPackFault.{CommitPackFault as FaultValue};
+ghost use Rattle.commit_pack.specs.declared.fault.CommitPackFault.TheVariants as fault;
 
 use op_kind::OpKind;
 
@@ -35,4 +43,42 @@ pub fn packs_of_commits_stay<K: OpKind>()
     ensures { (old new : Objects) (tree : NameValue) (pack : PackValue K) → OnlyGrew old new
         → pack_under K.meaning old tree ≡ Some pack
         → pack_under K.meaning new tree ≡ Some pack }
+{}
+
+/// What each fault says of the files. `Missing`, `Large` and `Damaged` are of an object that the
+/// pack needs: no file, one of more than 4,194,304 bytes, one that is no object. The others are
+/// faults of the tree, an `ops` that is not a blob, or faults of its text, with their numbers.
+pub fn commit_pack_faults_are_exact<K: OpKind>()
+    ensures missing { (objects : Objects) (tree at : NameValue)
+        → CommitPackFaultHolds K.meaning objects tree (fault.Missing at)
+        ↔ (PackNeeds objects tree at × (objects at ≡ None)) }
+    ensures large { (objects : Objects) (tree at : NameValue)
+        → CommitPackFaultHolds K.meaning objects tree (fault.Large at)
+        ↔ (PackNeeds objects tree at
+        × ((text : List ℕ) × (objects at ≡ Some text) × (4194304 < length text))) }
+    ensures damaged { (objects : Objects) (tree at : NameValue)
+        → CommitPackFaultHolds K.meaning objects tree (fault.Damaged at)
+        ↔ (PackNeeds objects tree at
+        × ((text : List ℕ) × (objects at ≡ Some text) × (length text ≤ 4194304)
+        × (object_at objects at ≡ None))) }
+    ensures version { (objects : Objects) (tree : NameValue) (number : ℕ)
+        → CommitPackFaultHolds K.meaning objects tree (fault.UnknownVersion number)
+        ↔ ((held : Tree) × (tree_at objects tree ≡ Some held)
+        × HeadFault held (pack.UnknownVersion number)) }
+    ensures no_ops { (objects : Objects) (tree : NameValue)
+        → CommitPackFaultHolds K.meaning objects tree fault.NoOps
+        ↔ (((held : Tree) × (tree_at objects tree ≡ Some held) × HeadFault held pack.NoOps)
+        ⊎ ((ops : NameValue) × NamesOps objects tree ops
+        × ((object : Object) × (object_at objects ops ≡ Some object)
+        × (as_blob object ≡ None)))) }
+    ensures bad_pack { (objects : Objects) (tree : NameValue)
+        → CommitPackFaultHolds K.meaning objects tree fault.BadPack
+        ↔ ((ops : NameValue) × NamesOps objects tree ops
+        × ((text : List ℕ) × (blob_at objects ops ≡ Some text)
+        × PackTextFault K.meaning VERSION text pack.BadPack)) }
+    ensures too_large { (objects : Objects) (tree : NameValue) (count : ℕ)
+        → CommitPackFaultHolds K.meaning objects tree (fault.TooLarge count)
+        ↔ ((ops : NameValue) × NamesOps objects tree ops
+        × ((text : List ℕ) × (blob_at objects ops ≡ Some text)
+        × PackTextFault K.meaning VERSION text (pack.TooLarge count))) }
 {}
