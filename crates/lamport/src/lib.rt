@@ -5,7 +5,9 @@ mod clock;
 mod laws;
 
 pub use clock::{CAP, Clock, ClockFull, JUMP};
-pub use laws::{clocks_read_back, seen_in_any_order};
+pub use laws::{
+    clocks_read_back, new_times_are_later, seen_in_any_order, seen_times_count_up_to_the_cap,
+};
 
 #[cfg(test)]
 mod tests;
