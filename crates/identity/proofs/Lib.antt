@@ -1,3 +1,4 @@
+pub mod AdvancingLemmas
 pub mod AgreeLemmas
 pub mod CommitLemmas
 pub mod CountLemmas

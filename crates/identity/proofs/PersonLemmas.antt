@@ -128,9 +128,9 @@ Leads-head objects head link parents (m ∷ above) text first last chain is has 
 
 -- the checked commits of a whole walk are a chain
 pub HasChain-checked : (objects : Objects) (id : Id) (head : Name) (walk : List Link) (last : Version) → Walked objects head walk → length walk ≤ 65536
-    → Checked objects id walk last → HasChain objects id head (length walk) last
+    → Checked objects id walk last → HasChain objects id head walk last
 HasChain-checked objects id head [] last walked within checked = absurd checked
-HasChain-checked objects id head (root ∷ above) last walked within checked = record { chain = chain; counts = refl; last_is = last_is }
+HasChain-checked objects id head (root ∷ above) last walked within checked = record { chain = chain; walks = refl; last_is = last_is }
   where
     first : VersionIn objects root checked.1.text checked.0
     first = checked.1.is

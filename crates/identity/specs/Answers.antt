@@ -1,5 +1,6 @@
 -- The answers to the reads of commits and chains, each with what is so of the objects.
-use Rattle.std.specs.Prelude.{◌≡◌, ◌≢◌, ◌⊎◌, ◌+◌, ⊤, ℕ, false, IsTrue, List, [], ◌∷◌, length, Contains, Option, Some, None, Result, Ok, Err, option_and_then}
+use Rattle.std.specs.Prelude.{◌≡◌, ◌≢◌, ◌⊎◌, ◌+◌, ⊤, ℕ, false, IsTrue, List, [], ◌∷◌, length, Contains, Vec, Option, Some, None, Result, Ok, Err, option_and_then}
+use Rattle.std.specs.declared.alloc.Global.{Global}
 use Rattle.gb_text.specs.declared.id.Id.{Id}
 use Rattle.gb_text.specs.declared.id.Name.{Name}
 use Rattle.object_store.specs.Held.{Objects, IsDamaged, IsLarge}
@@ -117,14 +118,14 @@ CheckAnswers objects id walk (Ok None) = walk ≡ []
 CheckAnswers objects id walk (Ok (Some last)) = Checked objects id walk last
 CheckAnswers objects id walk (Err f) = Refused (CheckRefused objects id walk) f
 
--- a whole chain of so many commits, whose head has this version
-pub record HasChain (objects : Objects) (id : Id) (head : Name) (count : ℕ) (last : Version) : Type 0 where
+-- a whole chain of these commits, whose head has this version
+pub record HasChain (objects : Objects) (id : Id) (head : Name) (walk : List Link) (last : Version) : Type 0 where
   pub chain : IsChain objects id head
-  pub counts : count ≡ length chain.walk
+  pub walks : walk ≡ chain.walk
   pub last_is : HasVersion objects head last
 
-abbrev pub WholeAnswers : Objects → Id → Name → Result (ℕ × Version) IdentityFault → Type 0
-WholeAnswers objects id head (Ok whole) = HasChain objects id head whole.0 whole.1
+abbrev pub WholeAnswers : Objects → Id → Name → Result (Vec Link Global × Version) IdentityFault → Type 0
+WholeAnswers objects id head (Ok whole) = HasChain objects id head whole.0.items whole.1
 WholeAnswers objects id head (Err f) = Refused (IdentityFaultHolds objects id head) f
 
 -- the answer to a reading of the whole chain

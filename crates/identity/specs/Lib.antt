@@ -1,3 +1,4 @@
+pub mod Advancing
 pub mod Agreeing
 pub mod Answers
 pub mod Commits

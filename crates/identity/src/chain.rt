@@ -75,8 +75,8 @@ pub fn versions<S: Store>(
     ensures caused { KeepsFaults S.never_fails S.faults (IsErrOf result IdentityFault.Disk)
         disk.old disk.new }
 {
-    let (count, _) = read_whole(alloc, disk, folder, id, head)?;
-    Ok(count)
+    let (walk, _) = read_whole(alloc, disk, folder, id, head)?;
+    Ok(walk.len() as u64)
 }
 
 /// The person that the head alone shows, whatever stands below it. That is the person of a chain
@@ -119,20 +119,21 @@ fn person_of(alloc: Global, id: &Id, head: &Name, last: Version) -> Result<Perso
     })
 }
 
-// How many commits the chain has, and the version of its head.
-fn read_whole<S: Store>(
+// The commits of the chain, the root first, and the version of its head.
+pub(crate) fn read_whole<S: Store>(
     alloc: Global,
     disk: &mut S,
     folder: &Folder,
     id: &Id,
     head: &Name,
-) -> Result<(u64, Version), IdentityFault>
+) -> Result<(Vec<Link>, Version), IdentityFault>
     ensures answers { IsTrue S.tells
         → WholeAnswers (objects_after (S.history disk.old) folder.now) id.now head.now result }
     ensures unwritten { IsTrue S.tells → S.history disk.new ≡ S.history disk.old }
     ensures reads { S.object_reads disk.new ≤ S.object_reads disk.old + 3 * MOST_COMMITS }
     ensures once { IfOk result
-        (λ whole. S.object_reads disk.new ≤ S.object_reads disk.old + 3 * whole.0) }
+        (λ whole. S.object_reads disk.new
+        ≤ S.object_reads disk.old + 3 * length whole.0.items) }
     ensures distinct { IsTrue S.tells
         → OnOk result (ReadsWalk (objects_after (S.history disk.old) folder.now) head.now
         (S.object_reads disk.old) (S.object_reads disk.new)) }
@@ -141,7 +142,7 @@ fn read_whole<S: Store>(
 {
     let walk = walk_chain(alloc, disk, folder, head)?;
     match check_versions(alloc, disk, folder, id, &walk)? {
-        Some(last) => Ok((walk.len() as u64, last)),
+        Some(last) => Ok((walk, last)),
         // A walk has the commit of the head.
         None => Err(IdentityFault::NotCommit(*head)),
     }

@@ -1,6 +1,7 @@
 //! Identities: what the text of a version says, how it is written, and the person of a chain of versions.
 #![tactic(auto)]
 
+mod advancing;
 mod agree_laws;
 mod chain;
 mod commit;
@@ -13,6 +14,7 @@ mod member;
 mod version;
 mod version_laws;
 
+pub use advancing::{AdvanceFault, Step, advance};
 pub use agree_laws::agreeing_stores_have_the_same_chain;
 pub use chain::{Person, read_chain, read_last, versions};
 pub use fault::IdentityFault;

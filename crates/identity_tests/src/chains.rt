@@ -5,13 +5,13 @@ use git_object::Kind;
 use identity::{IdentityFault, Person, id_of_version, read_chain, read_last, versions};
 use std::test::Fail;
 
-const ANA: &[u8] =
+pub const ANA: &[u8] =
     b"{\"version\":2,\"unix_time\":0,\"nonce\":\"AAAAAAAAAAAAAAAAAAAAAAAAAAA=\",\"name\":\"Ana\",\"email\":\"a@x\"}";
 
-const BOB: &[u8] =
+pub const BOB: &[u8] =
     b"{\"version\":2,\"unix_time\":0,\"nonce\":\"AAAAAAAAAAAAAAAAAAAAAAAAAAA=\",\"login\":\"Bob\",\"email\":\"b@x\"}";
 
-const WITH_KEYS: &[u8] =
+pub const WITH_KEYS: &[u8] =
     b"{\"version\":2,\"unix_time\":0,\"nonce\":\"AAAAAAAAAAAAAAAAAAAAAAAAAAA=\",\"name\":\"Ana\",\"pub_keys\":[\"k\"]}";
 
 const ABSENT: Name = Name { bytes: [7; 20] };
@@ -27,7 +27,7 @@ fn put_head(disk: &mut Disk, mode: &str, name: &str, object: &Name) -> Result<Na
 }
 
 // Puts a commit with a version of this text.
-fn put_version(disk: &mut Disk, text: &[u8], parents: &[Name]) -> Result<Name, Fail> {
+pub fn put_version(disk: &mut Disk, text: &[u8], parents: &[Name]) -> Result<Name, Fail> {
     let blob = put_object(disk, Kind::Blob, text)?;
     let tree = put_tree(disk, "100644", "version", &blob)?;
     put_commit(disk, &tree, parents)

@@ -2,6 +2,8 @@
 #![tactic(auto)]
 
 #[cfg(test)]
+mod advancing;
+#[cfg(test)]
 mod chains;
 #[cfg(test)]
 mod making;

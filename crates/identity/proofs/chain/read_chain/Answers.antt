@@ -8,5 +8,5 @@ pub returns-clause-once : goal.returns-clause-once
 returns-clause-once g c = λ tells walk walked.
     let objects = objects_in (files_of (g.S.Store.history c.args.disk.now)) c.args.folder.now in
     let has = c.in_ok-last.ensures.answers tells in
-    let counted : c.in_ok-last.field-0-0 ≡ length walk = has.counts ∙ ap length (one_walk objects c.args.head.now has.chain.walk walk has.chain.walked walked) in
-    omega (arith, counted, c.in_ok-last.ensures.once)
+    let same : c.in_ok-last.field-0-0.items ≡ walk = has.walks ∙ one_walk objects c.args.head.now has.chain.walk walk has.chain.walked walked in
+    omega (arith, ap length same, c.in_ok-last.ensures.once)
