@@ -14,18 +14,18 @@ count_at takes zero place = zero
 count_at takes (suc count) place = if takes place then suc (count_at takes count (suc place)) else count_at takes count (suc place)
 
 -- a front of a list has enough digits for the places of a predicate
-abbrev Suffice : (ℕ → Bool) → ℕ → ℕ → List ℕ → Type 0
+abbrev pub Suffice : (ℕ → Bool) → ℕ → ℕ → List ℕ → Type 0
 Suffice takes count place digits = count_at takes count place ≤ length digits
 
-counted : (takes : ℕ → Bool) (count place : ℕ) (b : Bool) → takes place ≡ b
+pub counted : (takes : ℕ → Bool) (count place : ℕ) (b : Bool) → takes place ≡ b
     → count_at takes (suc count) place ≡ (if b then suc (count_at takes count (suc place)) else count_at takes count (suc place))
 counted takes count place b h = rw h refl
 
-taken : (takes : ℕ → Bool) (place digit : ℕ) (digits : List ℕ) (b : Bool) → takes place ≡ b
+pub taken : (takes : ℕ → Bool) (place digit : ℕ) (digits : List ℕ) (b : Bool) → takes place ≡ b
     → digits_at takes place (digit ∷ digits) ≡ (if b then digit ∷ digits_at takes (suc place) digits else digits_at takes (suc place) digits)
 taken takes place digit digits b h = rw h refl
 
-other : (place : ℕ) (b : Bool) → is_second place ≡ b → is_first place ≡ not b
+pub other : (place : ℕ) (b : Bool) → is_second place ≡ b → is_first place ≡ not b
 other place b h = ap not h
 
 -- both lists give their digits in order

@@ -1,3 +1,8 @@
 pub mod CombinedLemmas
-pub mod FrontLemmas
 mod Examples
+pub mod FrontLemmas
+pub mod LeastLemmas
+pub mod LookupLemmas
+pub mod OrderLemmas
+pub mod PartLemmas
+pub mod SplitLemmas

@@ -1,1 +1,3 @@
 pub mod Combined
+pub mod Lookup
+pub mod Split

@@ -3,10 +3,19 @@
 #![tactic(auto)]
 
 mod laws;
+mod lookup;
+mod lookup_laws;
 mod places;
+mod split;
 
 pub use laws::each_has_the_digits_at_its_places;
+pub use lookup::{Lookup, find};
+pub use lookup_laws::{
+    ambiguous_ids_are_neighbours, longer_prefixes_find_the_same, order_of_ids_does_not_matter,
+    parts_fit_if_the_whole_fits,
+};
 pub use places::combine;
+pub use split::{Split, split_prefix};
 
 #[cfg(test)]
 mod tests;

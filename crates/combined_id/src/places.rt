@@ -7,7 +7,7 @@ ghost use Rattle.combined_id.specs.Combined.{combined_of, is_second};
 use gb_text::Id;
 
 // Whether the place is the secondary's.
-fn is_second(place: usize) -> bool
+pub(crate) fn is_second(place: usize) -> bool
     ensures { result ≡ is_second place }
 {
     matches!(place, 1 | 3 | 5 | 9) || (place >= 10 && place % 5 == 4)
