@@ -26,7 +26,7 @@ one_under objects heads top b name c = subst (IsBelow objects heads) (Contains-o
 
 module _ {Op State Row : Type 0} (k : Meaning Op State Row) where
   -- an operation commit below a head that lies below others
-  commit_under : (objects : Objects) (heads : List Name) (top : Name) → IsBelow objects heads top → (placed : Placed Op) → IsOperationCommit k objects (top ∷ []) placed → IsOperationCommit k objects heads placed
+  pub commit_under : (objects : Objects) (heads : List Name) (top : Name) → IsBelow objects heads top → (placed : Placed Op) → IsOperationCommit k objects (top ∷ []) placed → IsOperationCommit k objects heads placed
   commit_under objects heads top b placed o = record { below = under objects heads top b placed.commit o.below; has = o.has; some = o.some }
 
   module _ (before after : Objects) (heads : List Name) (agree : SameNeeded before after heads) (top : Name) (there : IsBelow before heads top) where
@@ -36,16 +36,16 @@ module _ {Op State Row : Type 0} (k : Meaning Op State Row) where
     back : (name : Name) → IsBelow after (top ∷ []) name → IsBelow before (top ∷ []) name
     back name b = below_back_tops before after heads agree (top ∷ []) (one_under before heads top there) name b
 
-    commit_over : (placed : Placed Op) → IsOperationCommit k before (top ∷ []) placed → IsOperationCommit k after (top ∷ []) placed
+    pub commit_over : (placed : Placed Op) → IsOperationCommit k before (top ∷ []) placed → IsOperationCommit k after (top ∷ []) placed
     commit_over placed o = record { below = over placed.commit o.below; has = pack_same before after heads agree k placed.commit (under before heads top there placed.commit o.below) ∙ o.has; some = o.some }
 
-    commit_back : (placed : Placed Op) → IsOperationCommit k after (top ∷ []) placed → IsOperationCommit k before (top ∷ []) placed
+    pub commit_back : (placed : Placed Op) → IsOperationCommit k after (top ∷ []) placed → IsOperationCommit k before (top ∷ []) placed
     commit_back placed o =
         let b = back placed.commit o.below in
         record { below = b; has = sym (pack_same before after heads agree k placed.commit (under before heads top there placed.commit b)) ∙ o.has; some = o.some }
 
   -- heads with the same operation commits have the same operations
-  same_list : (objects others : Objects) (heads tops : List Name) (ops : List Op) → ((placed : Placed Op) → IsOperationCommit k objects heads placed ↔ IsOperationCommit k others tops placed) → IsOperationList k objects heads ops → IsOperationList k others tops ops
+  pub same_list : (objects others : Objects) (heads tops : List Name) (ops : List Op) → ((placed : Placed Op) → IsOperationCommit k objects heads placed ↔ IsOperationCommit k others tops placed) → IsOperationList k objects heads ops → IsOperationList k others tops ops
   same_list objects others heads tops ops same list = record {
     packs = list.packs;
     are = record {
@@ -57,7 +57,7 @@ module _ {Op State Row : Type 0} (k : Meaning Op State Row) where
   }
 
   -- below two heads lie the operation commits of both
-  both_sides : (objects : Objects) (one two : Name) (placed : Placed Op)
+  pub both_sides : (objects : Objects) (one two : Name) (placed : Placed Op)
       → IsOperationCommit k objects (one ∷ two ∷ []) placed ↔ (IsOperationCommit k objects (one ∷ []) placed ⊎ IsOperationCommit k objects (two ∷ []) placed)
   both_sides objects one two placed = (
     λ o. ⊎_elim

@@ -12,9 +12,8 @@ use Rattle.dag_entity.specs.Agreeing.{SameNeeded}
 use Rattle.dag_entity.specs.Entities.{IsOperationCommit, IsOperationList}
 use Rattle.dag_entity.specs.Joining.{merge_name}
 use Rattle.dag_entity.specs.declared.entity.Placed.{Placed}
-use Rattle.dag_entity.proofs.AgreeLemmas.{agree_back, below_over, pack_same}
 use Rattle.dag_entity.proofs.PairLemmas.{is_first, is_second, under}
-use Rattle.dag_entity.proofs.UnionLemmas.{one_below, over, two_below, union_joined}
+use Rattle.dag_entity.proofs.UnionLemmas.{both_sides, commit_back, commit_over, commit_under, one_below, over, same_list, two_below, union_joined}
 use Rattle.entity_merge.specs.Joins.{AreUnion, HaveSame, Joins, both_heads, head_of, heads_in}
 use Rattle.entity_merge.specs.declared.word.Merged.{Merged}
 use Rattle.entity_merge.specs.declared.word.Merged.TheVariants as merged
@@ -25,29 +24,16 @@ none_below objects name (head c) = Contains-nil name c
 none_below objects name (parent {high = high} b p) = none_below objects high b
 
 module _ {Op State Row : Type 0} (k : Meaning Op State Row) where
-  -- an operation commit below a head that lies below others
-  commit_under : (objects : Objects) (heads : List Name) (top : Name) → IsBelow objects heads top → (placed : Placed Op) → IsOperationCommit k objects (top ∷ []) placed → IsOperationCommit k objects heads placed
-  commit_under objects heads top b placed o = record { below = under objects heads top b placed.commit o.below; has = o.has; some = o.some }
-
-  module _ (before after : Objects) (heads : List Name) (agree : SameNeeded before after heads) (top : Name) (there : IsBelow before heads top) where
-    commit_over : (placed : Placed Op) → IsOperationCommit k before (top ∷ []) placed → IsOperationCommit k after (top ∷ []) placed
-    commit_over placed o = record { below = over k before after heads agree top there placed.commit o.below; has = pack_same before after heads agree k placed.commit (under before heads top there placed.commit o.below) ∙ o.has; some = o.some }
-
-    commit_back : (placed : Placed Op) → IsOperationCommit k after (top ∷ []) placed → IsOperationCommit k before (top ∷ []) placed
-    commit_back placed o =
-        let b = over k after before heads (agree_back before after heads agree) top (below_over before after heads agree top there) placed.commit o.below in
-        record { below = b; has = sym (pack_same before after heads agree k placed.commit (under before heads top there placed.commit b)) ∙ o.has; some = o.some }
-
   -- ---- each word
 
   module _ (before after : Objects) where
     union_new : (remote : Name) → SameNeeded before after (remote ∷ []) → AreUnion k after (remote ∷ []) before [] (remote ∷ [])
     union_new remote agree placed =
         let there : IsBelow before (remote ∷ []) remote = head (Contains-first remote []) in (
-          λ o. inr (commit_back before after (remote ∷ []) agree remote there placed o),
+          λ o. inr (commit_back k before after (remote ∷ []) agree remote there placed o),
           λ u. ⊎_elim
               (λ (o : IsOperationCommit k before [] placed). absurd (none_below before placed.commit o.below))
-              (λ (o : IsOperationCommit k before (remote ∷ []) placed). commit_over before after (remote ∷ []) agree remote there placed o)
+              (λ (o : IsOperationCommit k before (remote ∷ []) placed). commit_over k before after (remote ∷ []) agree remote there placed o)
               u,
         )
 
@@ -63,19 +49,19 @@ module _ {Op State Row : Type 0} (k : Meaning Op State Row) where
 
       union_nothing : IsBelow before (local ∷ []) remote → AreUnion k after (local ∷ []) before (local ∷ []) (remote ∷ [])
       union_nothing known placed = (
-        λ o. inl (commit_back before after both agree local first placed o),
+        λ o. inl (commit_back k before after both agree local first placed o),
         λ u. ⊎_elim
-            (λ (o : IsOperationCommit k before (local ∷ []) placed). commit_over before after both agree local first placed o)
-            (λ (o : IsOperationCommit k before (remote ∷ []) placed). commit_over before after both agree local first placed (commit_under before (local ∷ []) remote known placed o))
+            (λ (o : IsOperationCommit k before (local ∷ []) placed). commit_over k before after both agree local first placed o)
+            (λ (o : IsOperationCommit k before (remote ∷ []) placed). commit_over k before after both agree local first placed (commit_under k before (local ∷ []) remote known placed o))
             u,
       )
 
       union_forward : IsBelow before (remote ∷ []) local → AreUnion k after (remote ∷ []) before (local ∷ []) (remote ∷ [])
       union_forward below placed = (
-        λ o. inr (commit_back before after both agree remote second placed o),
+        λ o. inr (commit_back k before after both agree remote second placed o),
         λ u. ⊎_elim
-            (λ (o : IsOperationCommit k before (local ∷ []) placed). commit_over before after both agree remote second placed (commit_under before (remote ∷ []) local below placed o))
-            (λ (o : IsOperationCommit k before (remote ∷ []) placed). commit_over before after both agree remote second placed o)
+            (λ (o : IsOperationCommit k before (local ∷ []) placed). commit_over k before after both agree remote second placed (commit_under k before (remote ∷ []) local below placed o))
+            (λ (o : IsOperationCommit k before (remote ∷ []) placed). commit_over k before after both agree remote second placed o)
             u,
       )
 
@@ -168,38 +154,17 @@ module _ {Op State Row : Type 0} (k : Meaning Op State Row) where
 -- ---- the operations of both sides
 
 module _ {Op State Row : Type 0} (k : Meaning Op State Row) where
-  -- heads with the same operation commits have the same operations
-  pub same_list : (objects others : Objects) (heads tops : List Name) (ops : List Op) → HaveSame k objects heads others tops → IsOperationList k objects heads ops → IsOperationList k others tops ops
-  same_list objects others heads tops ops same list = record {
-    packs = list.packs;
-    are = record {
-      all = λ placed o. list.are.all placed ((same placed).1 o);
-      only = λ placed c. (same placed).0 (list.are.only placed c);
-      rise = list.are.rise;
-    };
-    written_out = list.written_out;
-  }
-
-  -- below two heads lie the operation commits of both
-  both_sides : (objects : Objects) (local : Option Name) (remote : Name) (placed : Placed Op)
+  -- below the heads of a join lie the operation commits of both sides
+  sides : (objects : Objects) (local : Option Name) (remote : Name) (placed : Placed Op)
       → IsOperationCommit k objects (both_heads local remote) placed ↔ (IsOperationCommit k objects (heads_in local) placed ⊎ IsOperationCommit k objects (remote ∷ []) placed)
-  both_sides objects None remote placed = (λ o. inr o, λ u. ⊎_elim (λ (o : IsOperationCommit k objects [] placed). absurd (none_below objects placed.commit o.below)) (λ (o : IsOperationCommit k objects (remote ∷ []) placed). o) u)
-  both_sides objects (Some local) remote placed = (
-    λ o. ⊎_elim
-        (λ (l : IsBelow objects (local ∷ []) placed.commit). inl (record { below = l; has = o.has; some = o.some }))
-        (λ (r : IsBelow objects (remote ∷ []) placed.commit). inr (record { below = r; has = o.has; some = o.some }))
-        (below_one objects local remote o.below),
-    λ u. ⊎_elim
-        (λ (o : IsOperationCommit k objects (local ∷ []) placed). commit_under k objects (local ∷ remote ∷ []) local (is_first objects local remote) placed o)
-        (λ (o : IsOperationCommit k objects (remote ∷ []) placed). commit_under k objects (local ∷ remote ∷ []) remote (is_second objects local remote) placed o)
-        u,
-  )
+  sides objects None remote placed = (λ o. inr o, λ u. ⊎_elim (λ (o : IsOperationCommit k objects [] placed). absurd (none_below objects placed.commit o.below)) (λ (o : IsOperationCommit k objects (remote ∷ []) placed). o) u)
+  sides objects (Some local) remote placed = both_sides k objects local remote placed
 
   -- the head that then stands says what both said together
   pub joins_say : (before after : Objects) (author : Id) (clock now : ℕ) (local : Option Name) (remote top : Name) (word : Merged) (ops : List Op) → Joins k before after local remote author clock now word → head_of local word ≡ Some top
       → SameNeeded before after (both_heads local remote) → IsOperationList k before (both_heads local remote) ops → IsOperationList k after (top ∷ []) ops
   joins_say before after author clock now local remote top word ops j e agree list =
-      same_list before after (both_heads local remote) (top ∷ []) ops (λ placed. (
-        λ o. (joins_union k before after author clock now local remote top word j e agree placed).1 ((both_sides before local remote placed).0 o),
-        λ o. (both_sides before local remote placed).1 ((joins_union k before after author clock now local remote top word j e agree placed).0 o),
+      same_list k before after (both_heads local remote) (top ∷ []) ops (λ placed. (
+        λ o. (joins_union k before after author clock now local remote top word j e agree placed).1 ((sides before local remote placed).0 o),
+        λ o. (sides before local remote placed).1 ((joins_union k before after author clock now local remote top word j e agree placed).0 o),
       )) list
