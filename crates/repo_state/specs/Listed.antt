@@ -6,13 +6,15 @@ use Rattle.std.specs.Ordering.{nat_cmp}
 use Rattle.gb_text.specs.Digits.{IsId}
 use Rattle.gb_text.specs.declared.id.Name.{Name}
 use Rattle.gb_store.specs.Files.{Files}
+use Rattle.ref_store.specs.Listing.{IsRefList}
 use Rattle.ref_store.specs.Refs.{Ref, Head, Bad}
 use Rattle.ref_store.specs.declared.listing.RefEntry.{RefEntry}
 use Rattle.ref_store.specs.declared.listing.RefFound.{RefFound}
 use Rattle.ref_store.specs.declared.listing.RefFound.TheVariants as found
-use Rattle.repo_state.specs.Sides.{head_at}
+use Rattle.repo_state.specs.Sides.{dir_of, head_at}
 use Rattle.repo_state.specs.declared.refs.EntityRef.{EntityRef}
 use Rattle.repo_state.specs.declared.side.Side.{Side}
+use Rattle.repo_state.specs.declared.side.Side.TheVariants as side
 
 -- the ref that stands with this head, or with none
 abbrev pub ref_with : Option Name → Ref
@@ -32,3 +34,7 @@ ref_in e = record { id = e.id; head = head_in e.found }
 pub record AreRefs (files : Files) (folder : List ℕ) (of : Side) (refs : List EntityRef) : Type 0 where
   pub rising : IsStrictlySortedBy (slice_cmp nat_cmp) (map (λ (e : EntityRef). e.id.bytes) refs)
   pub members : (e : EntityRef) → Contains refs e ↔ (IsId e.id × (head_at files folder of e.id ≡ ref_with e.head))
+
+-- the refs of the local identities, as a listing finds them
+abbrev pub AreIdentityRefs : Files → List ℕ → List RefEntry → Type 0
+AreIdentityRefs files folder entries = IsRefList files folder (dir_of side.Identities) entries

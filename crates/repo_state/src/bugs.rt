@@ -6,14 +6,17 @@ ghost use Rattle.dag_entity.specs.Entities.{KeepsRules};
 ghost use Rattle.gb_store.specs.Faults.{KeepsFaults};
 ghost use Rattle.gb_store.specs.Files.{files_of};
 ghost use Rattle.repo_state.specs.Bugs.{BugAnswers, ReadsAtHead, ReadsBelow, ReadsBug, StopOf};
+ghost use Rattle.repo_state.specs.Listed.{AreIdentityRefs};
 
-use crate::refs::{damaged, head, ids};
+use crate::listing::identity_refs;
+use crate::refs::{damaged, head, ids_of};
 use crate::side::{HeadEntry, Side};
 use crate::stop::{FindStop, Missed, ReadStop};
 use bug_ops::BugOp;
 use dag_entity::{Entity, EntityFault, read_entity};
 use gb_store::Store;
 use gb_text::{Folder, Id};
+use ref_store::RefEntry;
 use std::alloc::Global;
 
 /// The entity of the bug with this id, at its head. Its authors are to be local identities.
@@ -63,7 +66,33 @@ pub fn bug_at<S: Store>(
     ensures caused { KeepsFaults S.never_fails S.faults (IsErrOf result ReadStop.Disk)
         disk.old disk.new }
 {
-    let authors = ids(alloc, disk, folder, &Side::Identities)?;
+    let identities = identity_refs(alloc, disk, folder)?;
+    bug_among(alloc, disk, folder, bug, identities.as_slice())
+}
+
+/// The entity of a bug at this head. Its authors are to be among these identities, which are all local
+/// ones. `Damaged`, with the path of the bug's ref, exactly where something is wrong with it.
+pub fn bug_among<S: Store>(
+    alloc: Global,
+    disk: &mut S,
+    folder: &Folder,
+    bug: &HeadEntry,
+    identities: &[RefEntry],
+) -> Result<Entity<BugOp>, ReadStop>
+    ensures answers { IsTrue S.tells
+        → AreIdentityRefs (files_of (S.history disk.old)) folder.now identities.now
+        → BugAnswers (files_of (S.history disk.old)) folder.now bug.now result }
+    ensures rules { IfOk result (λ entity. KeepsRules bug_kind entity.packs) }
+    ensures unwritten { IsTrue S.tells → S.history disk.new ≡ S.history disk.old }
+    ensures reads { IsTrue S.tells → ReadsBelow (files_of (S.history disk.old)) folder.now bug.now
+        (S.object_reads disk.old) (S.object_reads disk.new) }
+    ensures once { IfOk result (λ entity. S.object_reads disk.new
+        ≤ S.object_reads disk.old + 3 * length entity.packs) }
+    ensures most { S.object_reads disk.new ≤ S.object_reads disk.old + 3 * (MOST_COMMITS + 1) }
+    ensures caused { KeepsFaults S.never_fails S.faults (IsErrOf result ReadStop.Disk)
+        disk.old disk.new }
+{
+    let authors = ids_of(alloc, identities)?;
     let heads = [bug.name];
     match read_entity::<BugOp, S>(alloc, disk, folder, &bug.id, &heads, authors.as_slice()) {
         Ok(entity) => Ok(entity),

@@ -13,7 +13,7 @@ mod side;
 mod stop;
 mod user_file;
 
-pub use bugs::{bug_at, read_bug};
+pub use bugs::{bug_among, bug_at, read_bug};
 pub use clocks::{ClockFile, clock, clock_changes, see};
 pub use laws::{
     an_empty_folder_is_sound, clocks_read_as_they_were_seen, finders_are_determined,
@@ -21,9 +21,9 @@ pub use laws::{
     remote_names_are_known, remote_names_read_back, sound_folders_hold_what_heads_lead_to,
     users_have_their_heads, words_find_whole_ids,
 };
-pub use listing::all_refs;
+pub use listing::{all_refs, identity_refs};
 pub use operations::ops_of;
-pub use people::names;
+pub use people::{names, people_among};
 pub use refs::{
     EntityRef, damaged, entity, find, find_head, head, head_change, heads, ids, set_head, stands,
     whole,

@@ -2,7 +2,7 @@
 ghost use Rattle.std.specs.Prelude.{◌≡◌, IsTrue, IsErrOf, IfOk, map};
 ghost use Rattle.gb_store.specs.Faults.{KeepsFaults};
 ghost use Rattle.gb_store.specs.Files.{files_of};
-ghost use Rattle.repo_state.specs.Listed.{AreRefs, head_in, ref_in};
+ghost use Rattle.repo_state.specs.Listed.{AreIdentityRefs, AreRefs, head_in, ref_in};
 
 use crate::refs::{EntityRef, entries};
 use crate::side::Side;
@@ -28,6 +28,23 @@ pub fn all_refs<S: Store>(
 {
     let entries = entries(alloc, disk, folder, side)?;
     Ok(List::from_vec(refs_of(alloc, entries.as_slice())?))
+}
+
+/// The refs of the local identities, in the order of ids. `bug_among` and `people_among` take them, so
+/// that a command which needs both lists them once.
+pub fn identity_refs<S: Store>(
+    alloc: Global,
+    disk: &mut S,
+    folder: &Folder,
+) -> Result<List<RefEntry>, StoreFault>
+    ensures answers { IsTrue S.tells
+        → IfOk result (AreIdentityRefs (files_of (S.history disk.old)) folder.now) }
+    ensures unwritten { IsTrue S.tells → S.history disk.new ≡ S.history disk.old }
+    ensures reads { S.object_reads disk.new ≡ S.object_reads disk.old }
+    ensures caused { KeepsFaults S.never_fails S.faults (IsErrOf result StoreFault.Failed)
+        disk.old disk.new }
+{
+    entries(alloc, disk, folder, &Side::Identities)
 }
 
 // The refs of these entries.

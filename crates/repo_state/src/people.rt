@@ -3,9 +3,11 @@ ghost use Rattle.std.specs.Prelude.{◌≡◌, ◌≤◌, ◌+◌, ◌*◌, leng
 ghost use Rattle.gb_store.specs.Faults.{KeepsFaults};
 ghost use Rattle.gb_store.specs.Files.{files_of};
 ghost use Rattle.repo_state.specs.Answers.{HasBadPerson, PeopleOf, PersonAt, PersonOf, Reads, ReadsPeople};
+ghost use Rattle.repo_state.specs.Listed.{AreIdentityRefs};
 ghost use Rattle.repo_state.specs.People.{ArePeople};
 
-use crate::refs::{damaged, entries, head_of};
+use crate::listing::identity_refs;
+use crate::refs::{damaged, head_of};
 use crate::side::{HeadEntry, Side};
 use crate::stop::ReadStop;
 use gb_store::Store;
@@ -32,8 +34,30 @@ pub fn names<S: Store>(
     ensures caused { KeepsFaults S.never_fails S.faults
         (IsErrOf result ReadStop.Disk) disk.old disk.new }
 {
-    let entries = entries(alloc, disk, folder, &Side::Identities)?;
-    let people = people_of(alloc, disk, folder, entries.as_slice())?;
+    let identities = identity_refs(alloc, disk, folder)?;
+    people_among(alloc, disk, folder, identities.as_slice())
+}
+
+/// The people of these identities, which are all local ones: whom the last version of each shows, in
+/// the order of ids. `Damaged`, with the path of the ref, of the first whose ref is no ref text or whose
+/// head has no version.
+pub fn people_among<S: Store>(
+    alloc: Global,
+    disk: &mut S,
+    folder: &Folder,
+    identities: &[RefEntry],
+) -> Result<List<Person>, ReadStop>
+    ensures answers { IsTrue S.tells
+        → AreIdentityRefs (files_of (S.history disk.old)) folder.now identities.now
+        → Reads (ArePeople (files_of (S.history disk.old)) folder.now) (HasBadPerson (files_of
+        (S.history disk.old)) folder.now) result }
+    ensures unwritten { IsTrue S.tells → S.history disk.new ≡ S.history disk.old }
+    ensures reads { S.object_reads disk.new
+        ≤ S.object_reads disk.old + 3 * length identities.now }
+    ensures caused { KeepsFaults S.never_fails S.faults
+        (IsErrOf result ReadStop.Disk) disk.old disk.new }
+{
+    let people = people_of(alloc, disk, folder, identities)?;
     Ok(List::from_vec(people))
 }
 

@@ -335,7 +335,7 @@ pub(crate) fn entries<S: Store>(
 }
 
 // The ids of these refs.
-fn ids_of(alloc: Global, entries: &[RefEntry]) -> Result<Vec<Id>, Memory>
+pub(crate) fn ids_of(alloc: Global, entries: &[RefEntry]) -> Result<Vec<Id>, Memory>
     ensures { IfOk result (λ ids. ids.items ≡ map (λ e. e.id) entries.now) }
 {
     Ok(entries.iter().map(|entry| entry.id).collect(alloc)?)

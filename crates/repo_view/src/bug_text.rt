@@ -14,7 +14,7 @@ use gb_store::Store;
 use gb_text::{Folder, List, Memory, Text};
 use identity::Person;
 use render::show_text;
-use repo_state::{FindStop, Side, bug_at, find_head, names, ops_of};
+use repo_state::{FindStop, Side, bug_among, find_head, identity_refs, ops_of, people_among};
 use snapshot::compile;
 use std::alloc::Global;
 
@@ -38,8 +38,9 @@ pub fn show<S: Store>(
         disk.old disk.new }
 {
     let bug = find_head(alloc, disk, folder, &Side::Bugs, word)?;
-    let entity = bug_at(alloc, disk, folder, &bug)?;
-    let people = names(alloc, disk, folder)?;
+    let identities = identity_refs(alloc, disk, folder)?;
+    let entity = bug_among(alloc, disk, folder, &bug, identities.as_slice())?;
+    let people = people_among(alloc, disk, folder, identities.as_slice())?;
     Ok(text_of(alloc, entity.packs, people.as_slice())?)
 }
 
