@@ -74,7 +74,8 @@ pub fn done_edits_make_their_step()
 /// A command whose argument finds no bug, or no person, is refused for that, after the checks that
 /// come first.
 pub fn words_that_find_nothing_are_refused()
-    ensures bugs { (env : EnvValue) (edit : BugEditValue) (word : List ℕ) (old : History) (user : Id)
+    ensures bugs { (env : EnvValue) (edit : BugEditValue) (word : List ℕ) (old : History)
+        (user : Id)
         → user_at (files_of old) env.folder ≡ User user
         → Finds (files_of old) env.folder side.Bugs word Nothing
         → Refused env (OfBug word edit) old refusal.NotFound }
@@ -114,7 +115,8 @@ pub fn full_bugs_are_refused()
 /// The last writes of `new` are the create clock and then the edit clock, each one higher, if neither
 /// is at its cap.
 pub fn create_clocks_are_written_first()
-    ensures { (env : EnvValue) (title : Title) (message : Message) (picked : Picked) (old : History) (user : Id)
+    ensures { (env : EnvValue) (title : Title) (message : Message) (picked : Picked)
+        (old : History) (user : Id)
         → user_at (files_of old) env.folder ≡ User user
         → clock_at (files_of old) env.folder file.BugsCreate < CAP
         → clock_at (files_of old) env.folder file.BugsEdit < CAP
@@ -131,7 +133,8 @@ pub fn written_bugs_are_read_so()
     ensures grown { (env : EnvValue) (edit : BugEditValue) (word : List ℕ) (old new : Files)
         (told : Id) (step : BugGrows env edit word old new told)
         (now : HasBug env.folder new word) → EndsWithTheEdit env edit word old new told step now }
-    ensures begun { (env : EnvValue) (title : Title) (message : Message) (old new : Files) (told : Id)
+    ensures begun { (env : EnvValue) (title : Title) (message : Message) (old new : Files)
+        (told : Id)
         (step : BugBegins env (create_op env.moment title message) old new told) (bug : HeadEntryValue)
         (entity : EntityValue OpValue) → bug.id ≡ told
         → head_at new env.folder side.Bugs told ≡ Head bug.name
