@@ -1,5 +1,5 @@
 -- What a command does in the folder that it is for.
-use Rattle.std.specs.Prelude.{◌≡◌, List, [], All}
+use Rattle.std.specs.Prelude.{List, [], ◌∷◌}
 use Rattle.folder_store.specs.declared.claim.Claim.{Claim}
 use Rattle.folder_store.specs.declared.claim.Purpose.{Purpose}
 use Rattle.folder_store.specs.declared.claim.Purpose.TheVariants.{Read, Write}
@@ -13,7 +13,7 @@ abbrev pub purpose_of : Command → Purpose
 purpose_of (Edit edit) = Write
 purpose_of _ = Read
 
--- claims are made for what the command does; without a request there are none
-abbrev pub AreClaimsOf : Asked → List Claim → Type 0
-AreClaimsOf (asked.Request request) claims = All (λ claim. claim.purpose ≡ purpose_of request.command) claims
-AreClaimsOf _ claims = claims ≡ []
+-- the folder of a request, for what the command does there; without a request nothing is claimed
+abbrev pub claims_of : Asked → List Claim
+claims_of (asked.Request request) = record { folder = request.folder; purpose = purpose_of request.command } ∷ []
+claims_of _ = []

@@ -1,29 +1,21 @@
 //! The folders in which a run works.
 ghost use Rattle.std.specs.Prelude.{◌≡◌, IfOk};
-ghost use Rattle.gitbug_edge.specs.Claims.{AreClaimsOf, purpose_of};
+ghost use Rattle.gitbug_edge.specs.Claims.{claims_of, purpose_of};
 
 use folder_store::{Claim, Purpose};
-use gb_text::{Folder, FolderFault};
-use std::alloc::{AllocError, Global};
+use gb_text::Memory;
+use std::alloc::Global;
 use words::{Asked, Command};
 
 /// The folders in which the arguments ask for something; none where they ask for nothing, since nothing is done then.
-pub fn claims_of(alloc: Global, asked: &Asked) -> Result<Vec<Claim>, AllocError>
-    ensures { IfOk result (λ claims. AreClaimsOf asked.now claims.items) }
+pub fn claims_of(alloc: Global, asked: &Asked) -> Result<Vec<Claim>, Memory>
+    ensures { IfOk result (λ claims. claims.items ≡ claims_of asked.now) }
 {
     let mut claims = Vec::new(alloc);
-    let Asked::Request(request) = asked else {
-        return Ok(claims);
-    };
-    let purpose = purpose_of(&request.command);
-    let word = match request.folder.as_str() {
-        "" => ".",
-        word => word,
-    };
-    match Folder::read(alloc, word) {
-        Ok(folder) => claims.push(Claim { folder, purpose })?,
-        Err(FolderFault::BadFolder) => {}
-        Err(FolderFault::Memory) => return Err(AllocError),
+    if let Asked::Request(request) = asked {
+        let folder = request.folder.copy(alloc)?;
+        let purpose = purpose_of(&request.command);
+        claims.push(Claim { folder, purpose })?;
     }
     Ok(claims)
 }

@@ -10,6 +10,7 @@ use crate::writer::SteadyWriter;
 use bug_run::{Status, moment_of, run};
 use folder_store::{Claim, FolderStore, Locking, again};
 use gb_store::{Sink, WriteSink};
+use std::alloc::AllocError;
 use std::rt::{Clock, Env, Runtime};
 use std::time::Duration;
 use std::{env, io};
@@ -49,7 +50,7 @@ fn claims_looked_at<R: Runtime + AllocGlobal>(rt: &R, asked: &Asked) -> io::Resu
     let claims = noted(
         rt,
         "the folder cannot be read",
-        claims_of(alloc, asked).map_err(io::Error::from),
+        claims_of(alloc, asked).map_err(|_| io::Error::from(AllocError)),
     )?;
     look_at(rt, alloc, &claims)?;
     Ok(claims)
