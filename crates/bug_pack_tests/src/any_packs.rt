@@ -1,5 +1,6 @@
 //! Packs of operations of any type: worked texts, and that calls succeed.
 use gb_text::{Bytes, Id, List, Memory, Name};
+use lamport::Clock;
 use op_kind::{AnyOp, OpFault, OpKind, Place};
 use op_pack::{Pack, PackFault, TreeHead};
 use std::alloc::Global;
@@ -7,12 +8,15 @@ use std::test::Fail;
 
 const OPS: Name = Name { bytes: [7; 20] };
 
-const HEAD: TreeHead = TreeHead {
-    version: 4,
-    edit: 7,
-    create: Some(3),
-    ops: OPS,
-};
+/// A head with the edit clock 7 and the create clock 3.
+fn head() -> TreeHead {
+    TreeHead {
+        version: 4,
+        edit: Clock::read(b"6").root_time(),
+        create: Some(Clock::read(b"2").root_time()),
+        ops: OPS,
+    }
+}
 
 const AUTHOR: Id = Id { bytes: [1; 32] };
 
@@ -37,7 +41,7 @@ fn joined(alloc: Global, texts: &[&[u8]]) -> Result<Vec<u8>, Memory> {
 // What reads and writes is generic over the kind, so that it is proved from the kind's contract alone.
 
 fn read_as<K: OpKind>(alloc: Global, text: &[u8]) -> Result<Pack<K>, PackFault> {
-    Pack::read(alloc, &HEAD, text)
+    Pack::read(alloc, &head(), text)
 }
 
 fn read(alloc: Global, text: &[u8]) -> Result<Pack<AnyOp>, PackFault> {
@@ -56,7 +60,7 @@ fn first_place<K: OpKind>(pack: &Pack<K>) -> Option<Place> {
 /// Writes a pack and reads it again.
 fn carry<K: OpKind>(alloc: Global, pack: &Pack<K>) -> Result<Pack<K>, PackFault> {
     let text = pack.write(alloc)?;
-    Pack::read(alloc, &HEAD, text.as_slice())
+    Pack::read(alloc, &head(), text.as_slice())
 }
 
 #[test]
@@ -65,7 +69,7 @@ fn a_pack_without_operations_is_written_and_read(rt: HostRuntime) -> Result<(), 
     let pack: Pack<AnyOp> = Pack {
         id: AUTHOR,
         version: 4,
-        edit: 7,
+        edit: head().edit,
         create: None,
         author: AUTHOR,
         ops: List::new(alloc),
@@ -74,7 +78,10 @@ fn a_pack_without_operations_is_written_and_read(rt: HostRuntime) -> Result<(), 
     assert_eq!(rt; written(alloc, &pack)?.as_slice(), wanted.as_slice());
     let again = carry(alloc, &pack)?;
     assert_eq!(rt; (again.author, again.ops.len()), (AUTHOR, 0));
-    assert_eq!(rt; (again.version, again.edit, again.create), (4, 7, Some(3)));
+    assert_eq!(rt;
+        (again.version, again.edit, again.create),
+        (4, head().edit, head().create)
+    );
     Ok(())
 }
 

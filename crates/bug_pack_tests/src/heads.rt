@@ -1,6 +1,7 @@
 //! Trees of packs: worked entries, and that calls succeed.
 use gb_text::{List, Memory, Name};
 use git_object::{EntryView, Mode, TreeView};
+use lamport::Time;
 use op_pack::{PackFault, TreeHead, read_head, tree_for};
 use std::alloc::Global;
 use std::test::Fail;
@@ -31,10 +32,11 @@ fn head_in(alloc: Global, content: &[u8]) -> Result<TreeHead, Fail> {
 #[test]
 fn trees_that_are_made_read_back(rt: HostRuntime) -> Result<(), Fail> {
     let alloc = rt.alloc();
-    let tree = tree_for(alloc, 2, None, &OPS)?;
+    let edit = Time::read(2).ok_or("a time")?;
+    let tree = tree_for(alloc, edit, None, &OPS)?;
     let head = TreeHead {
         version: 4,
-        edit: 2,
+        edit,
         create: None,
         ops: OPS,
     };
@@ -44,10 +46,12 @@ fn trees_that_are_made_read_back(rt: HostRuntime) -> Result<(), Fail> {
         empty.text().as_slice(),
         b"e69de29bb2d1d6434b8b29ae775ad8c2e48c5391".as_slice()
     );
-    let tree = tree_for(alloc, 9223372036854775807, Some(1), &OPS)?;
+    let edit = Time::read(9223372036854775807).ok_or("a time")?;
+    let create = Time::read(1);
+    let tree = tree_for(alloc, edit, create, &OPS)?;
     let head = TreeHead {
-        edit: 9223372036854775807,
-        create: Some(1),
+        edit,
+        create,
         ..head
     };
     assert_eq!(rt; head_in(alloc, tree.write(alloc)?.as_slice())?, head);

@@ -4,6 +4,7 @@ ghost use Rattle.std.specs.List.{flat_map};
 ghost use Rattle.op_kind.specs.Fold.{state_from};
 
 use gb_text::{Id, List, Memory};
+use lamport::Clock;
 use op_kind::{AnyOp, OpKind, Place, folds_append};
 use op_pack::Pack;
 use std::alloc::Global;
@@ -52,7 +53,7 @@ fn pack_of<K: OpKind>(alloc: Global, count: u64) -> Result<Pack<K>, Fail> {
     Ok(Pack {
         id,
         version: 4,
-        edit: 7,
+        edit: Clock::read(b"6").root_time(),
         create: None,
         author: id,
         ops,

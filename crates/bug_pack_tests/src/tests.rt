@@ -3,17 +3,21 @@ use crate::{bug_of_packs, fold_both};
 use bug_ops::BugOp;
 use fixtures::{id, pack_text};
 use gb_text::{Id, Memory, Name};
+use lamport::Clock;
 use op_kind::{OpFault, OpKind, Place};
 use op_pack::{Pack, PackFault, TreeHead};
 use std::alloc::Global;
 use std::test::Fail;
 
-const HEAD: TreeHead = TreeHead {
-    version: 4,
-    edit: 7,
-    create: Some(3),
-    ops: Name { bytes: [7; 20] },
-};
+/// A head with the edit clock 7 and the create clock 3.
+fn head() -> TreeHead {
+    TreeHead {
+        version: 4,
+        edit: Clock::read(b"6").root_time(),
+        create: Some(Clock::read(b"2").root_time()),
+        ops: Name { bytes: [7; 20] },
+    }
+}
 
 const AUTHOR: Id = Id { bytes: [1; 32] };
 
@@ -32,7 +36,7 @@ const COMMENT: &[u8] =
 
 /// The pack of a text.
 fn read<K: OpKind>(alloc: Global, text: &[u8]) -> Result<Pack<K>, PackFault> {
-    Pack::read(alloc, &HEAD, text)
+    Pack::read(alloc, &head(), text)
 }
 
 /// The pack of these operations.

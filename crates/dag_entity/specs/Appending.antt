@@ -50,7 +50,12 @@ abbrev pub AreHeld : Objects → List Name → Type 0
 AreHeld objects parents = (parent : Name) → Contains parents parent → HoldsAs as_commit objects parent
 
 module _ {Op State Row : Type 0} (k : Meaning Op State Row) where
-  -- the condition of an append: the pack is of the version that is written, each of its clocks is one, and each operation keeps the rules of its kind
+  -- the condition of an append: the pack is of the version that is written, and each operation keeps the rules of its kind
+  pub record MayBeWritten (pack : Pack Op) : Type 0 where
+    pub version : pack.version ≡ VERSION
+    pub rules : AllByRecursion k.KeepsRules pack.ops
+
+  -- the same of any numbers as clocks: each of them is a clock too
   pub record MayBeAppended (pack : Pack Op) : Type 0 where
     pub version : pack.version ≡ VERSION
     pub edit : IsClock pack.edit

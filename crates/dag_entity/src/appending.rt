@@ -7,12 +7,13 @@ ghost use Rattle.object_store.specs.Held.{Objects, objects_after};
 ghost use Rattle.object_batch.specs.Batches.{AllStand};
 ghost use Rattle.object_batch.specs.Commits.{written_commit};
 ghost use Rattle.op_pack.specs.Heads.{IsClock};
-ghost use Rattle.dag_entity.specs.Appending.{AppendAnswers, AppendPlanAnswers, CanBeRead, MayBeAppended, append_plan, appended_name, appended_node, appended_objects, appended_tree, commit_content, tree_content};
+ghost use Rattle.dag_entity.specs.Appending.{AppendAnswers, AppendPlanAnswers, CanBeRead, MayBeWritten, append_plan, appended_name, appended_node, appended_objects, appended_tree, commit_content, tree_content};
 ghost use Rattle.dag_entity.specs.Nodes.{IsNode};
 
 use gb_store::Store;
 use gb_text::{Bytes, Folder, List, Memory, Name};
 use git_object::Kind;
+use lamport::Time;
 use object_batch::{check_sizes, commit_for, put_all};
 use object_store::{ObjectText, PutFault};
 use op_kind::OpKind;
@@ -40,7 +41,7 @@ pub fn append<K: OpKind, S: Store>(
     pack: &Pack<K>,
     now: u64,
 ) -> Result<Name, PutFault>
-    requires { MayBeAppended K.meaning pack.now }
+    requires { MayBeWritten K.meaning pack.now }
     ensures name { IfOk result (λ name. name ≡ appended_name K.meaning parents.now pack.now now) }
     ensures answers { IsTrue S.tells → AppendAnswers folder.now
         (appended_objects K.meaning parents.now pack.now now)
@@ -65,7 +66,7 @@ pub fn plan_append<K: OpKind>(
     pack: &Pack<K>,
     now: u64,
 ) -> Result<CommitPlan, PutFault>
-    requires { MayBeAppended K.meaning pack.now }
+    requires { MayBeWritten K.meaning pack.now }
     ensures answer { AppendPlanAnswers K.meaning parents.now pack.now now result }
     ensures node { CanBeRead K.meaning pack.now → (objects : Objects)
         → AllStand objects (appended_objects K.meaning parents.now pack.now now)
@@ -84,7 +85,7 @@ fn plan_of<K: OpKind>(
     pack: &Pack<K>,
     now: u64,
 ) -> Result<CommitPlan, Memory>
-    requires { MayBeAppended K.meaning pack.now }
+    requires { MayBeWritten K.meaning pack.now }
     ensures plan { IfOk result (λ plan. plan ≡ append_plan K.meaning parents.now pack.now now) }
     ensures node { CanBeRead K.meaning pack.now → (objects : Objects)
         → AllStand objects (appended_objects K.meaning parents.now pack.now now)
@@ -121,9 +122,9 @@ fn four(
 }
 
 // The content of the tree that says these clocks and whose file `ops` names this object.
-fn tree_content(alloc: Global, edit: u64, create: Option<u64>, ops: Name) -> Result<Bytes, Memory>
-    requires edit { IsClock edit }
-    requires create { ForSome create (λ clock. IsClock clock) }
+fn tree_content(alloc: Global, edit: Time, create: Option<Time>, ops: Name) -> Result<Bytes, Memory>
+    ensures edit { IsClock edit }
+    ensures create { ForSome create (λ clock. IsClock clock) }
     ensures text { IfOk result (λ text. text ≡ tree_content edit create ops) }
     ensures tree { IfOk result (λ text. IsTreeText text (appended_tree edit create ops)) }
 {

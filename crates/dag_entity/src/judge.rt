@@ -28,7 +28,7 @@ pub(crate) fn root_clock<K: OpKind>(placed: &Placed<K>, id: &Id) -> Result<u64, 
     if found != *id {
         return Err(EntityFault::WrongId(found));
     }
-    Ok(create)
+    Ok(create.number())
 }
 
 /// Whether each operation but the root's first may stand behind others.

@@ -101,7 +101,7 @@ fn node_of<K: OpKind>(parents: List<Name>, placed: &Placed<K>) -> Node
     Node {
         name: placed.commit,
         parents,
-        edit: placed.pack.edit,
+        edit: placed.pack.edit.number(),
         count: placed.pack.ops.len() as u64,
     }
 }

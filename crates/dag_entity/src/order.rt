@@ -29,7 +29,7 @@ fn rank_of<K: OpKind>(placed: &Placed<K>) -> Rank
     ensures { result ≡ rank_of placed.now }
 {
     Rank {
-        edit: placed.pack.edit,
+        edit: placed.pack.edit.number(),
         pack: placed.pack.id,
         name: placed.commit,
     }

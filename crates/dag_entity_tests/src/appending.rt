@@ -1,23 +1,29 @@
 //! Appending: worked names, and that calls succeed.
-ghost use Rattle.std.specs.Prelude.{IfOk};
+ghost use Rattle.std.specs.Prelude.{◌≡◌, IfOk};
 ghost use Rattle.op_kind.specs.AnyKind.{any_kind};
-ghost use Rattle.dag_entity.specs.Appending.{MayBeAppended};
+ghost use Rattle.dag_entity.specs.Appending.{MayBeWritten};
 
 use dag_entity::append;
 use fixtures::{Disk, name, put_under};
 use gb_text::{Id, Name};
+use lamport::Clock;
 use object_store::PutFault;
-use op_kind::AnyOp;
+use op_kind::{AnyOp, VERSION};
 use op_pack::{Pack, TreeHead};
 use std::alloc::Global;
 use std::test::Fail;
 
-const HEAD: TreeHead = TreeHead {
-    version: 4,
-    edit: 2,
-    create: Some(1),
-    ops: Name { bytes: [9; 20] },
-};
+/// A head with the edit clock 2 and the create clock 1.
+fn head() -> TreeHead
+    ensures { result.version ≡ VERSION }
+{
+    TreeHead {
+        version: VERSION,
+        edit: Clock::read(b"1").root_time(),
+        create: Some(Clock::read(b"0").root_time()),
+        ops: Name { bytes: [9; 20] },
+    }
+}
 
 /// The text of a pack of one operation.
 const TEXT: &[u8] =
@@ -25,14 +31,15 @@ const TEXT: &[u8] =
 
 // The pack of that text.
 fn pack(alloc: Global) -> Result<Pack<AnyOp>, Fail>
-    ensures { IfOk result (λ pack. MayBeAppended any_kind pack) }
+    ensures { IfOk result (λ pack. MayBeWritten any_kind pack) }
 {
-    let read = Pack::<AnyOp>::read(alloc, &HEAD, TEXT)?;
+    let head = head();
+    let read = Pack::<AnyOp>::read(alloc, &head, TEXT)?;
     Ok(Pack {
         id: Id { bytes: [0; 32] },
-        version: HEAD.version,
-        edit: HEAD.edit,
-        create: HEAD.create,
+        version: head.version,
+        edit: head.edit,
+        create: head.create,
         author: read.author,
         ops: read.ops,
     })

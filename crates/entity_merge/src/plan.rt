@@ -1,11 +1,10 @@
 //! How two heads are to be joined.
-ghost use Rattle.std.specs.Prelude.{◌≡◌, ◌≤◌, ◌+◌, ◌∷◌, ◌↔◌, ℕ, [], None, Some, IsTrue, IfOk, IfSome, IsNone, IsErrOf, max};
+ghost use Rattle.std.specs.Prelude.{◌≡◌, ◌∷◌, ℕ, [], None, Some, IsTrue, IfOk, IsErrOf};
 ghost use Rattle.gb_store.specs.Faults.{KeepsFaults};
 ghost use Rattle.gb_text.specs.declared.id.Id.{Id as IdValue};
 ghost use Rattle.object_store.specs.Held.{Objects, objects_after};
 ghost use Rattle.object_batch.specs.Batches.{AllStand};
 ghost use Rattle.commit_walk.specs.Searches.{ReadsUntil};
-ghost use Rattle.op_pack.specs.Heads.{IsClock};
 ghost use Rattle.dag_entity.specs.Entities.{ReadsEach};
 ghost use Rattle.dag_entity.specs.Joining.{merge_node, merge_pack};
 ghost use Rattle.dag_entity.specs.Nodes.{IsNode};
@@ -16,8 +15,8 @@ use crate::fault::MergeFault;
 use crate::word::Merged;
 use dag_entity::{Entity, EntityFault, ReadBoth, plan_append, read_both, read_entity};
 use gb_store::Store;
-use gb_text::{Folder, GREATEST_TIME, Id, List, Name};
-use lamport::Clock;
+use gb_text::{Folder, Id, List, Name};
+use lamport::{Clock, Time};
 use object_store::ObjectText;
 use op_kind::{OpKind, VERSION};
 use op_pack::Pack;
@@ -148,21 +147,21 @@ fn plan_joined<K: OpKind>(
         → IsNode K.meaning objects (merge_node K.meaning local.now remote.now author.now
         plan.edit now)) }
 {
-    let Some(edit) = later_clock(clock, entity.edit) else {
+    let Ok(edit) = clock.merge_time(entity.edit, entity.edit) else {
         return Err(MergeFault::Invalid(EntityFault::ClockFull(*local)));
     };
     let pack: Pack<K> = merge_pack(alloc, author, edit);
     let plan = plan_append(alloc, &[*local, *remote], &pack, now)?;
     Ok(MergePlan {
         merged: Merged::Joined(plan.head),
-        edit,
+        edit: edit.number(),
         create: entity.create,
         objects: plan.objects,
     })
 }
 
 // The pack of a merge commit.
-fn merge_pack<K: OpKind>(alloc: Global, author: &Id, edit: u64) -> Pack<K>
+fn merge_pack<K: OpKind>(alloc: Global, author: &Id, edit: Time) -> Pack<K>
     ensures { result ≡ merge_pack author.now edit }
 {
     Pack {
@@ -172,18 +171,5 @@ fn merge_pack<K: OpKind>(alloc: Global, author: &Id, edit: u64) -> Pack<K>
         create: None,
         author: *author,
         ops: List::new(alloc),
-    }
-}
-
-// The edit clock of a merge commit over heads with this greatest edit clock, if one is left above it.
-fn later_clock(clock: &Clock, head: u64) -> Option<u64>
-    ensures value { IfSome result (λ edit. edit ≡ max clock.now head + 1) }
-    ensures is_clock { IfSome result (λ edit. IsClock edit) }
-    ensures full { IsNone result ↔ (GREATEST_TIME ≤ head) }
-{
-    if head < GREATEST_TIME {
-        clock.merge_time(head, head).ok()
-    } else {
-        None
     }
 }

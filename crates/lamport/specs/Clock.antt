@@ -1,9 +1,14 @@
 -- The clock rule, as functions on numbers (Lamport, "Time, clocks, and the ordering of events in a
 -- distributed system"). The cap of a clock file and that of a jump are this project's.
-use Rattle.std.specs.Prelude.{ℕ, ◌+◌, min, max, List, Option, Some, None}
+use Rattle.std.specs.Prelude.{ℕ, ◌+◌, ◌&&◌, nat_le, if◌then◌else◌, min, max, List, Option, Some, None}
 use Rattle.gb_text.specs.Decimal.{decimal_of}
 use Rattle.gb_text.specs.LineEnd.{line_of}
+use Rattle.gb_text.specs.declared.decimal.TheConstants.{GREATEST_TIME}
 use Rattle.lamport.specs.declared.clock.TheConstants.{CAP, JUMP}
+
+-- the clock of a commit that is this number, if it is one
+abbrev pub time_of : ℕ → Option ℕ
+time_of n = if nat_le 1 n && nat_le n GREATEST_TIME then Some n else None
 
 -- a number that was read, up to the cap; 0 where none was
 abbrev pub number_of : Option ℕ → ℕ

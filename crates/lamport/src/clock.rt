@@ -2,6 +2,7 @@
 ghost use Rattle.std.specs.Prelude.{◌≡◌, ◌↔◌, ◌≤◌, ◌<◌, ◌+◌, max, IfOk, IsErr};
 ghost use Rattle.lamport.specs.Clock.{clock_of, seen_by, root_time_of, edit_time_of, merge_time_of};
 
+use crate::time::Time;
 use gb_text::{GREATEST_TIME, read_decimal, without_line_end};
 use std::marker::Model;
 
@@ -31,7 +32,7 @@ impl Model for Clock {
     ghost inverse = { λ n. record { number = n } };
 }
 
-/// The head's clock is [`GREATEST_TIME`], so no clock is left above it.
+/// The head's clock is [`GREATEST_TIME`] or greater, so no clock is left above it.
 #[derive(Clone, Copy, Debug, PartialEq, Eq)]
 pub struct ClockFull;
 
@@ -63,45 +64,46 @@ impl Clock {
     }
 
     /// The clock of a new root.
-    pub fn root_time(&self) -> u64
+    pub fn root_time(&self) -> Time
         ensures value { result ≡ root_time_of self.now }
         ensures some { 1 ≤ result }
         ensures capped { result ≤ CAP }
     {
         let number = self.number;
-        (number + 1).min(CAP)
+        Time {
+            number: (number + 1).min(CAP),
+        }
     }
 
     /// The clock of an edit on a head with this edit clock.
-    pub fn edit_time(&self, head: u64) -> Result<u64, ClockFull>
-        requires { head ≤ GREATEST_TIME }
+    pub fn edit_time(&self, head: u64) -> Result<Time, ClockFull>
         ensures value { IfOk result (λ time. time ≡ edit_time_of self.now head) }
-        ensures full { IsErr result ↔ (head ≡ GREATEST_TIME) }
+        ensures full { IsErr result ↔ (GREATEST_TIME ≤ head) }
         ensures above { IfOk result (λ time. head < time) }
         ensures near { IfOk result (λ time. time ≤ head + JUMP) }
         ensures within { IfOk result (λ time. time ≤ GREATEST_TIME) }
     {
-        if head == GREATEST_TIME {
+        if head >= GREATEST_TIME {
             return Err(ClockFull);
         }
         let number = self.number;
-        Ok((number.max(head) + 1).min(head + JUMP))
+        let time = (number.max(head) + 1).min(head + JUMP);
+        Ok(Time { number: time })
     }
 
     /// The clock of a commit that joins two heads with these edit clocks.
-    pub fn merge_time(&self, one: u64, two: u64) -> Result<u64, ClockFull>
-        requires first { one ≤ GREATEST_TIME }
-        requires second { two ≤ GREATEST_TIME }
+    pub fn merge_time(&self, one: u64, two: u64) -> Result<Time, ClockFull>
         ensures value { IfOk result (λ time. time ≡ merge_time_of self.now one two) }
-        ensures full { IsErr result ↔ (max one two ≡ GREATEST_TIME) }
+        ensures full { IsErr result ↔ (GREATEST_TIME ≤ max one two) }
         ensures above { IfOk result (λ time. max one two < time) }
         ensures within { IfOk result (λ time. time ≤ GREATEST_TIME) }
     {
         let head = one.max(two);
-        if head == GREATEST_TIME {
+        if head >= GREATEST_TIME {
             return Err(ClockFull);
         }
         let number = self.number;
-        Ok(number.max(head) + 1)
+        let time = number.max(head) + 1;
+        Ok(Time { number: time })
     }
 }

@@ -1,6 +1,6 @@
 //! Laws of clocks, each the contract of a function that does nothing.
-ghost use Rattle.std.specs.Prelude.{◌≡◌, ◌≤◌, ◌<◌, ◌+◌, ◌++◌, ◌∷◌, [], ℕ, decimal, max};
-ghost use Rattle.lamport.specs.Clock.{clock_of, edit_time_of, merge_time_of, root_time_of, seen_by};
+ghost use Rattle.std.specs.Prelude.{◌≡◌, ◌≤◌, ◌<◌, ◌+◌, ◌++◌, ◌∷◌, ◌-◌, ◌^◌, [], ℕ, decimal, max, Some};
+ghost use Rattle.lamport.specs.Clock.{clock_of, edit_time_of, merge_time_of, root_time_of, seen_by, time_of};
 
 use crate::{CAP, JUMP};
 
@@ -8,6 +8,13 @@ use crate::{CAP, JUMP};
 pub fn clocks_read_back()
     ensures plain { (n : ℕ) → n ≤ CAP → clock_of (decimal n) ≡ n }
     ensures line { (n : ℕ) → n ≤ CAP → clock_of (decimal n ++ 10 ∷ []) ≡ n }
+{}
+
+/// Each number of 1 to 2^63 - 1 is the time with that number, and no other number is a time.
+pub fn times_are_within_bounds()
+    ensures each { (n : ℕ) → 1 ≤ n → n ≤ 2 ^ 63 - 1 → time_of n ≡ Some n }
+    ensures only { (n time : ℕ) → time_of n ≡ Some time
+        → (time ≡ n) × (1 ≤ n) × (n ≤ 2 ^ 63 - 1) }
 {}
 
 /// The order in which clocks are seen makes no difference, nor how often.

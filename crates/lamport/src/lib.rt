@@ -3,11 +3,14 @@
 
 mod clock;
 mod laws;
+mod time;
 
 pub use clock::{CAP, Clock, ClockFull, JUMP};
 pub use laws::{
     clocks_read_back, new_times_are_later, seen_in_any_order, seen_times_count_up_to_the_cap,
+    times_are_within_bounds,
 };
+pub use time::Time;
 
 #[cfg(test)]
 mod tests;

@@ -6,6 +6,7 @@ use Rattle.std.specs.Str.{bytes_eq}
 use Rattle.gb_text.specs.Decimal.{decimal_of}
 use Rattle.gb_text.specs.declared.decimal.TheConstants.{GREATEST_TIME}
 use Rattle.gb_text.specs.declared.id.Name.{Name}
+use Rattle.lamport.specs.Clock.{time_of}
 use Rattle.git_object.specs.Grammar.{object_name, framed}
 use Rattle.git_object.specs.declared.entry.Entry.{Entry}
 use Rattle.git_object.specs.declared.entry.Mode.{Mode}
@@ -57,9 +58,9 @@ known_version None = None
 abbrev pub version_at : List ℕ → Option ℕ
 version_at text = known_version (decimal_of text)
 
--- a number of 1 to the limit
+-- the clock that is this number, if it is one
 abbrev pub clock_in_range : Option ℕ → Option ℕ
-clock_in_range (Some n) = if nat_le 1 n && nat_le n GREATEST_TIME then Some n else None
+clock_in_range (Some n) = time_of n
 clock_in_range None = None
 
 -- the clock of which a text is the decimal, if it is that of one

@@ -9,8 +9,9 @@ ghost use Rattle.op_pack.specs.Answers.{Answers};
 ghost use Rattle.op_pack.specs.declared.fault.PackFault.{PackFault as FaultValue};
 
 use crate::PackFault;
-use gb_text::{Bytes, GREATEST_TIME, List, Memory, Name, read_decimal};
+use gb_text::{Bytes, List, Memory, Name, read_decimal};
 use git_object::{Entry, EntryView, Kind, Mode, Tree, TreeView, name_of};
+use lamport::Time;
 use op_kind::VERSION;
 use std::alloc::Global;
 
@@ -19,8 +20,8 @@ use std::alloc::Global;
 #[derive(Clone, Copy, Debug, PartialEq, Eq)]
 pub struct TreeHead {
     pub version: u64,
-    pub edit: u64,
-    pub create: Option<u64>,
+    pub edit: Time,
+    pub create: Option<Time>,
     pub ops: Name,
 }
 
@@ -90,13 +91,13 @@ fn version_in(tree: &TreeView<'_>) -> Result<u64, PackFault>
 }
 
 // The clock of which a text is the decimal.
-fn read_clock(text: &[u8]) -> Option<u64>
+fn read_clock(text: &[u8]) -> Option<Time>
     ensures { result ≡ clock_at text.now }
 {
-    read_decimal(text).filter(|clock| 1 <= *clock && *clock <= GREATEST_TIME)
+    Time::read(read_decimal(text)?)
 }
 
-fn edit_clock_in(tree: &TreeView<'_>) -> Result<u64, PackFault>
+fn edit_clock_in(tree: &TreeView<'_>) -> Result<Time, PackFault>
     ensures { Answers (edit_clock_of (tree_seen tree.now)) (HeadFault (tree_seen tree.now)) result }
 {
     match find_rest(b"edit-clock-", tree.entries.as_slice()) {
@@ -106,7 +107,7 @@ fn edit_clock_in(tree: &TreeView<'_>) -> Result<u64, PackFault>
     }
 }
 
-fn create_clock_in(tree: &TreeView<'_>) -> Result<Option<u64>, PackFault>
+fn create_clock_in(tree: &TreeView<'_>) -> Result<Option<Time>, PackFault>
     ensures { Answers (create_clock_of (tree_seen tree.now)) (HeadFault (tree_seen tree.now)) result }
 {
     match find_rest(b"create-clock-", tree.entries.as_slice()) {
@@ -176,6 +177,17 @@ fn number_entry(alloc: Global, front: &str, number: u64) -> Result<Entry, Memory
     plain_entry(alloc, name.as_str(), name_of(Kind::Blob, b""))
 }
 
+// The number of a create clock, where there is one.
+pub(crate) fn create_number(create: Option<Time>) -> Option<u64>
+    ensures same { result ≡ create }
+    ensures clock { ForSome create (λ clock. IsClock clock) }
+{
+    match create {
+        Some(clock) => Some(clock.number()),
+        None => None,
+    }
+}
+
 fn make_tree(alloc: Global, edit: u64, create: Option<u64>, ops: &Name) -> Result<Tree, Memory>
     ensures { IfOk result (λ t. t ≡ tree_with edit create ops.now) }
 {
@@ -194,13 +206,13 @@ fn make_tree(alloc: Global, edit: u64, create: Option<u64>, ops: &Name) -> Resul
 /// The tree of a pack whose text is the object `ops`: the entries `ops`, `version-4`, `edit-clock-`
 /// with the edit clock, and `create-clock-` with the create clock where it is given, all of mode
 /// 100644; all but `ops` name the empty blob. It can be written by `Tree::write`.
-pub fn tree_for(alloc: Global, edit: u64, create: Option<u64>, ops: &Name) -> Result<Tree, Memory>
-    requires edit { IsClock edit }
-    requires create { ForSome create (λ clock. IsClock clock) }
+pub fn tree_for(alloc: Global, edit: Time, create: Option<Time>, ops: &Name) -> Result<Tree, Memory>
+    ensures edit { IsClock edit }
+    ensures create { ForSome create (λ clock. IsClock clock) }
     ensures tree { IfOk result (λ t. t ≡ tree_with edit create ops.now) }
     ensures head { IfOk result (λ t. head_of t
         ≡ Some (record { version = VERSION; edit = edit; create = create; ops = ops.now })) }
     ensures names { IfOk result (λ t. HasGoodNames t) }
 {
-    make_tree(alloc, edit, create, ops)
+    make_tree(alloc, edit.number(), create_number(create), ops)
 }

@@ -6,9 +6,11 @@ ghost use Rattle.json_span.specs.Joined.{joined, behind_commas};
 ghost use Rattle.op_pack.specs.Answers.{AnswersUnlessMemory};
 ghost use Rattle.op_pack.specs.Packs.{hash_of, ops_at, version_in, SlicesFault};
 
+use crate::head::create_number;
 use crate::parts::read_parts;
 use crate::{PackFault, TreeHead};
 use gb_text::{Bytes, Id, List, Memory};
+use lamport::Time;
 use op_kind::{OpFault, OpKind, Place};
 use sha2::{Digest, Sha256};
 use std::alloc::Global;
@@ -22,8 +24,8 @@ pub const MOST_OPERATIONS: usize = 4096;
 pub struct Pack<K> {
     pub id: Id,
     pub version: u64,
-    pub edit: u64,
-    pub create: Option<u64>,
+    pub edit: Time,
+    pub create: Option<Time>,
     pub author: Id,
     pub ops: List<K>,
 }
@@ -54,8 +56,8 @@ fn read_ops<K: OpKind>(
         let place = Place {
             id: hash_of(slice),
             author,
-            edit: head.edit,
-            create: head.create,
+            edit: head.edit.number(),
+            create: create_number(head.create),
         };
         match K::read_op(alloc, place, slice) {
             Ok(op) => {

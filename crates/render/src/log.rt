@@ -30,7 +30,7 @@ fn packs_text(alloc: Global, packs: &[Placed<BugOp>]) -> Result<Text, Memory>
 fn push_line(text: &mut String, placed: &Placed<BugOp>) -> Result<(), AllocError>
     ensures { Adds result text.old text.new (log_line placed.now) }
 {
-    push_number(text, placed.pack.edit)?;
+    push_number(text, placed.pack.edit.number())?;
     text.push_str(" ")?;
     push_name(text, &placed.commit)?;
     push_line_end(text)

@@ -3,6 +3,7 @@ use bug_ops::{BugOp, BugStatus, Comment, Excerpt, Snapshot};
 use dag_entity::{Entity, Placed};
 use gb_text::{Id, List, Name, Text};
 use identity::Person;
+use lamport::Time;
 use op_kind::Pair;
 use op_pack::Pack;
 use std::alloc::Global;
@@ -225,8 +226,9 @@ fn persons_are_listed_with_a_star_for_the_user(rt: HostRuntime) -> Result<(), Fa
 }
 
 // A commit with an empty pack at this clock.
-fn placed(alloc: Global, byte: u8, edit: u64) -> Placed<BugOp> {
-    Placed {
+fn placed(alloc: Global, byte: u8, edit: u64) -> Result<Placed<BugOp>, Fail> {
+    let edit = Time::read(edit).ok_or("a time")?;
+    Ok(Placed {
         commit: Name::from_bytes([byte; 20]),
         pack: Pack {
             id: id(byte),
@@ -236,15 +238,15 @@ fn placed(alloc: Global, byte: u8, edit: u64) -> Placed<BugOp> {
             author: id(0),
             ops: List::new(alloc),
         },
-    }
+    })
 }
 
 #[test]
 fn a_log_has_a_line_for_each_commit(rt: HostRuntime) -> Result<(), Fail> {
     let alloc = rt.alloc();
     let mut packs = Vec::new(alloc);
-    packs.push(placed(alloc, 0xee, 2))?;
-    packs.push(placed(alloc, 0x0f, 10))?;
+    packs.push(placed(alloc, 0xee, 2)?)?;
+    packs.push(placed(alloc, 0x0f, 10)?)?;
     let entity = Entity {
         id: id(0),
         heads: List::new(alloc),

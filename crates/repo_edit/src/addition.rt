@@ -1,8 +1,6 @@
 //! A commit that a command adds to a bug, and the clocks that see it.
 ghost use Rattle.std.specs.Prelude.{◌≡◌, ◌++◌, IfOk};
-ghost use Rattle.std.specs.Option.{ForSome};
 ghost use Rattle.lamport.specs.Clock.{root_time_of};
-ghost use Rattle.op_pack.specs.Heads.{IsClock};
 ghost use Rattle.bug_ops.specs.Kind.{bug_kind};
 ghost use Rattle.dag_entity.specs.Appending.{AppendPlanAnswers};
 ghost use Rattle.repo_state.specs.Clocks.{see_writes};
@@ -14,7 +12,7 @@ use bug_ops::BugOp;
 use dag_entity::{CommitPlan, plan_append};
 use gb_store::Change;
 use gb_text::{Folder, Id, List, Memory, Name};
-use lamport::Clock;
+use lamport::{Clock, Time};
 use object_store::PutFault;
 use op_kind::VERSION;
 use op_pack::Pack;
@@ -26,8 +24,8 @@ use std::alloc::Global;
 fn one_op_pack(
     alloc: Global,
     author: &Id,
-    edit: u64,
-    create: Option<u64>,
+    edit: Time,
+    create: Option<Time>,
     op: BugOp,
 ) -> Result<Pack<BugOp>, Memory>
     ensures { IfOk result (λ pack. pack ≡ one_op_pack author.now edit create op) }
@@ -49,13 +47,11 @@ pub fn plan_commit(
     alloc: Global,
     parents: &[Name],
     author: &Id,
-    edit: u64,
-    create: Option<u64>,
+    edit: Time,
+    create: Option<Time>,
     new: NewOp,
     now: u64,
 ) -> Result<CommitPlan, PutFault>
-    requires edit { IsClock edit }
-    requires create { ForSome create (λ clock. IsClock clock) }
     ensures { AppendPlanAnswers bug_kind parents.now (one_op_pack author.now edit create new.op) now
         result }
 {
@@ -95,14 +91,14 @@ pub fn with_root_clocks(
         ++ see_writes folder.now file.BugsCreate create (root_time_of create)
         ++ see_writes folder.now file.BugsEdit edit (root_time_of edit)) }
 {
-    let opened = create.root_time();
+    let opened = create.root_time().number();
     let writes = with_clock(alloc, folder, ClockFile::BugsCreate, create, opened, writes)?;
     with_clock(
         alloc,
         folder,
         ClockFile::BugsEdit,
         edit,
-        edit.root_time(),
+        edit.root_time().number(),
         writes,
     )
 }

@@ -1,17 +1,15 @@
 //! The bug that an edit adds to, and what bars it.
-ghost use Rattle.std.specs.Prelude.{◌≡◌, ◌↔◌, ◌≤◌, IfOk, IfSome, IsNone, IsTrue, IsErrOf};
+ghost use Rattle.std.specs.Prelude.{◌≡◌, ◌≤◌, IsTrue, IsErrOf};
 ghost use Rattle.std.specs.List.{list_any};
 ghost use Rattle.gb_store.specs.Faults.{KeepsFaults};
 ghost use Rattle.gb_store.specs.Files.{files_of};
-ghost use Rattle.lamport.specs.Clock.{edit_time_of};
-ghost use Rattle.op_pack.specs.Heads.{IsClock};
 ghost use Rattle.repo_edit.specs.Growing.{AuthorAnswers, BeginningAnswers, GrowingAnswers, ReadsGrowing, RoomAnswers, has_id};
 
 use bug_ops::BugOp;
 use commit_walk::MOST_COMMITS;
 use gb_store::Store;
-use gb_text::{Folder, GREATEST_TIME, Id, List};
-use lamport::Clock;
+use gb_text::{Folder, Id, List};
+use lamport::{Clock, Time};
 use op_kind::OpKind;
 use repo_state::{ClockFile, HeadEntry, Side, bug_at, clock, find_head, ops_of, user};
 use repo_steps::{Refusal, Stop};
@@ -101,30 +99,16 @@ pub fn growing_bug<S: Store>(
 
 /// The edit clock of what is added to a bug: above that of its head, of which one has to be left,
 /// and where it has room for one commit more.
-pub fn room(bug: &Growing) -> Result<u64, Stop>
+pub fn room(bug: &Growing) -> Result<Time, Stop>
     ensures room { RoomAnswers bug.now.seen bug.now.head.name bug.now.edit bug.now.commits result }
-    ensures clock { IfOk result (λ edit. IsClock edit) }
 {
-    let Some(later) = later_clock(bug.seen, bug.edit) else {
+    let Ok(later) = bug.seen.edit_time(bug.edit) else {
         return Err(Stop::Refused(Refusal::ClockFull(bug.head.name)));
     };
     if bug.commits >= MOST_COMMITS as u64 {
         return Err(Stop::Refused(Refusal::TooLarge(MOST_COMMITS as u64 + 1)));
     }
     Ok(later)
-}
-
-// The clock of an edit on a head with this edit clock, where one is left above it.
-fn later_clock(clock: Clock, head: u64) -> Option<u64>
-    ensures value { IfSome result (λ edit. edit ≡ edit_time_of clock head) }
-    ensures is_clock { IfSome result (λ edit. IsClock edit) }
-    ensures full { IsNone result ↔ (GREATEST_TIME ≤ head) }
-{
-    if head < GREATEST_TIME {
-        clock.edit_time(head).ok()
-    } else {
-        None
-    }
 }
 
 /// Whether one of these operations has an id. It is proved for each kind, which costs far less than

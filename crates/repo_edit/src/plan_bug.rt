@@ -2,7 +2,6 @@
 ghost use Rattle.std.specs.Prelude.{◌≡◌, ◌≤◌, ◌+◌, IsTrue, IsErrOf};
 ghost use Rattle.gb_store.specs.Faults.{KeepsFaults};
 ghost use Rattle.gb_store.specs.Files.{files_of};
-ghost use Rattle.op_pack.specs.Heads.{IsClock};
 ghost use Rattle.repo_steps.specs.Answers.{Plans};
 ghost use Rattle.repo_steps.specs.BugDoings.{begun_bug};
 ghost use Rattle.repo_edit.specs.Growing.{Begins, EditPlans, GrownPlans};
@@ -14,6 +13,7 @@ use crate::writes::head_writes;
 use bug_edits::{BugEdit, NewOp, edit_op, op_id};
 use gb_store::Store;
 use gb_text::{Id, List};
+use lamport::Time;
 use repo_state::{ClockFile, Side, stands};
 use repo_steps::{Env, Plan, Refusal, Stop};
 use std::alloc::Global;
@@ -104,10 +104,9 @@ fn plan_grown<S: Store>(
     disk: &mut S,
     env: &Env,
     bug: &Growing,
-    edit: u64,
+    edit: Time,
     new: NewOp,
 ) -> Result<Plan, Stop>
-    requires clock { IsClock edit }
     ensures answers { IsTrue S.tells
         → GrownPlans env.entry.now bug.now edit new.op (S.history disk.old) result }
     ensures unwritten { IsTrue S.tells → S.history disk.new ≡ S.history disk.old }
@@ -139,7 +138,7 @@ fn plan_grown<S: Store>(
         &commit.objects,
     )?;
     let which = ClockFile::BugsEdit;
-    let writes = with_clock(alloc, &env.folder, which, bug.seen, edit, writes)?;
+    let writes = with_clock(alloc, &env.folder, which, bug.seen, edit.number(), writes)?;
     Ok(Plan {
         writes: List::from_vec(writes),
         id,

@@ -8,7 +8,7 @@ pub use Rattle.bug_ops.specs.Laws.{bug_keeps_laws}
 pub use Rattle.bug_ops.specs.declared.op.BugOp.{BugOp}
 pub use Rattle.commit_walk.proofs.DistinctLemmas.{Contains-nil, Contains-one}
 pub use Rattle.commit_walk.specs.declared.below.TheConstants.{MOST_COMMITS}
-pub use Rattle.dag_entity.specs.Appending.{appended_node, AreHeld, CanBeRead, MayBeAppended, appended_head}
+pub use Rattle.dag_entity.specs.Appending.{appended_node, AreHeld, CanBeRead, MayBeAppended, MayBeWritten, appended_head}
 pub use Rattle.dag_entity.specs.Entities.{ops_in, IsEntity}
 pub use Rattle.dag_entity.specs.Extending.{extended}
 pub use Rattle.dag_entity.specs.Nodes.{edit_at}

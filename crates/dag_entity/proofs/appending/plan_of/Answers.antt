@@ -1,7 +1,7 @@
 use Rattle.std.proofs.Common.{[], refl, sym, ◌∙◌, ap}
 use Rattle.git_object.specs.declared.object.Object.TheVariants as objects
 use Rattle.op_pack.specs.Packs.{pack_at}
-use Rattle.dag_entity.specs.Appending.{appended_head}
+use Rattle.dag_entity.specs.Appending.{MayBeAppended, appended_head}
 use Rattle.dag_entity.proofs.AppendLemmas.{commit_has, plan_is, tree_has}
 use Rattle.dag_entity.proofs.AppendedLemmas.{node_stands}
 use Rattle.dag_entity.proofs.appending.plan_of.Goals as goal
@@ -29,5 +29,7 @@ pub returns-clause-node : goal.returns-clause-node
 returns-clause-node g c = λ can objects stand.
     let k = g.K.OpKind.meaning in
     let pack = c.args.pack.now in
-    node_stands k c.args.parents.now pack c.args.now c.requires c.ranges.now.fits c.in_ok-content-2.ensures.commit.parents objects stand
+    let may : MayBeAppended k pack =
+    record { version = c.requires.version; edit = c.tree_content.ensures.edit; create = c.tree_content.ensures.create; rules = c.requires.rules } in
+    node_stands k c.args.parents.now pack c.args.now may c.ranges.now.fits c.in_ok-content-2.ensures.commit.parents objects stand
     (ap (pack_at k (appended_head k pack)) (sym c.in_ok-write.ensures.text) ∙ c.in_ok-write.ensures.reads_back (appended_head k pack) can.few can.stand)

@@ -38,7 +38,7 @@ returns g c =
     let at : Some first ≡ slice_get c.args.placed.now.pack.ops 0 = c.in-Some-first.ensures.value ∙ ap (λ ops. slice_get ops 0) c.as_slice.ensures in
     let parts = rest_of c.args.placed.now.pack.ops first at in
     record {
-      says = c.in-Some.is;
+      says = c.in-Some.is ∙ ap (λ (n : ℕ). Some n) (sym c.number.ensures.value);
       first = first;
       rest = parts.0;
       begins = parts.1;

@@ -1,6 +1,7 @@
-use Rattle.std.proofs.Common.{◌≡◌, ◌∙◌, Result, Err, refl, ap, sym, subst, rules}
+use Rattle.std.proofs.Common.{◌≡◌, ◌∙◌, ◌++◌, ℕ, Result, Err, refl, ap, sym, subst, rules}
 use Rattle.std.specs.List.{list_any}
-use Rattle.repo_steps.proofs.Names.{bug_kind}
+use Rattle.repo_steps.proofs.Names.{bug_kind, see_writes}
+use Rattle.repo_state.specs.declared.clocks.ClockFile.TheVariants as file
 use Rattle.repo_edit.proofs.Names.{Stop, stop_of_put, Plan, GrownPlans, has_id}
 use Rattle.repo_edit.proofs.PlanBugLemmas.{grown_planned, grown_repeated, grown_taken}
 use Rattle.repo_edit.proofs.plan_bug.plan_grown.Goals as goal
@@ -25,4 +26,5 @@ returns-clause-answers g c = λ tells.
     let old = g.S.Store.history c.args.disk.now in
     grown_planned c.args.env.now c.args.bug.now c.args.edit c.args.new.op old c.in_ok-commit.commit c.in_ok-commit.ensures c.in_ok-id.id c.in_ok-id.ensures
     c.has_operation.result (c.has_operation.ensures ∙ ap (list_any (has_id bug_kind c.in_ok-id.id)) c.as_slice.ensures) c.if-has_operation.false old refl
-    c.in_ok-writes.writes c.from_vec.result (c.in_ok-writes.ensures.answers tells) (c.from_vec.ensures ∙ c.in_ok-writes-2.ensures)
+    c.in_ok-writes.writes c.from_vec.result (c.in_ok-writes.ensures.answers tells)
+    (c.from_vec.ensures ∙ c.in_ok-writes-2.ensures ∙ ap (λ (n : ℕ). c.in_ok-writes.writes.items ++ see_writes c.args.env.now.folder file.BugsEdit c.args.bug.now.seen n) c.number.ensures.value)
