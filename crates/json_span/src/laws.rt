@@ -119,8 +119,8 @@ pub fn parts_are_utf8()
 {}
 
 /// The bytes of each class in RFC 8259: white space (section 2), digits and signs of numbers (section
-/// 6), and what stands in a string (section 7). `escaped` are the bytes that do not stand for
-/// themselves in a string.
+/// 6), and the characters of strings (section 7). `escaped` are the bytes that a string has only
+/// as escape sequences.
 pub fn bytes_by_number()
     ensures spaces { filter is_space (range_with_len 0 256) ≡ 0x09 ∷ 0x0a ∷ 0x0d ∷ 0x20 ∷ [] }
     ensures digits { filter is_digit (range_with_len 0 256) ≡ codes "0123456789" }
