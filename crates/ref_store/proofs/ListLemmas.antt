@@ -18,7 +18,7 @@ use Rattle.gb_text.proofs.DigitLemmas.{id_of-encode_lower, id_of-is}
 use Rattle.gb_store.specs.Files.{Files, IsListing}
 use Rattle.gb_text.specs.declared.id.Name.{Name}
 use Rattle.ref_store.specs.Refs.{Ref, Absent, Head, Bad, head_or_bad, ref_at, ref_of}
-use Rattle.ref_store.specs.Listing.{IsRefList, entry_named, entry_of, found_of, id_place}
+use Rattle.ref_store.specs.Listing.{IsIdList, IsRefList, entry_named, entry_of, found_of, id_place}
 use Rattle.ref_store.specs.declared.listing.RefEntry.{RefEntry}
 use Rattle.ref_store.specs.declared.listing.RefFound.{RefFound}
 use Rattle.ref_store.specs.declared.listing.RefFound.TheVariants as variant
@@ -55,6 +55,76 @@ filter_map-from {X = X} {Y = Y} f (z ∷ xs) y h = each (filter_map-from f xs y)
 pub filter_map-more : {X Y : Type 0} (f : X → Option Y) (xs : List X) (i : ℕ) (d : X) → i < length xs
     → filter_map f (take (i + 1) xs) ≡ filter_map f (take i xs) ++ cons_option (f (get_or xs i d)) []
 filter_map-more f xs i d lt = ap (filter_map f) (take_more xs i d lt) ∙ filter_map-append f (take i xs) (get_or xs i d ∷ [])
+
+-- ---- order
+
+-- what is read of names by the ids that they are
+module _ {X : Type 0} (read : List ℕ → Option X) (id_in : X → Id) (is_name : (name : List ℕ) (x : X) → read name ≡ Some x → id_of name ≡ Some (id_in x)) where
+  abbrev bytes_in : X → List ℕ
+  bytes_in x = (id_in x).bytes
+
+  -- ids of later names are above
+  above : (id : Id) → IsId id → (names : List (List ℕ)) → AllByRecursion (λ n. slice_cmp nat_cmp (encode_lower id.bytes) n ≡ Less) names
+      → AllByRecursion (λ b. slice_cmp nat_cmp id.bytes b ≡ Less) (map bytes_in (filter_map read names))
+  above id is [] all = tt
+  above id is (name ∷ names) all = each (above id is names all.1) (read name) refl
+    where
+      each : AllByRecursion (λ b. slice_cmp nat_cmp id.bytes b ≡ Less) (map bytes_in (filter_map read names))
+          → (o : Option X) → read name ≡ o → AllByRecursion (λ b. slice_cmp nat_cmp id.bytes b ≡ Less) (map bytes_in (cons_option o (filter_map read names)))
+      each later None at = later
+      each later (Some x) at =
+          let digits = id_of-is name (id_in x) (is_name name x at) in
+          let less : slice_cmp nat_cmp id.bytes (bytes_in x) ≡ Less =
+          sym (encode_lower-order id.bytes (bytes_in x) is.bytes digits.0.bytes) ∙ ap (slice_cmp nat_cmp (encode_lower id.bytes)) (sym digits.1) ∙ all.0 in
+          (less, later)
+
+  rising : (names : List (List ℕ)) → IsStrictlySortedBy (slice_cmp nat_cmp) names → IsStrictlySortedBy (slice_cmp nat_cmp) (map bytes_in (filter_map read names))
+  unfolding IsStrictlySortedBy
+  rising [] sorted = tt
+  rising (name ∷ names) sorted = each (rising names sorted.1) (read name) refl
+    where
+      each : IsStrictlySortedBy (slice_cmp nat_cmp) (map bytes_in (filter_map read names))
+          → (o : Option X) → read name ≡ o → IsStrictlySortedBy (slice_cmp nat_cmp) (map bytes_in (cons_option o (filter_map read names)))
+      each later None at = later
+      each later (Some x) at =
+          let digits = id_of-is name (id_in x) (is_name name x at) in
+          (above (id_in x) digits.0 names (subst (λ (t : List ℕ). AllByRecursion (λ n. slice_cmp nat_cmp t n ≡ Less) names) digits.1 sorted.0), later)
+
+-- ---- the digits of an id are a file's name
+
+digit_is_no_slash : (c : ℕ) → is_hex_digit c ≡ true → (c == 47) ≡ false
+digit_is_no_slash c digit = grind (arith, nat_tests)
+
+digits_have_no_slash : (text : List ℕ) → list_all is_hex_digit text ≡ true → list_any (λ c. c == 47) text ≡ false
+digits_have_no_slash [] all = refl
+digits_have_no_slash (c ∷ cs) all =
+    let here = and_parts (is_hex_digit c) (list_all is_hex_digit cs) all in
+    rw (digit_is_no_slash c here.0, digits_have_no_slash cs here.1) refl
+
+module _ (files : Files) (folder dir : List ℕ) where
+  -- where the ref of an id stands
+  path_is : (id : Id) → joined folder (id_place dir id) ≡ joined folder dir ++ 47 ∷ encode_lower id.bytes
+  path_is id = simp append_assoc
+
+  -- an id with a file is listed by its digits
+  digits_listed : (names : List (List ℕ)) (id : Id) → IsListing files (joined folder dir) names → IsId id → IsSome (files (joined folder (id_place dir id))) → Contains names (encode_lower id.bytes)
+  digits_listed names id listing is stands =
+      let there : IsSome (files (joined folder dir ++ 47 ∷ encode_lower id.bytes)) = subst (λ (p : List ℕ). IsSome (files p)) (path_is id) stands in
+      (listing.members (encode_lower id.bytes)).1 (digits_have_no_slash (encode_lower id.bytes) (encode_lower-digits id.bytes is.bytes), there)
+
+  -- what a folder of refs lists is its ids
+  pub listing_is_id_list : (names : List (List ℕ)) (ids : List Id) → IsListing files (joined folder dir) names → ids ≡ filter_map id_of names → IsIdList files folder dir ids
+  listing_is_id_list names ids listing is = subst (λ (all : List Id). IsIdList files folder dir all) (sym is) (record {
+    rising = rising id_of (λ id. id) (λ name id at. at) names listing.rising;
+    members = λ id. (
+      λ has.
+          let from = filter_map-from id_of names id has in
+          let digits = id_of-is from.0 id from.2 in
+          let named : Contains names (encode_lower id.bytes) = subst (λ (n : List ℕ). Contains names n) digits.1 from.1 in
+          (digits.0, subst (λ (p : List ℕ). IsSome (files p)) (sym (path_is id)) ((listing.members (encode_lower id.bytes)).0 named).1),
+      λ h. filter_map-has id_of names (encode_lower id.bytes) id (digits_listed names id listing h.0 h.1) (id_of-encode_lower id h.0),
+    );
+  })
 
 -- ---- the entry of a name
 
@@ -93,48 +163,7 @@ module _ (files : Files) (folder dir : List ℕ) where
       → entry_named files folder dir (encode_lower entry.id.bytes) ≡ Some entry
   entry-of entry is found = rw (id_of-encode_lower entry.id is, found) refl
 
-  -- ---- order
-
-  -- ids of later names are above
-  above : (id : Id) → IsId id → (names : List (List ℕ)) → AllByRecursion (λ n. slice_cmp nat_cmp (encode_lower id.bytes) n ≡ Less) names
-      → AllByRecursion (λ b. slice_cmp nat_cmp id.bytes b ≡ Less) (map (λ (e : RefEntry). e.id.bytes) (filter_map (entry_named files folder dir) names))
-  above id is [] all = tt
-  above id is (name ∷ names) all = each (above id is names all.1) (entry_named files folder dir name) refl
-    where
-      each : AllByRecursion (λ b. slice_cmp nat_cmp id.bytes b ≡ Less) (map (λ (e : RefEntry). e.id.bytes) (filter_map (entry_named files folder dir) names))
-          → (o : Option RefEntry) → entry_named files folder dir name ≡ o
-          → AllByRecursion (λ b. slice_cmp nat_cmp id.bytes b ≡ Less) (map (λ (e : RefEntry). e.id.bytes) (cons_option o (filter_map (entry_named files folder dir) names)))
-      each later None at = later
-      each later (Some entry) at =
-          let digits = id_of-is name entry.id (entry-is name entry at).0 in
-          let less : slice_cmp nat_cmp id.bytes entry.id.bytes ≡ Less =
-          sym (encode_lower-order id.bytes entry.id.bytes is.bytes digits.0.bytes) ∙ ap (slice_cmp nat_cmp (encode_lower id.bytes)) (sym digits.1) ∙ all.0 in
-          (less, later)
-
-  rising : (names : List (List ℕ)) → IsStrictlySortedBy (slice_cmp nat_cmp) names
-      → IsStrictlySortedBy (slice_cmp nat_cmp) (map (λ (e : RefEntry). e.id.bytes) (filter_map (entry_named files folder dir) names))
-  unfolding IsStrictlySortedBy
-  rising [] sorted = tt
-  rising (name ∷ names) sorted = each (rising names sorted.1) (entry_named files folder dir name) refl
-    where
-      each : IsStrictlySortedBy (slice_cmp nat_cmp) (map (λ (e : RefEntry). e.id.bytes) (filter_map (entry_named files folder dir) names))
-          → (o : Option RefEntry) → entry_named files folder dir name ≡ o
-          → IsStrictlySortedBy (slice_cmp nat_cmp) (map (λ (e : RefEntry). e.id.bytes) (cons_option o (filter_map (entry_named files folder dir) names)))
-      each later None at = later
-      each later (Some entry) at =
-          let digits = id_of-is name entry.id (entry-is name entry at).0 in
-          (above entry.id digits.0 names (subst (λ (t : List ℕ). AllByRecursion (λ n. slice_cmp nat_cmp t n ≡ Less) names) digits.1 sorted.0), later)
-
   -- ---- members
-
-  digit_is_no_slash : (c : ℕ) → is_hex_digit c ≡ true → (c == 47) ≡ false
-  digit_is_no_slash c digit = grind (arith, nat_tests)
-
-  digits_have_no_slash : (text : List ℕ) → list_all is_hex_digit text ≡ true → list_any (λ c. c == 47) text ≡ false
-  digits_have_no_slash [] all = refl
-  digits_have_no_slash (c ∷ cs) all =
-      let here = and_parts (is_hex_digit c) (list_all is_hex_digit cs) all in
-      rw (digit_is_no_slash c here.0, digits_have_no_slash cs here.1) refl
 
   -- a ref that is found stands
   found_stands : (file : Option (List ℕ)) (found : RefFound) → found_of (ref_of file) ≡ Some found → IsSome file
@@ -144,17 +173,14 @@ module _ (files : Files) (folder dir : List ℕ) where
   listed : (names : List (List ℕ)) → IsListing files (joined folder dir) names → (entry : RefEntry) → IsId entry.id
       → found_of (ref_at files folder (id_place dir entry.id)) ≡ Some entry.found → Contains (filter_map (entry_named files folder dir) names) entry
   listed names listing entry is found =
-      let digits = encode_lower entry.id.bytes in
-      let path : joined folder (id_place dir entry.id) ≡ joined folder dir ++ 47 ∷ digits = simp append_assoc in
-      let stands : IsSome (files (joined folder dir ++ 47 ∷ digits)) = subst (λ (p : List ℕ). IsSome (files p)) path (found_stands (files (joined folder (id_place dir entry.id))) entry.found found) in
-      let plain = digits_have_no_slash digits (encode_lower-digits entry.id.bytes is.bytes) in
-      filter_map-has (entry_named files folder dir) names digits entry ((listing.members digits).1 (plain, stands)) (entry-of entry is found)
+      let stands = found_stands (files (joined folder (id_place dir entry.id))) entry.found found in
+      filter_map-has (entry_named files folder dir) names (encode_lower entry.id.bytes) entry (digits_listed files folder dir names entry.id listing is stands) (entry-of entry is found)
 
   -- what a folder of refs lists is its refs
   pub listing_is_ref_list : (names : List (List ℕ)) (entries : List RefEntry) → IsListing files (joined folder dir) names
       → entries ≡ filter_map (entry_named files folder dir) names → IsRefList files folder dir entries
   listing_is_ref_list names entries listing is = subst (λ (es : List RefEntry). IsRefList files folder dir es) (sym is) (record {
-    rising = rising names listing.rising;
+    rising = rising (entry_named files folder dir) (λ entry. entry.id) (λ name entry at. (entry-is name entry at).0) names listing.rising;
     members = λ entry. (
       λ has.
           let from = filter_map-from (entry_named files folder dir) names entry has in

@@ -1,11 +1,12 @@
 -- The refs of ids directly in a directory of a folder.
-use Rattle.std.specs.Prelude.{◌≡◌, ◌↔◌, ℕ, List, ◌∷◌, ◌++◌, map, Contains, Option, Some, None, option_and_then}
+use Rattle.std.specs.Prelude.{◌≡◌, ◌↔◌, ℕ, List, ◌∷◌, ◌++◌, map, Contains, IsSome, Option, Some, None, option_and_then}
 use Rattle.std.specs.Option.{option_map}
 use Rattle.std.specs.Cmp.Lexicographic.{slice_cmp}
 use Rattle.std.specs.List.Sorted.{IsStrictlySortedBy}
 use Rattle.std.specs.Ordering.{nat_cmp}
 use Rattle.hex.specs.Hex.{encode_lower}
 use Rattle.gb_text.specs.Digits.{IsId, id_of}
+use Rattle.gb_text.specs.Folder.{joined}
 use Rattle.gb_text.specs.declared.id.Id.{Id}
 use Rattle.gb_store.specs.Files.{Files}
 use Rattle.ref_store.specs.Refs.{Ref, Absent, Head, Bad, ref_at}
@@ -27,6 +28,11 @@ found_of Bad = Some found.Bad
 pub record IsRefList (files : Files) (folder dir : List ℕ) (entries : List RefEntry) : Type 0 where
   pub rising : IsStrictlySortedBy (slice_cmp nat_cmp) (map (λ (e : RefEntry). e.id.bytes) entries)
   pub members : (entry : RefEntry) → Contains entries entry ↔ (IsId entry.id × (found_of (ref_at files folder (id_place dir entry.id)) ≡ Some entry.found))
+
+-- the ids that have a file in the dir, each once, in the order of their bytes
+pub record IsIdList (files : Files) (folder dir : List ℕ) (ids : List Id) : Type 0 where
+  pub rising : IsStrictlySortedBy (slice_cmp nat_cmp) (map (λ (id : Id). id.bytes) ids)
+  pub members : (id : Id) → Contains ids id ↔ (IsId id × IsSome (files (joined folder (id_place dir id))))
 
 -- the entry of an id, if its ref stands
 abbrev pub entry_of : Files → List ℕ → List ℕ → Id → Option RefEntry
