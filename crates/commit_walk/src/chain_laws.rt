@@ -1,10 +1,13 @@
 //! Laws of walks along a chain, each the contract of a function that does nothing.
-ghost use Rattle.std.specs.Prelude.{◌≡◌, ◌≤◌, ◌∷◌, [], List, Contains, length};
+ghost use Rattle.std.specs.Prelude.{◌≡◌, ◌≤◌, ◌+◌, ◌∷◌, [], ℕ, List, Contains, Some, length};
 ghost use Rattle.gb_text.specs.declared.id.Name.{Name};
 ghost use Rattle.object_store.specs.Growth.{OnlyGrew};
+ghost use Rattle.git_object.specs.declared.commit.Commit.{Commit};
 ghost use Rattle.object_store.specs.Held.{Objects};
+ghost use Rattle.object_store.specs.Typed.{commit_at};
 ghost use Rattle.commit_walk.specs.Below.{IsBelow};
 ghost use Rattle.commit_walk.specs.Chain.{ChainFaultHolds, IsLink, Meets, MeetsMerge, Passes, Walked};
+ghost use Rattle.commit_walk.specs.Passing.{ReadsAbove};
 ghost use Rattle.commit_walk.specs.declared.chain.Link.{Link};
 ghost use Rattle.commit_walk.specs.declared.fault.WalkFault.{WalkFault};
 
@@ -52,4 +55,14 @@ pub fn chain_walks_stay()
 pub fn what_a_chain_meets_lies_below()
     ensures { (objects : Objects) (head name : Name) → Meets objects head name
         → IsBelow objects (head ∷ []) name }
+{}
+
+/// A search along a chain reads at most the commits above the name that it passes: none where that is
+/// the head, and one where it is the head's only parent.
+pub fn passing_reads_the_commits_above()
+    ensures head { (objects : Objects) (head : Name) (before after : ℕ)
+        → ReadsAbove objects head head before after → after ≤ before }
+    ensures parent { (objects : Objects) (head parent : Name) (commit : Commit) (before after : ℕ)
+        → commit_at objects head ≡ Some commit → commit.parents ≡ parent ∷ []
+        → ReadsAbove objects head parent before after → after ≤ before + 1 }
 {}

@@ -16,7 +16,7 @@ pub use both::{Both, lies_below, walk_both};
 pub use chain::{Link, walk_chain};
 pub use chain_laws::{
     a_whole_chain_has_no_fault, a_whole_chain_passes_what_it_meets, chain_walks_are_determined,
-    chain_walks_stay, what_a_chain_meets_lies_below,
+    chain_walks_stay, passing_reads_the_commits_above, what_a_chain_meets_lies_below,
 };
 pub use fault::{ChainStop, WalkFault, WalkStop};
 pub use laws::{
