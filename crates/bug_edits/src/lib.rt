@@ -21,7 +21,7 @@ pub use laws::{
 pub use moment::Moment;
 pub use names::{EDITS, EditName, read_edit};
 pub use new_op::NewOp;
-pub use operation::{create_op, op_id};
+pub use operation::create_op;
 pub use read_laws::{
     edits_are_read_as_their_rows_say, first_bad_words_of_edits_are_told, only_these_are_edits,
 };

@@ -2,16 +2,14 @@
 ghost use Rattle.std.specs.Prelude.{◌≡◌, IfOk};
 ghost use Rattle.op_kind.specs.Bounds.{IsWithinBounds};
 ghost use Rattle.bug_ops.specs.BugForms.{AreLabels};
-ghost use Rattle.op_pack.specs.Packs.{hash_of};
 ghost use Rattle.bug_edits.specs.NewOps.{comment_op, create_op, labels_op, metadata_op, new_common};
-ghost use Rattle.bug_edits.specs.NewOps.{noop_op, nowhere, op_id, status_op, title_op};
+ghost use Rattle.bug_edits.specs.NewOps.{noop_op, nowhere, status_op, title_op};
 
 use crate::moment::Moment;
 use crate::new_op::NewOp;
 use bug_ops::{BugOp, BugStatus};
 use gb_text::{Id, List, Memory, Message, Text, Title};
-use op_kind::{Common, Nonce, OpKind, Pair, Place};
-use sha2::{Digest, Sha256};
+use op_kind::{Common, Nonce, Pair, Place};
 use std::alloc::Global;
 
 /// The operation that begins a bug with a title and a message.
@@ -157,19 +155,4 @@ fn nowhere() -> Place
         edit: 0,
         create: None,
     }
-}
-
-/// The id of an operation: the SHA-256 of its text.
-pub fn op_id(alloc: Global, op: &BugOp) -> Result<Id, Memory>
-    ensures { IfOk result (λ id. id ≡ op_id op.now) }
-{
-    id_of(alloc, op)
-}
-
-// The id of an operation of any kind. At the kind of bugs' operations the same proof would take a hundred times as long.
-fn id_of<K: OpKind>(alloc: Global, op: &K) -> Result<Id, Memory>
-    ensures { IfOk result (λ id. id ≡ hash_of (K.meaning.written op.now)) }
-{
-    let text = op.write_op(alloc)?;
-    Ok(Id::from_bytes(Sha256::digest(text.as_slice())))
 }

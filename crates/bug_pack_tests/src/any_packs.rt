@@ -49,7 +49,7 @@ fn read(alloc: Global, text: &[u8]) -> Result<Pack<AnyOp>, PackFault> {
 }
 
 fn written<K: OpKind>(alloc: Global, pack: &Pack<K>) -> Result<Bytes, Memory> {
-    pack.write(alloc)
+    Ok(pack.write(alloc)?.text)
 }
 
 /// The place of the first operation of a pack.
@@ -59,8 +59,8 @@ fn first_place<K: OpKind>(pack: &Pack<K>) -> Option<Place> {
 
 /// Writes a pack and reads it again.
 fn carry<K: OpKind>(alloc: Global, pack: &Pack<K>) -> Result<Pack<K>, PackFault> {
-    let text = pack.write(alloc)?;
-    Pack::read(alloc, &head(), text.as_slice())
+    let written = pack.write(alloc)?;
+    Pack::read(alloc, &head(), written.text.as_slice())
 }
 
 #[test]

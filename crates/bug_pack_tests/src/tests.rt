@@ -47,7 +47,7 @@ fn pack_of<K: OpKind>(alloc: Global, ops: &[&[u8]]) -> Result<Pack<K>, Fail> {
 /// The pack of what a pack is written as.
 fn read_again<K: OpKind>(alloc: Global, pack: &Pack<K>) -> Result<Pack<K>, Fail> {
     let written = pack.write(alloc)?;
-    Ok(read::<K>(alloc, written.as_slice())?)
+    Ok(read::<K>(alloc, written.text.as_slice())?)
 }
 
 /// The id of the first operation of a pack.

@@ -9,6 +9,7 @@ use Rattle.std.specs.Fmt.{digits}
 use Rattle.std.proofs.lemmas.List.Elements.{All-from_recursion}
 use Rattle.std.proofs.lemmas.List.Sorted.{Contains-permutation}
 use Rattle.gb_text.specs.Digits.{IsName}
+use Rattle.gb_text.specs.declared.id.Id.{Id}
 use Rattle.gb_text.specs.declared.id.Name.{Name}
 use Rattle.gb_store.specs.Files.{History}
 use Rattle.git_object.specs.declared.commit.Commit.{Commit}
@@ -26,7 +27,7 @@ use Rattle.object_store.specs.declared.fault.PutFault.TheVariants as fault
 use Rattle.object_batch.specs.Batches.{AllStand, BatchAnswers, HasLong, SizesAnswer}
 use Rattle.op_kind.specs.Meaning.{Meaning}
 use Rattle.op_pack.specs.Heads.{IsClock, head_of, plain_entry, tree_with}
-use Rattle.op_pack.specs.Packs.{pack_text}
+use Rattle.op_pack.specs.Packs.{pack_text, written_ids}
 use Rattle.op_pack.specs.declared.pack.Pack.{Pack}
 use Rattle.op_pack.proofs.TreeLemmas.{tree_names}
 use Rattle.dag_entity.specs.declared.appending.CommitPlan.{CommitPlan}
@@ -136,17 +137,17 @@ made_of f made x y is same = is ∙ ap f same
 four_are : (objects : List (List ℕ)) (a b c d e f g h : List ℕ) → objects ≡ a ∷ b ∷ c ∷ d ∷ [] → a ≡ e → b ≡ f → c ≡ g → d ≡ h → objects ≡ e ∷ f ∷ g ∷ h ∷ []
 four_are objects a b c d e f g h are one two three four = cc
 
-plan_with : (head name : Name) (objects texts : List (List ℕ)) (plan made : CommitPlan) → plan ≡ record { head = head; objects = objects } → made ≡ record { head = name; objects = texts }
-    → head ≡ name → objects ≡ texts → plan ≡ made
-plan_with head name objects texts plan made is are same all = cc
+plan_with : (head name : Name) (objects texts : List (List ℕ)) (ids adds : List Id) (plan made : CommitPlan) → plan ≡ record { head = head; objects = objects; ids = ids }
+    → made ≡ record { head = name; objects = texts; ids = adds } → head ≡ name → objects ≡ texts → ids ≡ adds → plan ≡ made
+plan_with head name objects texts ids adds plan made is are same all told = cc
 
 module _ {Op State Row : Type 0} (k : Meaning Op State Row) (parents : List Name) (pack : Pack Op) (now : ℕ) where
   -- a plan of texts that are what they are to be
-  pub plan_is : (text empty blob content tree more commit : List ℕ) (named named_tree head : Name) (objects : List (List ℕ)) → text ≡ pack_text k pack.author pack.ops
+  pub plan_is : (text empty blob content tree more commit : List ℕ) (named named_tree head : Name) (objects : List (List ℕ)) (ids : List Id) → text ≡ pack_text k pack.author pack.ops
       → empty ≡ empty_object → blob ≡ framed kinds.Blob text → named ≡ object_name blob → content ≡ tree_content pack.edit pack.create named → tree ≡ framed kinds.Tree content
       → named_tree ≡ object_name tree → more ≡ commit_content named_tree parents now → commit ≡ framed kinds.Commit more → head ≡ object_name commit
-      → objects ≡ empty ∷ blob ∷ tree ∷ commit ∷ [] → record { head = head; objects = objects } ≡ append_plan k parents pack now
-  plan_is text empty blob content tree more commit named named_tree head objects text_is empty_is blob_is named_is content_is tree_is named_tree_is more_is commit_is head_is objects_are =
+      → objects ≡ empty ∷ blob ∷ tree ∷ commit ∷ [] → ids ≡ written_ids k pack.ops → record { head = head; objects = objects; ids = ids } ≡ append_plan k parents pack now
+  plan_is text empty blob content tree more commit named named_tree head objects ids text_is empty_is blob_is named_is content_is tree_is named_tree_is more_is commit_is head_is objects_are ids_are =
       let blob_same = made_of (framed kinds.Blob) blob text (pack_text k pack.author pack.ops) blob_is text_is in
       let named_same = made_of object_name named blob (pack_object k pack) named_is blob_same in
       let content_same = made_of (tree_content pack.edit pack.create) content named (object_name (pack_object k pack)) content_is named_same in
@@ -154,9 +155,10 @@ module _ {Op State Row : Type 0} (k : Meaning Op State Row) (parents : List Name
       let named_tree_same = made_of object_name named_tree tree (tree_object k pack) named_tree_is tree_same in
       let more_same = made_of (λ (t : Name). commit_content t parents now) more named_tree (tree_name k pack) more_is named_tree_same in
       let commit_same = made_of (framed kinds.Commit) commit more (commit_content (tree_name k pack) parents now) commit_is more_same in
-      plan_with head (appended_name k parents pack now) objects (appended_objects k parents pack now) (record { head = head; objects = objects }) (append_plan k parents pack now) refl refl
+      plan_with head (appended_name k parents pack now) objects (appended_objects k parents pack now) ids (written_ids k pack.ops) (record { head = head; objects = objects; ids = ids }) (append_plan k parents pack now) refl refl
       (made_of object_name head commit (commit_object k parents pack now) head_is commit_same)
       (four_are objects empty blob tree commit empty_object (pack_object k pack) (tree_object k pack) (commit_object k parents pack now) objects_are empty_is blob_same tree_same commit_same)
+      ids_are
 
   -- a plan one of whose objects is too long
   pub plan_refused : (plan : CommitPlan) (e : PutFault) → plan ≡ append_plan k parents pack now → SizesAnswer plan.objects (Err e) → AppendPlanAnswers k parents pack now (Err e)

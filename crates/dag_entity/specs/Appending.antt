@@ -18,7 +18,7 @@ use Rattle.object_batch.specs.Commits.{written_commit}
 use Rattle.op_kind.specs.Meaning.{Meaning}
 use Rattle.op_kind.specs.declared.place.TheConstants.{VERSION}
 use Rattle.op_pack.specs.Heads.{IsClock, create_entries, number_entry, plain_entry}
-use Rattle.op_pack.specs.Packs.{MayStand, pack_text, written_pack}
+use Rattle.op_pack.specs.Packs.{MayStand, pack_text, written_ids, written_pack}
 use Rattle.op_pack.specs.declared.head.TreeHead.{TreeHead}
 use Rattle.op_pack.specs.declared.pack.Pack.{Pack}
 use Rattle.op_pack.specs.declared.pack.TheConstants.{MOST_OPERATIONS}
@@ -94,7 +94,7 @@ module _ {Op State Row : Type 0} (k : Meaning Op State Row) where
 
   -- what is to be made of these
   abbrev pub append_plan : List Name → Pack Op → ℕ → CommitPlan
-  append_plan parents pack now = record { head = appended_name parents pack now; objects = appended_objects parents pack now }
+  append_plan parents pack now = record { head = appended_name parents pack now; objects = appended_objects parents pack now; ids = written_ids k pack.ops }
 
   -- what is to be made of these, and that its objects are short enough, or that one of them is not
   abbrev pub AppendPlanAnswers : List Name → Pack Op → ℕ → Result CommitPlan PutFault → Type 0

@@ -11,7 +11,7 @@ ghost use Rattle.dag_entity.specs.Appending.{AppendAnswers, AppendPlanAnswers, C
 ghost use Rattle.dag_entity.specs.Nodes.{IsNode};
 
 use gb_store::Store;
-use gb_text::{Bytes, Folder, List, Memory, Name};
+use gb_text::{Bytes, Folder, Id, List, Memory, Name};
 use git_object::Kind;
 use lamport::Time;
 use object_batch::{check_sizes, commit_for, put_all};
@@ -20,12 +20,13 @@ use op_kind::OpKind;
 use op_pack::{Pack, tree_for};
 use std::alloc::Global;
 
-/// A commit that is to be made: its name, and the texts of its four objects, in the order in which they
-/// are put.
+/// A commit that is to be made: its name, the texts of its four objects, in the order in which they are
+/// put, and the ids of its operations, in their order.
 #[derive(Drop)]
 pub struct CommitPlan {
     pub head: Name,
     pub objects: List<ObjectText>,
+    pub ids: List<Id>,
 }
 
 /// Makes a commit of a pack behind these parents, in this order, and answers its name; `now` is in
@@ -93,14 +94,19 @@ fn plan_of<K: OpKind>(
         (appended_node K.meaning parents.now pack.now now)) }
 {
     let empty = ObjectText::new(alloc, Kind::Blob, b"")?;
-    let blob = ObjectText::new(alloc, Kind::Blob, pack.write(alloc)?.as_slice())?;
+    let written = pack.write(alloc)?;
+    let blob = ObjectText::new(alloc, Kind::Blob, written.text.as_slice())?;
     let content = tree_content(alloc, pack.edit, pack.create, blob.name())?;
     let tree = ObjectText::new(alloc, Kind::Tree, content.as_slice())?;
     let content = commit_content(alloc, tree.name(), parents, now)?;
     let commit = ObjectText::new(alloc, Kind::Commit, content.as_slice())?;
     let head = commit.name();
     let objects = four(alloc, empty, blob, tree, commit)?;
-    Ok(CommitPlan { head, objects })
+    Ok(CommitPlan {
+        head,
+        objects,
+        ids: written.ids,
+    })
 }
 
 // A list of four texts.

@@ -22,6 +22,7 @@ use Rattle.op_kind.specs.Members.{Fields}
 use Rattle.op_kind.specs.Written.{named, fields_text, EachWritable}
 use Rattle.op_kind.specs.WritingLaws.{fields_read, text_of_operation, id_reads, id_writable}
 use Rattle.op_pack.specs.Packs.{hash_of, place_of, ops_at, pack_of, pack_with, pack_at, pack_text, before, MayStand, placed_ops, written_pack}
+use Rattle.op_pack.specs.declared.pack.PackText.{PackText}
 use Rattle.op_pack.specs.declared.pack.TheConstants.{MOST_OPERATIONS}
 use Rattle.json_span.specs.declared.nest.TheConstants.{MOST_BRACKETS}
 use Rattle.op_kind.specs.OpText.{op_brackets, member_brackets}
@@ -199,7 +200,7 @@ module _ {Op State Row : Type 0} (k : Meaning Op State Row) (laws : KeepsLaws k)
       ∙ ap (option_map (pack_with k head (hash_of text) author)) (ops_back head author ops may)
 
   -- What is answered of such operations reads back.
-  pub back_answer : (head : TreeHead) (author : Id) (ops : List Op) (r : Result (List ℕ) Memory) → IfOk r (λ text. text ≡ pack_text k author ops) → IfOk r (λ _. IsId author)
-      → length ops ≤ MOST_OPERATIONS → MayStand k head author ops → IfOk r (λ text. pack_at k head text ≡ Some (written_pack k head author ops))
-  back_answer head author ops (Ok text) made is few may = ap (pack_at k head) made ∙ reads_back head author ops is few may
+  pub back_answer : (head : TreeHead) (author : Id) (ops : List Op) (r : Result PackText Memory) → IfOk r (λ written. written.text ≡ pack_text k author ops) → IfOk r (λ _. IsId author)
+      → length ops ≤ MOST_OPERATIONS → MayStand k head author ops → IfOk r (λ written. pack_at k head written.text ≡ Some (written_pack k head author ops))
+  back_answer head author ops (Ok written) made is few may = ap (pack_at k head) made ∙ reads_back head author ops is few may
   back_answer head author ops (Err e) made is few may = tt

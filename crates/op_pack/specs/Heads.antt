@@ -1,5 +1,5 @@
 -- What a commit's tree says of its pack, and what may be wrong with the tree.
-use Rattle.std.specs.Prelude.{◌≡◌, ◌≤◌, ◌⊎◌, ℕ, ◌&&◌, ◌==◌, nat_le, Bool, true, false, if◌then◌else◌, List, [], ◌∷◌, ◌++◌, length, map, take, drop, codes, decimal, Option, Some, None}
+use Rattle.std.specs.Prelude.{◌≡◌, ◌≤◌, ◌⊎◌, ℕ, ◌&&◌, ◌==◌, Bool, true, false, if◌then◌else◌, List, [], ◌∷◌, ◌++◌, length, map, take, drop, codes, decimal, Option, Some, None}
 use Rattle.std.specs.Option.{ForSome, option_map}
 use Rattle.std.specs.List.{filter_map, find, AllByRecursion}
 use Rattle.std.specs.Str.{bytes_eq}

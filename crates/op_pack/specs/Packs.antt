@@ -88,6 +88,10 @@ module _ {Op State Row : Type 0} (k : Meaning Op State Row) where
   unfoldable pub PackTextFault : ℕ → List ℕ → PackFault → Type 0
   PackTextFault version text f = PartsFault version (parts_at text) f
 
+  -- the ids of operations, in their order: the hash of the text that is written of each
+  abbrev pub written_ids : List Op → List Id
+  written_ids ops = map (λ o. hash_of (k.written o)) ops
+
   -- How a pack is written: no white space stands round its operations.
   unfoldable pub pack_text : Id → List Op → List ℕ
   pack_text author ops = codes "{\"author\":{\"id\":\"" ++ (encode_lower author.bytes ++ (codes "\"},\"ops\":[" ++ (joined (map k.written ops) ++ codes "]}")))

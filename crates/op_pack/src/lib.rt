@@ -14,4 +14,4 @@ pub use laws::{
     packs_are_determined, packs_are_exact, parts_are_exact, unknown_versions_are_reported,
     written_packs_read_back,
 };
-pub use pack::{MOST_OPERATIONS, Pack};
+pub use pack::{MOST_OPERATIONS, Pack, PackText};

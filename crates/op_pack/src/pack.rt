@@ -1,10 +1,10 @@
 //! Packs: the operations that one commit adds.
-ghost use Rattle.std.specs.Prelude.{◌≡◌, ◌≤◌, ◌++◌, length, IfOk, OnOk, Some, map};
+ghost use Rattle.std.specs.Prelude.{◌≡◌, ◌≤◌, ◌++◌, ◌∷◌, [], length, IfOk, OnOk, Some, map};
 ghost use Rattle.std.specs.List.{AllByRecursion};
 ghost use Rattle.gb_text.specs.Digits.{IsId};
 ghost use Rattle.json_span.specs.Joined.{joined, behind_commas};
 ghost use Rattle.op_pack.specs.Answers.{AnswersUnlessMemory};
-ghost use Rattle.op_pack.specs.Packs.{hash_of, ops_at, version_in, SlicesFault};
+ghost use Rattle.op_pack.specs.Packs.{hash_of, ops_at, version_in, written_ids, SlicesFault};
 
 use crate::head::create_number;
 use crate::parts::read_parts;
@@ -28,6 +28,14 @@ pub struct Pack<K> {
     pub create: Option<Time>,
     pub author: Id,
     pub ops: List<K>,
+}
+
+/// The text of a pack, and the ids of its operations, in their order: the id of each is the SHA-256 of its
+/// text.
+#[derive(Drop)]
+pub struct PackText {
+    pub text: Bytes,
+    pub ids: List<Id>,
 }
 
 // The SHA-256 of a text.
@@ -118,54 +126,84 @@ impl<K: OpKind> Pack<K> {
     }
 
     /// The pack's text: its author and the texts of its operations, with no white space round or between
-    /// them. The other fields do not matter.
-    pub fn write(&self, alloc: Global) -> Result<Bytes, Memory>
+    /// them; and their ids. The other fields do not matter. Each operation is written once.
+    pub fn write(&self, alloc: Global) -> Result<PackText, Memory>
         ensures text { IfOk result
-            (λ text. text ≡ pack_text K.meaning self.now.author self.now.ops) }
+            (λ written. written.text ≡ pack_text K.meaning self.now.author self.now.ops) }
+        ensures ids { IfOk result (λ written. written.ids ≡ written_ids K.meaning self.now.ops) }
         ensures reads_back { (head : HeadValue) → length self.now.ops ≤ MOST_OPERATIONS
             → MayStand K.meaning head self.now.author self.now.ops
-            → IfOk result (λ text. pack_at K.meaning head text
+            → IfOk result (λ written. pack_at K.meaning head written.text
             ≡ Some (written_pack K.meaning head self.now.author self.now.ops)) }
     {
         self.print(alloc)
     }
 
     #[tactic(auto, unfolding(crate::specs::Packs::pack_text))]
-    fn print(&self, alloc: Global) -> Result<Bytes, Memory>
+    fn print(&self, alloc: Global) -> Result<PackText, Memory>
         ensures text { IfOk result
-            (λ text. text ≡ pack_text K.meaning self.now.author self.now.ops) }
+            (λ written. written.text ≡ pack_text K.meaning self.now.author self.now.ops) }
+        ensures ids { IfOk result (λ written. written.ids ≡ written_ids K.meaning self.now.ops) }
         ensures author { IfOk result (λ _. IsId self.now.author) }
     {
         let mut text = Vec::new(alloc);
         text.extend_from_slice(b"{\"author\":{\"id\":\"")?;
         text.extend_from_slice(&self.author.text())?;
         text.extend_from_slice(b"\"},\"ops\":[")?;
-        append_ops(alloc, &mut text, self.ops.as_slice())?;
+        let ids = append_ops(alloc, &mut text, self.ops.as_slice())?;
         text.extend_from_slice(b"]}")?;
-        Ok(Bytes::from_vec(text))
+        Ok(PackText {
+            text: Bytes::from_vec(text),
+            ids,
+        })
     }
 }
 
-// Puts operations behind a text, with commas between.
-fn append_ops<K: OpKind>(alloc: Global, text: &mut Vec<u8>, ops: &[K]) -> Result<(), Memory>
-    ensures { OnOk result
+// Puts operations behind a text, with commas between, and answers their ids.
+fn append_ops<K: OpKind>(alloc: Global, text: &mut Vec<u8>, ops: &[K]) -> Result<List<Id>, Memory>
+    ensures text { OnOk result
         (text.new.items ≡ text.old.items ++ joined (map K.meaning.written ops.now)) }
+    ensures ids { IfOk result (λ ids. ids ≡ written_ids K.meaning ops.now) }
 {
-    let Some((first, rest)) = ops.split_first() else {
-        return Ok(());
-    };
-    text.extend_from_slice(first.write_op(alloc)?.as_slice())?;
-    append_rest(alloc, text, rest)
+    let mut ids = Vec::new(alloc);
+    if let Some((first, rest)) = ops.split_first() {
+        append_op(alloc, text, &mut ids, first)?;
+        append_rest(alloc, text, &mut ids, rest)?;
+    }
+    Ok(List::from_vec(ids))
 }
 
-// Puts further operations behind a text, a comma before each.
-fn append_rest<K: OpKind>(alloc: Global, text: &mut Vec<u8>, ops: &[K]) -> Result<(), Memory>
-    ensures { OnOk result
+// Puts further operations behind a text, a comma before each, and their ids behind ids.
+fn append_rest<K: OpKind>(
+    alloc: Global,
+    text: &mut Vec<u8>,
+    ids: &mut Vec<Id>,
+    ops: &[K],
+) -> Result<(), Memory>
+    ensures text { OnOk result
         (text.new.items ≡ text.old.items ++ behind_commas (map K.meaning.written ops.now)) }
+    ensures ids { OnOk result (ids.new.items ≡ ids.old.items ++ written_ids K.meaning ops.now) }
 {
     for op in ops {
         text.push(b',')?;
-        text.extend_from_slice(op.write_op(alloc)?.as_slice())?;
+        append_op(alloc, text, ids, op)?;
     }
+    Ok(())
+}
+
+// Puts an operation behind a text, and its id behind ids.
+fn append_op<K: OpKind>(
+    alloc: Global,
+    text: &mut Vec<u8>,
+    ids: &mut Vec<Id>,
+    op: &K,
+) -> Result<(), Memory>
+    ensures text { OnOk result (text.new.items ≡ text.old.items ++ K.meaning.written op.now) }
+    ensures ids { OnOk result
+        (ids.new.items ≡ ids.old.items ++ hash_of (K.meaning.written op.now) ∷ []) }
+{
+    let written = op.write_op(alloc)?;
+    ids.push(hash_of(written.as_slice()))?;
+    text.extend_from_slice(written.as_slice())?;
     Ok(())
 }

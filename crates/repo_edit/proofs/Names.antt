@@ -1,6 +1,6 @@
 -- The names that most proofs here cite, passed on from one place. Declares nothing.
 pub use Rattle.bug_edits.specs.Answers.{OpAnswers}
-pub use Rattle.bug_edits.specs.NewOps.{noop_op}
+pub use Rattle.bug_edits.specs.NewOps.{noop_op, op_id}
 pub use Rattle.identity.specs.declared.making.VersionPlan.{VersionPlan}
 pub use Rattle.object_store.specs.declared.fault.PutFault.{PutFault}
 pub use Rattle.repo_edit.specs.Adding.{AddsHead}

@@ -1,6 +1,8 @@
 //! A commit that a command adds to a bug, and the clocks that see it.
-ghost use Rattle.std.specs.Prelude.{◌≡◌, ◌++◌, IfOk};
+ghost use Rattle.std.specs.Prelude.{◌≡◌, ◌++◌, ◌∷◌, [], length, IfOk};
+ghost use Rattle.gb_text.specs.declared.id.Id.{Id as IdValue};
 ghost use Rattle.lamport.specs.Clock.{root_time_of};
+ghost use Rattle.bug_edits.specs.NewOps.{op_id};
 ghost use Rattle.bug_ops.specs.Kind.{bug_kind};
 ghost use Rattle.dag_entity.specs.Appending.{AppendPlanAnswers};
 ghost use Rattle.repo_state.specs.Clocks.{see_writes};
@@ -42,7 +44,8 @@ fn one_op_pack(
     })
 }
 
-/// The commit of one operation by an author, with these clocks, behind these parents.
+/// The commit of one operation by an author, with these clocks, behind these parents; and its id, which
+/// is the only one of the plan.
 pub fn plan_commit(
     alloc: Global,
     parents: &[Name],
@@ -52,11 +55,20 @@ pub fn plan_commit(
     new: NewOp,
     now: u64,
 ) -> Result<CommitPlan, PutFault>
-    ensures { AppendPlanAnswers bug_kind parents.now (one_op_pack author.now edit create new.op) now
-        result }
+    ensures plan { AppendPlanAnswers bug_kind parents.now
+        (one_op_pack author.now edit create new.op) now result }
+    ensures id { IfOk result (λ plan. plan.ids ≡ op_id new.op ∷ []) }
 {
     let pack = one_op_pack(alloc, author, edit, create, new.op)?;
     plan_append(alloc, parents, &pack, now)
+}
+
+/// The id of the only operation of a planned commit.
+pub fn only_id(plan: &CommitPlan) -> Id
+    requires { length plan.now.ids ≡ 1 }
+    ensures { (id : IdValue) → plan.now.ids ≡ id ∷ [] → result ≡ id }
+{
+    plan.ids.as_slice()[0]
 }
 
 /// These writes, and that of a clock that sees a number, where the clock changes.

@@ -7,10 +7,10 @@ ghost use Rattle.repo_steps.specs.BugDoings.{begun_bug};
 ghost use Rattle.repo_edit.specs.Growing.{Begins, EditPlans, GrownPlans};
 ghost use Rattle.repo_edit.specs.Reads.{ReadsEdit};
 
-use crate::addition::{plan_commit, with_clock, with_root_clocks};
+use crate::addition::{only_id, plan_commit, with_clock, with_root_clocks};
 use crate::growing::{Beginning, Growing, growing_bug, has_operation, room, root_of};
 use crate::writes::head_writes;
-use bug_edits::{BugEdit, NewOp, edit_op, op_id};
+use bug_edits::{BugEdit, NewOp, edit_op};
 use gb_store::Store;
 use gb_text::{Id, List};
 use lamport::Time;
@@ -52,10 +52,10 @@ fn plan_root<S: Store>(
     ensures caused { KeepsFaults S.never_fails S.faults (IsErrOf result Stop.Disk)
         disk.old disk.new }
 {
-    let id = op_id(alloc, &new.op)?;
     let edit = root.edit.root_time();
     let create = Some(root.create.root_time());
     let commit = plan_commit(alloc, &[], &root.author, edit, create, new, env.moment.now)?;
+    let id = only_id(&commit);
     if stands(alloc, disk, &env.folder, &Side::Bugs, &id)? {
         return Err(Stop::Refused(Refusal::EntityExists(id)));
     }
@@ -114,7 +114,6 @@ fn plan_grown<S: Store>(
     ensures caused { KeepsFaults S.never_fails S.faults (IsErrOf result Stop.Disk)
         disk.old disk.new }
 {
-    let id = op_id(alloc, &new.op)?;
     let parents = [bug.head.name];
     let commit = plan_commit(
         alloc,
@@ -125,6 +124,7 @@ fn plan_grown<S: Store>(
         new,
         env.moment.now,
     )?;
+    let id = only_id(&commit);
     if has_operation(bug.ops.as_slice(), &id) {
         return Err(Stop::Refused(Refusal::RepeatedOperation(id)));
     }
