@@ -15,8 +15,8 @@ pub enum Lookup {
     Ambiguous(Id, Id),
 }
 
-/// Looks up a prefix among ids in any order. Takes no memory. No command uses it yet: each argument
-/// for a bug, an identity or a comment will be looked up by it.
+/// Looks up a prefix among ids in any order. Takes no memory. Each argument for a bug or an identity that
+/// is shorter than an id is looked up by it.
 pub fn find(ids: &[Id], prefix: &Prefix) -> Lookup
     ensures { Finds prefix.now ids.now result }
 {

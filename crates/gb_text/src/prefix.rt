@@ -5,8 +5,8 @@ ghost use Rattle.gb_text.specs.PrefixText.{is_lower_digit, is_prefix_text};
 
 use crate::Id;
 
-/// From 1 to 64 lower-case hexadecimal digits, the first digits of an id. No command uses it yet:
-/// each argument for a bug, an identity or a comment will be read as a prefix.
+/// From 1 to 64 lower-case hexadecimal digits, the first digits of an id. Each argument for a bug or an
+/// identity is read as one.
 #[derive(Clone, Copy, Debug)]
 pub struct Prefix {
     pub digits: [u8; 64],

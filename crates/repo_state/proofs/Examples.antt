@@ -14,7 +14,7 @@ use Rattle.repo_state.specs.Users.{BadUser, NoUser, User, user_at, user_of, user
 use Rattle.repo_state.specs.declared.clocks.ClockFile.TheVariants as file
 use Rattle.repo_state.specs.declared.remote.RemoteName.{RemoteName}
 use Rattle.repo_state.specs.declared.side.Side.TheVariants as side
-use Rattle.repo_state.proofs.FoundLemmas.{finds_no_digits, finds_no_ref, finds_one}
+use Rattle.repo_state.proofs.FoundLemmas.{finds_no_prefix, finds_no_ref, finds_one}
 
 abbrev id : Id
 id = record { bytes = repeat 32 (10 ∷ []) }
@@ -68,11 +68,17 @@ word_of_no_ref = finds_no_ref id refl refl
 
 word_with_a_line_feed : Finds (all_say head_digits) (codes "f") side.Bugs (id_digits ++ codes "\n") Nothing
 unfolding hex_on_literals
-word_with_a_line_feed = finds_no_digits refl
+word_with_a_line_feed = finds_no_prefix refl
 
-word_of_63_digits : Finds (all_say head_digits) (codes "f") side.Bugs (repeat 31 (codes "0a") ++ codes "0") Nothing
+word_of_no_digits : Finds (all_say head_digits) (codes "f") side.Bugs [] Nothing
+word_of_no_digits = finds_no_prefix refl
+
+word_of_65_digits : Finds (all_say head_digits) (codes "f") side.Bugs (id_digits ++ codes "0") Nothing
 unfolding hex_on_literals
-word_of_63_digits = finds_no_digits refl
+word_of_65_digits = finds_no_prefix refl
+
+word_with_an_upper_case_digit : Finds (all_say head_digits) (codes "f") side.Bugs (codes "0A") Nothing
+word_with_an_upper_case_digit = finds_no_prefix refl
 
 -- clocks
 clock_of_no_file : clock_at no_files (codes "f") file.BugsEdit ≡ 0

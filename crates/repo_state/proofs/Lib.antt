@@ -14,6 +14,8 @@ pub mod ListedLemmas
 pub mod ListingLemmas
 pub mod PeopleLemmas
 pub mod PlaceLemmas
+pub mod PrefixLemmas
 pub mod RemoteLemmas
 pub mod UndamagedLemmas
 pub mod UserFileLemmas
+pub mod WordLemmas

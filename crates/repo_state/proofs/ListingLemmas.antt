@@ -1,6 +1,6 @@
 -- The refs of a side are the ids whose refs stand, and the heads of the refs that read.
-use Rattle.std.proofs.Common.{◌≡◌, ℕ, inl, inr, zero, suc, List, [], ◌∷◌, ◌++◌, map, Some, Err, refl, sym, ◌∙◌, ap, subst, arith}
-use Rattle.std.specs.Prelude.{Contains, IsTrue}
+use Rattle.std.proofs.Common.{◌≡◌, ◌⊎◌, ℕ, inl, inr, zero, suc, List, [], ◌∷◌, ◌++◌, map, Option, None, Some, Err, refl, sym, ◌∙◌, ap, subst, arith}
+use Rattle.std.specs.Prelude.{Contains, IfOk, IsSome, IsTrue, Result, Ok, true}
 use Rattle.std.specs.List.{AllByRecursion}
 use Rattle.std.specs.declared.cmp.Ordering.{Ordering}
 use Rattle.std.specs.declared.cmp.Ordering.TheVariants.{Equal, Greater, Less}
@@ -13,13 +13,16 @@ use Rattle.std.specs.List.Sorted.{IsStrictlySortedBy}
 use Rattle.std.specs.Ordering.{is_eq, nat_cmp, ordering_reverse}
 use Rattle.std.proofs.lemmas.Map.Text.{is_eq-slice_cmp}
 use Rattle.std.proofs.lemmas.Slice.Eq.{bytes_eq-Decides}
-use Rattle.gb_text.specs.Digits.{IsId}
+use Rattle.gb_text.specs.Digits.{IsId, name_of}
+use Rattle.gb_text.specs.Folder.{joined}
+use Rattle.gb_text.specs.LineEnd.{line_of}
 use Rattle.gb_text.specs.declared.id.Id.{Id}
 use Rattle.gb_text.specs.declared.id.Name.{Name}
 use Rattle.gb_store.specs.Files.{Files}
+use Rattle.gb_store.specs.declared.fault.StoreFault.{StoreFault}
 use Rattle.object_batch.proofs.ClashLemmas.{Contains-cons_cases, Contains-first}
-use Rattle.ref_store.specs.Listing.{IsRefList, found_of}
-use Rattle.ref_store.specs.Refs.{Ref, Absent, Head, Bad}
+use Rattle.ref_store.specs.Listing.{IsIdList, IsRefList, found_of, id_place}
+use Rattle.ref_store.specs.Refs.{Ref, Absent, Head, Bad, head_or_bad, ref_of}
 use Rattle.ref_store.specs.declared.listing.RefEntry.{RefEntry}
 use Rattle.ref_store.specs.declared.listing.RefFound.{RefFound}
 use Rattle.ref_store.specs.declared.listing.RefFound.TheVariants as found
@@ -57,22 +60,31 @@ behind [] x ys rising = rising.0
 behind (z ∷ xs) x ys rising = behind xs x ys rising.1
 
 -- nothing is before itself, and of two that are each before the other there are none
-not_before_itself : (x : List ℕ) → slice_cmp nat_cmp x x ≡ Less → ⊥
+pub not_before_itself : (x : List ℕ) → slice_cmp nat_cmp x x ≡ Less → ⊥
 not_before_itself x less = let tied = tied_itself nat_list_cmp_total x in cc (less, tied)
 
-not_both_before : (x y : List ℕ) → slice_cmp nat_cmp x y ≡ Less → slice_cmp nat_cmp y x ≡ Less → ⊥
+pub not_both_before : (x y : List ℕ) → slice_cmp nat_cmp x y ≡ Less → slice_cmp nat_cmp y x ≡ Less → ⊥
 not_both_before x y one other = let turned = nat_list_cmp_total.antisymm x y in cc (one, other, turned)
+
+-- of two ids one is before the other, or they are the same
+pub in_order : (one two : Id) → IsBefore one two ⊎ (one ≡ two) ⊎ IsBefore two one
+in_order one two = by_order (slice_cmp nat_cmp one.bytes two.bytes) refl
+  where
+    by_order : (o : Ordering) → slice_cmp nat_cmp one.bytes two.bytes ≡ o → IsBefore one two ⊎ (one ≡ two) ⊎ IsBefore two one
+    by_order Less is = inl is
+    by_order Equal is =
+        let same = (bytes_eq-Decides one.bytes two.bytes).0 (sym (is_eq-slice_cmp one.bytes two.bytes) ∙ ap is_eq is) in
+        inr (inl (λ i. record { bytes = same i }))
+    by_order Greater is = inr (inr (nat_list_cmp_total.antisymm two.bytes one.bytes ∙ ap ordering_reverse is))
 
 -- there is one first id of which something is so
 pub one_first : (IsSo : Id → Type 0) (one two : Id) → IsFirst IsSo one → IsFirst IsSo two → one ≡ two
-one_first IsSo one two first second = by_order (slice_cmp nat_cmp one.bytes two.bytes) refl
+one_first IsSo one two first second = each (in_order one two)
   where
-    by_order : (o : Ordering) → slice_cmp nat_cmp one.bytes two.bytes ≡ o → one ≡ two
-    by_order Less is = absurd (second.none_before one first.is_id first.is_so is)
-    by_order Equal is =
-        let same = (bytes_eq-Decides one.bytes two.bytes).0 (sym (is_eq-slice_cmp one.bytes two.bytes) ∙ ap is_eq is) in
-        λ i. record { bytes = same i }
-    by_order Greater is = absurd (first.none_before two second.is_id second.is_so (nat_list_cmp_total.antisymm two.bytes one.bytes ∙ ap ordering_reverse is))
+    each : IsBefore one two ⊎ (one ≡ two) ⊎ IsBefore two one → one ≡ two
+    each (inl before) = absurd (second.none_before one first.is_id first.is_so before)
+    each (inr (inl same)) = same
+    each (inr (inr before)) = absurd (first.none_before two second.is_id second.is_so before)
 
 -- ---- refs
 
@@ -97,6 +109,33 @@ pub bad_found : (ref : Ref) → found_of ref ≡ Some found.Bad → ref ≡ Bad
 bad_found Absent e = cc
 bad_found (Head other) e = cc
 bad_found Bad e = refl
+
+-- a ref is there where a file is
+file_is_there : (file : Option (List ℕ)) → IsSome file → is_there (ref_of file) ≡ true
+file_is_there None some = cc
+file_is_there (Some text) some = each (name_of (line_of text))
+  where
+    each : (o : Option Name) → is_there (head_or_bad o) ≡ true
+    each None = refl
+    each (Some name) = refl
+
+there_is_file : (file : Option (List ℕ)) → is_there (ref_of file) ≡ true → IsSome file
+there_is_file None there = cc
+there_is_file (Some text) there = refl
+
+-- the ids that have files are those whose refs stand
+pub ids_are_listed : (files : Files) (folder : List ℕ) (of : Side) (ids : List Id) → IsIdList files folder (dir_of of) ids → AreIds files folder of ids
+ids_are_listed files folder of ids are = record {
+  rising = are.rising;
+  members = λ id. (
+    λ has. let is = (are.members id).0 has in (is.0, file_is_there (files (joined folder (id_place (dir_of of) id))) is.1),
+    λ h. (are.members id).1 (h.0, there_is_file (files (joined folder (id_place (dir_of of) id))) h.1),
+  );
+}
+
+pub all_listed : (files : Files) (folder : List ℕ) (of : Side) (dir : List ℕ) (r : Result (List Id) StoreFault) → dir ≡ dir_of of → IfOk r (IsIdList files folder dir) → IfOk r (AreIds files folder of)
+all_listed files folder of dir (Ok ids) same are = ids_are_listed files folder of ids (subst (λ (d : List ℕ). IsIdList files folder d ids) same are)
+all_listed files folder of dir (Err fault) same are = tt
 
 -- ---- entries of heads
 

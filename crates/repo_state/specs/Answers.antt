@@ -2,6 +2,7 @@
 -- faults of the disk have no cause here.
 use Rattle.std.specs.Prelude.{◌≡◌, ◌≤◌, ◌+◌, ◌*◌, ◌⊎◌, ⊤, ℕ, List, ◌∷◌, ◌++◌, reverse, length, map, Vec, Option, Some, None, Result, Ok, Err}
 use Rattle.std.specs.declared.alloc.Global.{Global}
+use Rattle.gb_text.specs.Digits.{id_of}
 use Rattle.gb_text.specs.Folder.{joined}
 use Rattle.gb_text.specs.declared.id.Id.{Id}
 use Rattle.gb_text.specs.declared.id.Name.{Name}
@@ -20,7 +21,7 @@ use Rattle.identity.specs.Persons.{Shows}
 use Rattle.identity.specs.declared.chain.Person.{Person}
 use Rattle.identity.specs.declared.fault.IdentityFault.{IdentityFault}
 use Rattle.repo_state.specs.Clocks.{clock_at, see_writes}
-use Rattle.repo_state.specs.Finds.{Finds, Nothing, One}
+use Rattle.repo_state.specs.Finds.{Finder, Finds, FindsNoId, One}
 use Rattle.repo_state.specs.Sides.{AreIds, IsBadRef, IsFirst, head_at, ref_place}
 use Rattle.repo_state.specs.Users.{UserFound, NoUser, User, BadUser, user_at, user_place, user_write}
 use Rattle.repo_state.specs.People.{AllShow}
@@ -29,6 +30,8 @@ use Rattle.repo_state.specs.declared.refs.EntityRef.{EntityRef}
 use Rattle.repo_state.specs.declared.side.HeadEntry.{HeadEntry}
 use Rattle.repo_state.specs.declared.side.Side.{Side}
 use Rattle.repo_state.specs.declared.side.Side.TheVariants as side
+use Rattle.repo_state.specs.declared.stop.FindStop.{FindStop}
+use Rattle.repo_state.specs.declared.stop.FindStop.TheVariants as find
 use Rattle.repo_state.specs.declared.stop.ReadStop.{ReadStop}
 use Rattle.repo_state.specs.declared.stop.ReadStop.TheVariants as stop
 
@@ -108,11 +111,19 @@ EntityAnswers files folder of id (Ok None) = head_at files folder of id ≡ Abse
 EntityAnswers files folder of id (Ok (Some entity)) = (entity.id ≡ id) × IsRefOf (head_at files folder of id) entity.head
 EntityAnswers files folder of id (Err fault) = ⊤
 
--- the ref that a word finds, or that it finds none
-abbrev pub FindsRef : Files → List ℕ → Side → List ℕ → Result (Option EntityRef) StoreFault → Type 0
-FindsRef files folder of word (Ok None) = Finds files folder of word Nothing
-FindsRef files folder of word (Ok (Some entity)) = Finds files folder of word (One entity.id) × IsRefOf (head_at files folder of entity.id) entity.head
-FindsRef files folder of word (Err fault) = ⊤
+-- the id of a ref that a word finds, whatever the ref holds
+abbrev pub ref_finder : Side → Files → List ℕ → List ℕ → Finder EntityRef
+ref_finder of files folder word = record {
+  Found = λ entity. Finds files folder of word (One entity.id) × IsRefOf (head_at files folder of entity.id) entity.head;
+  Fails = FindsNoId files folder of word;
+}
+
+-- the id to look for: the one that the word is, or the one that it finds; or why it finds none
+abbrev pub SoughtAnswers : Files → List ℕ → Side → List ℕ → Result Id FindStop → Type 0
+SoughtAnswers files folder of word (Ok id) = (id_of word ≡ Some id) ⊎ Finds files folder of word (One id)
+SoughtAnswers files folder of word (Err find.Memory) = ⊤
+SoughtAnswers files folder of word (Err find.Disk) = ⊤
+SoughtAnswers files folder of word (Err (find.Missed why)) = FindsNoId files folder of word why
 
 -- the head of a ref that stands, or `Damaged` for one that is no ref text
 abbrev pub WholeAnswers : List ℕ → Side → EntityRef → Result HeadEntry ReadStop → Type 0

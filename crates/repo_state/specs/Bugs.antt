@@ -84,6 +84,7 @@ ReadsBug files folder id (Ok entity) = (head : Name) × (head_at files folder si
 ReadsBug files folder id (Err find.Memory) = ⊤
 ReadsBug files folder id (Err find.Disk) = ⊤
 ReadsBug files folder id (Err (find.Missed missed.NotFound)) = head_at files folder side.Bugs id ≡ Absent
+ReadsBug files folder id (Err (find.Missed (missed.Ambiguous first second))) = ⊥
 ReadsBug files folder id (Err (find.Missed (missed.Damaged path))) = (path ≡ joined folder (ref_place side.Bugs id)) × IsDamagedBug files folder id
 
 -- what a fault of this bug's entity is to a read of it: damage of its ref, but for want of memory and faults of the disk

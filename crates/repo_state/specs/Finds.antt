@@ -1,6 +1,9 @@
 -- What the words of a command find: one id of a side, none, or several; and finders, each with what it finds and how it fails.
-use Rattle.std.specs.Prelude.{◌≡◌, ⊤, ℕ, List, IsTrue, Some, Result, Ok, Err}
-use Rattle.gb_text.specs.Digits.{id_of}
+use Rattle.std.specs.Prelude.{◌≡◌, ⊤, ℕ, List, IsTrue, Result, Ok, Err}
+use Rattle.hex.specs.Hex.{encode_lower}
+use Rattle.gb_text.specs.Digits.{IsId}
+use Rattle.gb_text.specs.Prefix.{begins_with}
+use Rattle.gb_text.specs.PrefixText.{is_prefix_text}
 use Rattle.gb_text.specs.declared.id.Id.{Id}
 use Rattle.gb_store.specs.Files.{Files}
 use Rattle.ref_store.specs.Refs.{Head}
@@ -21,9 +24,11 @@ pub data Finding : Type 0 where
   Nothing : Finding
   Many : Id → Id → Finding
 
--- a word fits an id: it is the id's 64 digits, and a ref of the id stands
+-- a word fits an id: it is 1 to 64 digits, the id's digits begin with them, and a ref of the id stands
 pub record Fits (files : Files) (folder : List ℕ) (of : Side) (word : List ℕ) (id : Id) : Type 0 where
-  pub digits : id_of word ≡ Some id
+  pub is_id : IsId id
+  pub is_prefix : IsTrue (is_prefix_text word)
+  pub begins : IsTrue (begins_with word (encode_lower id.bytes))
   pub stands : IsTrue (has_ref files folder of id)
 
 -- of this id something is so, and of no other
@@ -67,14 +72,16 @@ FinderAnswers finder (Err stop.Memory) = ⊤
 FinderAnswers finder (Err stop.Disk) = ⊤
 FinderAnswers finder (Err (stop.Missed why)) = finder.Fails why
 
--- why no id is found: the word finds none
+-- why no id is found: the word finds none, or several
 abbrev pub FindsNoId : Files → List ℕ → Side → List ℕ → Missed → Type 0
 FindsNoId files folder of word missed.NotFound = Finds files folder of word Nothing
+FindsNoId files folder of word (missed.Ambiguous first second) = Finds files folder of word (Many first second)
 FindsNoId files folder of word (missed.Damaged path) = ⊥
 
--- why no head is found: the word finds no id, or the ref of the one that it finds, at this path, is no ref text
+-- why no head is found: the word finds no id, or several, or the ref of the one that it finds, at this path, is no ref text
 abbrev pub FindsNoHead : Files → List ℕ → Side → List ℕ → Missed → Type 0
 FindsNoHead files folder of word missed.NotFound = Finds files folder of word Nothing
+FindsNoHead files folder of word (missed.Ambiguous first second) = Finds files folder of word (Many first second)
 FindsNoHead files folder of word (missed.Damaged path) = (id : Id) × Finds files folder of word (One id) × IsBadRef files folder of id path
 
 -- an id of a side; what its ref holds is not judged

@@ -1,5 +1,5 @@
 //! Laws of a folder's state, each the contract of a function that does nothing.
-ghost use Rattle.std.specs.Prelude.{◌≡◌, ◌≢◌, ◌↔◌, ◌≤◌, ◌++◌, [], ◌∷◌, List, ℕ, IsTrue, Some, None, codes, false, true, map, reverse};
+ghost use Rattle.std.specs.Prelude.{◌≡◌, ◌≢◌, ◌↔◌, ◌⊎◌, ◌≤◌, ◌++◌, [], ◌∷◌, List, ℕ, IsTrue, Some, None, codes, false, true, map, reverse};
 ghost use Rattle.std.specs.List.{AllByRecursion, repeat};
 ghost use Rattle.hex.specs.Hex.{encode_lower};
 ghost use Rattle.gb_text.specs.Digits.{IsId, IsName};
@@ -16,10 +16,10 @@ ghost use Rattle.ref_store.specs.Setting.{ref_write};
 ghost use Rattle.lamport.specs.Clock.{seen_by};
 ghost use Rattle.lamport.specs.declared.clock.TheConstants.{CAP};
 ghost use Rattle.repo_state.specs.Clocks.{clock_at, clock_write, see_writes};
-ghost use Rattle.repo_state.specs.Finds.{Finding, Finds, IsDetermined, Many, Nothing, One, head_finder, id_finder};
+ghost use Rattle.repo_state.specs.Finds.{Finding, Finds, Fits, IsDetermined, Many, Nothing, One, head_finder, id_finder};
 ghost use Rattle.repo_state.specs.RemoteTexts.{is_remote_name};
 ghost use Rattle.repo_state.specs.Remotes.{remote_of};
-ghost use Rattle.repo_state.specs.Sides.{AllRead, AreHeads, AreIds, has_ref, head_at, ref_place};
+ghost use Rattle.repo_state.specs.Sides.{AllRead, AreHeads, AreIds, IsBefore, has_ref, head_at, ref_place};
 ghost use Rattle.repo_state.specs.Sound.{IsSound};
 ghost use Rattle.repo_state.specs.Users.{BadUser, User, user_at, user_entry, user_write};
 ghost use Rattle.repo_state.specs.declared.clocks.ClockFile.{ClockFile};
@@ -167,24 +167,48 @@ pub fn objects_and_state_are_apart()
         ≡ objects_in files folder }
 {}
 
-/// What a word finds on a side is one thing, and each word finds an id or nothing: the id whose 64
-/// digits it is, where a ref of the id stands; and nothing exactly where there is no such id. No word
-/// finds several.
-pub fn words_find_whole_ids()
+/// A word fits an id if it is some of the id's first digits, at least one, and a ref of the id stands. What
+/// it finds is one thing: the only id that it fits, nothing, or several, and then the two least are named.
+/// All 64 digits of an id find it.
+pub fn words_find_ids_by_their_first_digits()
+    ensures fits { (files : Files) (folder : List ℕ) (of : SideValue) (word : List ℕ) (id : Id)
+        → Fits files folder of word id ↔ (IsId id × IsTrue (has_ref files folder of id)
+        × (word ≢ []) × ((rest : List ℕ) × (encode_lower id.bytes ≡ word ++ rest))) }
     ensures determined { (files : Files) (folder : List ℕ) (of : SideValue) (word : List ℕ)
         (one other : Finding) → Finds files folder of word one → Finds files folder of word other
         → one ≡ other }
     ensures some { (files : Files) (folder : List ℕ) (of : SideValue) (word : List ℕ)
+        (ids : List Id) → AreIds files folder of ids
         → (finding : Finding) × Finds files folder of word finding }
     ensures one { (files : Files) (folder : List ℕ) (of : SideValue) (word : List ℕ) (id : Id)
-        → Finds files folder of word (One id) ↔ (IsId id × (word ≡ encode_lower id.bytes)
-        × IsTrue (has_ref files folder of id)) }
-    ensures nothing { (files : Files) (folder : List ℕ) (of : SideValue) (word : List ℕ)
-        → Finds files folder of word Nothing
-        ↔ ((id : Id) → IsId id → word ≡ encode_lower id.bytes
-        → has_ref files folder of id ≡ false) }
-    ensures never_many { (files : Files) (folder : List ℕ) (of : SideValue) (word : List ℕ)
-        (first second : Id) → Finds files folder of word (Many first second) → ⊥ }
+        → Finds files folder of word (One id) ↔ (Fits files folder of word id
+        × ((other : Id) → Fits files folder of word other → other ≡ id)) }
+    ensures several { (files : Files) (folder : List ℕ) (of : SideValue) (word : List ℕ)
+        (least next : Id) → Finds files folder of word (Many least next)
+        → IsBefore least next
+        × ((other : Id) → Fits files folder of word other
+        → (other ≡ least) ⊎ (other ≡ next) ⊎ IsBefore next other) }
+    ensures whole { (files : Files) (folder : List ℕ) (of : SideValue) (id : Id) → IsId id
+        → IsTrue (has_ref files folder of id)
+        → Finds files folder of (encode_lower id.bytes) (One id) }
+{}
+
+/// Where a word finds one id, a longer one finds the same id if it fits it, and else nothing. Where a
+/// word finds nothing, so does a longer one.
+pub fn longer_words_find_the_same()
+    ensures one { (files : Files) (folder : List ℕ) (of : SideValue) (word more : List ℕ)
+        (id other : Id) → Finds files folder of word (One id)
+        → Finds files folder of (word ++ more) (One other) → other ≡ id }
+    ensures same { (files : Files) (folder : List ℕ) (of : SideValue) (word more : List ℕ)
+        (id : Id) → Finds files folder of word (One id)
+        → (rest : List ℕ) × (encode_lower id.bytes ≡ (word ++ more) ++ rest)
+        → Finds files folder of (word ++ more) (One id) }
+    ensures several { (files : Files) (folder : List ℕ) (of : SideValue) (word more : List ℕ)
+        (id least next : Id) → Finds files folder of word (One id)
+        → Finds files folder of (word ++ more) (Many least next) → ⊥ }
+    ensures nothing { (files : Files) (folder : List ℕ) (of : SideValue) (word more : List ℕ)
+        → Finds files folder of word Nothing → word ≢ []
+        → Finds files folder of (word ++ more) Nothing }
 {}
 
 /// A finder of ids, or of entities with their heads, finds one value, or fails in one way, and never

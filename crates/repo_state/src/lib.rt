@@ -3,6 +3,7 @@
 
 mod bugs;
 mod clocks;
+mod finding;
 mod laws;
 mod listing;
 mod operations;
@@ -15,18 +16,19 @@ mod user_file;
 
 pub use bugs::{bug_among, bug_at, read_bug};
 pub use clocks::{ClockFile, clock, clock_changes, see};
+pub use finding::{find, find_head};
 pub use laws::{
     an_empty_folder_is_sound, clocks_read_as_they_were_seen, finders_are_determined,
-    heads_and_user_are_a_map, ids_are_those_of_the_heads, objects_and_state_are_apart,
-    remote_names_are_known, remote_names_read_back, sound_folders_hold_what_heads_lead_to,
-    users_have_their_heads, words_find_whole_ids,
+    heads_and_user_are_a_map, ids_are_those_of_the_heads, longer_words_find_the_same,
+    objects_and_state_are_apart, remote_names_are_known, remote_names_read_back,
+    sound_folders_hold_what_heads_lead_to, users_have_their_heads,
+    words_find_ids_by_their_first_digits,
 };
 pub use listing::{all_refs, identity_refs};
 pub use operations::ops_of;
 pub use people::{names, people_among};
 pub use refs::{
-    EntityRef, damaged, entity, find, find_head, head, head_change, heads, ids, set_head, stands,
-    whole,
+    EntityRef, damaged, entity, head, head_change, heads, ids, set_head, stands, whole,
 };
 pub use remote::RemoteName;
 pub use side::{HeadEntry, Side};

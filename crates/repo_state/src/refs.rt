@@ -1,5 +1,5 @@
 //! The refs of a folder, as maps from ids to heads.
-ghost use Rattle.std.specs.Prelude.{◌≡◌, ◌++◌, List as Items, ℕ, Err, IsTrue, IsErrOf, IfOk, OnOk, codes, false, map};
+ghost use Rattle.std.specs.Prelude.{◌≡◌, ◌++◌, List as Items, ℕ, IsTrue, IsErrOf, IfOk, OnOk, codes, false, map};
 ghost use Rattle.gb_store.specs.Faults.{KeepsFaults};
 ghost use Rattle.gb_store.specs.Files.{files_of};
 ghost use Rattle.gb_store.specs.Moments.{WroteIf};
@@ -8,20 +8,17 @@ ghost use Rattle.gb_text.specs.Folder.{joined};
 ghost use Rattle.ref_store.specs.Listing.{IsRefList};
 ghost use Rattle.ref_store.specs.Refs.{Answers, Head};
 ghost use Rattle.ref_store.specs.Setting.{PutsRef, ref_write};
-ghost use Rattle.repo_state.specs.Answers.{DamagedRef, EntityAnswers, FindsRef, HasBadRef, HeadOf, HeadsOf, IsHeadAt, PutAnswers, Reads, WholeAnswers};
-ghost use Rattle.repo_state.specs.Finds.{FinderAnswers, head_finder, id_finder};
-ghost use Rattle.repo_state.specs.declared.stop.FindStop.TheVariants as stop;
-ghost use Rattle.repo_state.specs.declared.stop.Missed.TheVariants as missed;
+ghost use Rattle.repo_state.specs.Answers.{DamagedRef, EntityAnswers, HasBadRef, HeadOf, HeadsOf, IsHeadAt, PutAnswers, Reads, WholeAnswers};
 ghost use Rattle.repo_state.specs.Sides.{AreHeads, AreIds, IsBadRef, dir_of, has_ref, head_at, ref_place};
 
 use crate::side::{HeadEntry, Side};
-use crate::stop::{FindStop, Missed, ReadStop};
+use crate::stop::ReadStop;
 use gb_store::{Change, Store, StoreFault};
 use gb_text::{Folder, Id, List, Memory, Name, Text};
 use ref_store::{RefEntry, RefFault, RefFound, place_of};
 use std::alloc::Global;
 
-/// The ids whose refs stand on a side, in the order of their digits. What the files hold isn't judged.
+/// The ids whose refs stand on a side, in the order of their digits. No ref is read.
 pub fn ids<S: Store>(
     alloc: Global,
     disk: &mut S,
@@ -35,8 +32,8 @@ pub fn ids<S: Store>(
     ensures caused { KeepsFaults S.never_fails S.faults (IsErrOf result StoreFault.Failed)
         disk.old disk.new }
 {
-    let entries = entries(alloc, disk, folder, side)?;
-    Ok(List::from_vec(ids_of(alloc, entries.as_slice())?))
+    let dir = dir(alloc, side)?;
+    ref_store::ids(alloc, disk, folder, dir.as_str())
 }
 
 /// An id whose ref stands, and the head that the ref names: none where it is no ref text.
@@ -62,74 +59,6 @@ pub fn stands<S: Store>(
         disk.old disk.new }
 {
     Ok(entity(alloc, disk, folder, side, id)?.is_some())
-}
-
-/// The id that a word finds on a side: its 64 digits, where a ref of the id stands. `NotFound` where
-/// it finds none. What the ref's file holds isn't judged.
-pub fn find<S: Store>(
-    alloc: Global,
-    disk: &mut S,
-    folder: &Folder,
-    side: &Side,
-    word: &str,
-) -> Result<Id, FindStop>
-    ensures answers { IsTrue S.tells → FinderAnswers
-        (id_finder side.now (files_of (S.history disk.old)) folder.now word.now) result }
-    ensures never_damaged { (path : Items ℕ)
-        → result ≡ Err (stop.Missed (missed.Damaged path)) → ⊥ }
-    ensures unwritten { IsTrue S.tells → S.history disk.new ≡ S.history disk.old }
-    ensures reads { S.object_reads disk.new ≡ S.object_reads disk.old }
-    ensures caused { KeepsFaults S.never_fails S.faults (IsErrOf result FindStop.Disk)
-        disk.old disk.new }
-{
-    match find_ref(alloc, disk, folder, side, word)? {
-        Some(found) => Ok(found.id),
-        None => Err(FindStop::Missed(Missed::NotFound)),
-    }
-}
-
-/// The entity that a word finds on a side, with its head. `NotFound` where it finds none; `Damaged`,
-/// with the path of the ref, where that is no ref text. The ref is read once.
-pub fn find_head<S: Store>(
-    alloc: Global,
-    disk: &mut S,
-    folder: &Folder,
-    side: &Side,
-    word: &str,
-) -> Result<HeadEntry, FindStop>
-    ensures answers { IsTrue S.tells → FinderAnswers
-        (head_finder side.now (files_of (S.history disk.old)) folder.now word.now) result }
-    ensures unwritten { IsTrue S.tells → S.history disk.new ≡ S.history disk.old }
-    ensures reads { S.object_reads disk.new ≡ S.object_reads disk.old }
-    ensures caused { KeepsFaults S.never_fails S.faults (IsErrOf result FindStop.Disk)
-        disk.old disk.new }
-{
-    match find_ref(alloc, disk, folder, side, word)? {
-        Some(found) => Ok(whole(alloc, folder, side, &found)?),
-        None => Err(FindStop::Missed(Missed::NotFound)),
-    }
-}
-
-// The ref that a word finds on a side, if it finds one. What words find is said here alone.
-#[tactic(auto, using(crate::proofs::FoundLemmas::finds_ref, crate::proofs::FoundLemmas::finds_no_digits, crate::proofs::FoundLemmas::finds_no_entity))]
-fn find_ref<S: Store>(
-    alloc: Global,
-    disk: &mut S,
-    folder: &Folder,
-    side: &Side,
-    word: &str,
-) -> Result<Option<EntityRef>, StoreFault>
-    ensures answers { IsTrue S.tells
-        → FindsRef (files_of (S.history disk.old)) folder.now side.now word.now result }
-    ensures unwritten { IsTrue S.tells → S.history disk.new ≡ S.history disk.old }
-    ensures reads { S.object_reads disk.new ≡ S.object_reads disk.old }
-    ensures caused { KeepsFaults S.never_fails S.faults (IsErrOf result StoreFault.Failed)
-        disk.old disk.new }
-{
-    match Id::read(word.as_bytes()) {
-        Some(id) => entity(alloc, disk, folder, side, &id),
-        None => Ok(None),
-    }
 }
 
 /// The ref of an id, if one stands.

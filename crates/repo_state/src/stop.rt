@@ -1,6 +1,6 @@
 //! Why a read of a folder, or a search in it, gives no answer.
 use gb_store::StoreFault;
-use gb_text::{Memory, Text};
+use gb_text::{Id, Memory, Text};
 use ref_store::RefFault;
 use std::alloc::AllocFailed;
 
@@ -20,6 +20,8 @@ pub enum ReadStop {
 pub enum Missed {
     /// It names nothing of the kind that is sought.
     NotFound,
+    /// It names several, of which these are the two least, the lesser first.
+    Ambiguous(Id, Id),
     /// It names something, and the file at this path is damaged.
     Damaged(Text),
 }

@@ -3,7 +3,7 @@ use fixtures::{Disk, id, name};
 use gb_store::StoreFault;
 use gb_text::{Id, List, Name};
 use identity::Person;
-use repo_state::{ClockFile, EntityRef, HeadEntry, ReadStop, RemoteName, Side};
+use repo_state::{ClockFile, EntityRef, FindStop, HeadEntry, ReadStop, RemoteName, Side};
 use std::alloc::Global;
 use std::test::Fail;
 
@@ -65,6 +65,10 @@ pub fn all_refs(disk: &mut Disk, side: &Side) -> Result<List<EntityRef>, StoreFa
 
 pub fn ids(disk: &mut Disk, side: &Side) -> Result<List<Id>, StoreFault> {
     repo_state::ids(disk.alloc, &mut disk.store, &disk.folder, side)
+}
+
+pub fn find(disk: &mut Disk, side: &Side, word: &str) -> Result<Id, FindStop> {
+    repo_state::find(disk.alloc, &mut disk.store, &disk.folder, side, word)
 }
 
 pub fn stands(disk: &mut Disk, side: &Side, id: &Id) -> Result<bool, StoreFault> {
