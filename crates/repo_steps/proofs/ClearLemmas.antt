@@ -83,38 +83,27 @@ module _ (folder : List ℕ) (files : Files) where
 
 -- ---- each check
 
--- refusals that are two numbers alike
-both : (n : ℕ) (r s : Refusal) → number_of r ≡ n → number_of s ≡ n → number_of r ≡ number_of s
-both n r s one two = one ∙ sym two
-
 module _ (folder : List ℕ) (files : Files) where
   user_file_clear : IsClear (user_file folder files)
-  user_file_clear = record { apart = λ r fails passes. passes fails.0; one = λ r s one two. both 14 r s (ap number_of one.1) (ap number_of two.1) }
+  user_file_clear = record { apart = λ r fails passes. passes fails.0; one = λ r s one two. ap number_of one.1 ∙ sym (ap number_of two.1) }
 
   some_user_clear : IsClear (some_user folder files)
-  some_user_clear = record { apart = λ r fails passes. passes fails.0; one = λ r s one two. both 1 r s (ap number_of one.1) (ap number_of two.1) }
+  some_user_clear = record { apart = λ r fails passes. passes fails.0; one = λ r s one two. ap number_of one.1 ∙ sym (ap number_of two.1) }
 
   user_chain_clear : IsClear (user_chain folder files)
   user_chain_clear = record {
     apart = λ r fails passes. user-no_fault folder files passes fails.0 fails.1 fails.2;
-    one = λ r s one two. both 14 r s (ap number_of one.3) (ap number_of two.3);
+    one = λ r s one two. ap number_of one.3 ∙ sym (ap number_of two.3);
   }
 
   user_room_clear : IsClear (user_room folder files)
   user_room_clear = record {
     apart = λ r fails passes. let walks = ap length (user-walk folder files fails.0 passes.0) in omega (arith, walks, fails.1, passes.1);
-    one = λ r s one two. both 13 r s (ap number_of one.2) (ap number_of two.2);
+    one = λ r s one two. ap number_of one.2 ∙ sym (ap number_of two.2);
   }
 
   fresh_clear : (of : Side) (id : Id) → IsClear (fresh folder files of id)
-  fresh_clear of id = record { apart = λ r fails passes. cc (sym passes ∙ fails.0); one = λ r s one two. both 9 r s (ap number_of one.1) (ap number_of two.1) }
-
-  -- what a word finds is one bug or none, and one person or none
-  bug_finds : (word : List ℕ) → IsDetermined (bug_finder files folder word)
-  bug_finds word = heads_are_determined side.Bugs files folder word
-
-  person_finds : (word : List ℕ) → IsDetermined (person_finder files folder word)
-  person_finds word = ids_are_determined side.Identities files folder word
+  fresh_clear of id = record { apart = λ r fails passes. cc (sym passes ∙ fails.0); one = λ r s one two. ap number_of one.1 ∙ sym (ap number_of two.1) }
 
 -- a word that finds nothing is refused in one way
 found_one : {T : Type 0} → (finder : Finder T) → IsDetermined finder → (r s : Refusal) → (why : Missed) × finder.Fails why × (r ≡ of_missed why) → (why : Missed) × finder.Fails why × (s ≡ of_missed why) → r ≡ s
@@ -126,11 +115,11 @@ found_clear finder is value = record { apart = λ r fails passes. is.apart value
 sizes_clear : (texts : List (List ℕ)) → IsClear (sizes texts)
 sizes_clear texts = record {
   apart = λ r fails passes. omega (arith, fails.0.long, subst IsShort fails.0.member.2 (passes fails.0.member.0 fails.0.text fails.0.member.1));
-  one = λ r s one two. both 13 r s (ap number_of one.1) (ap number_of two.1);
+  one = λ r s one two. ap number_of one.1 ∙ sym (ap number_of two.1);
 }
 
 names_clear : (folder : List ℕ) (texts : List (List ℕ)) (old : History) → IsClear (names folder texts old)
-names_clear folder texts old = record { apart = λ r fails passes. passes.free fails.0 fails.1; one = λ r s one two. both 10 r s (ap number_of one.2) (ap number_of two.2) }
+names_clear folder texts old = record { apart = λ r fails passes. passes.free fails.0 fails.1; one = λ r s one two. ap number_of one.2 ∙ sym (ap number_of two.2) }
 
 -- ---- checks of a bug
 
@@ -144,7 +133,7 @@ module _ (folder : List ℕ) (files : Files) (word : List ℕ) where
   bug_reads_clear : (bug : HeadEntry) → IsClear (bug_reads folder files bug)
   bug_reads_clear bug = record {
     apart = λ r fails passes. bug_no_fault files folder bug passes.0 passes.1 fails.0;
-    one = λ r s one two. both 14 r s (ap number_of one.1) (ap number_of two.1);
+    one = λ r s one two. ap number_of one.1 ∙ sym (ap number_of two.1);
   }
 
   -- what bars a bug is said of its head and its entity, and each of its refusals is of this number
@@ -154,7 +143,7 @@ module _ (folder : List ℕ) (files : Files) (word : List ℕ) where
     apart = λ r fails passes.
         let same = bug_one fails.0 passes.0 in
         passes.1 (subst (λ (bug : HeadEntry). Bars bug passes.0.entity) same.0 (subst (Bars fails.0.bug) same.1 fails.1));
-    one = λ r s one two. both n r s (ap number_of one.2 ∙ numbers one.0) (ap number_of two.2 ∙ numbers two.0);
+    one = λ r s one two. ap number_of one.2 ∙ numbers one.0 ∙ sym (ap number_of two.2 ∙ numbers two.0);
   }
 
   clock_room_clear : IsClear (clock_room folder files word)
@@ -177,29 +166,23 @@ begun_clear env op old =
 
 -- what an edit adds to a bug that a word finds is one operation, or one refusal
 module _ (env : Env) (files : Files) (word : List ℕ) (e : BugEdit) where
-  abbrev left : BugOp → Result BugOp NoChange
-  left op = Ok op
-
-  abbrev right : NoChange → Result BugOp NoChange
-  right why = Err why
-
   pub says_one : (one two : HasBug env.folder files word) → edit_op env.moment e (bug_says one.entity) ≡ edit_op env.moment e (bug_says two.entity)
   says_one one two = ap (λ (entity : Entity BugOp). edit_op env.moment e (bug_says entity)) (bug_one env.folder files word one two).1
 
   pub adds_one : (op other : BugOp) (one two : HasBug env.folder files word) → edit_op env.moment e (bug_says one.entity) ≡ Ok op → edit_op env.moment e (bug_says two.entity) ≡ Ok other → op ≡ other
   adds_one op other one two first second =
-      let both : left op ≡ left other = sym first ∙ says_one one two ∙ second in
+      let both : ◌≡◌ {A = Result BugOp NoChange} (Ok op) (Ok other) = sym first ∙ says_one one two ∙ second in
       cc
 
   refuses_one : (r s : Refusal) (op other : BugOp) → (edit_adds env files word e op).Fails r → (edit_adds env files word e other).Fails s → number_of r ≡ number_of s
   refuses_one r s op other one two =
-      let both : right one.1 ≡ right two.1 = sym one.2 ∙ says_one one.0 two.0 ∙ two.2 in
+      let both : ◌≡◌ {A = Result BugOp NoChange} (Err one.1) (Err two.1) = sym one.2 ∙ says_one one.0 two.0 ∙ two.2 in
       let same : one.1 ≡ two.1 = cc in
       ap number_of (one.3 ∙ ap of_no_change same ∙ sym two.3)
 
   never_adds : (op other : BugOp) (r : Refusal) → (edit_adds env files word e op).Passes → (edit_adds env files word e other).Fails r → ⊥
   never_adds op other r passes fails =
-      let both : left op ≡ right fails.1 = sym passes.1 ∙ says_one passes.0 fails.0 ∙ fails.2 in
+      let both : ◌≡◌ {A = Result BugOp NoChange} (Ok op) (Err fails.1) = sym passes.1 ∙ says_one passes.0 fails.0 ∙ fails.2 in
       cc both
 
   -- so with one operation the check is clear
@@ -222,7 +205,7 @@ module _ (env : Env) (word : List ℕ) (e : BugEdit) (old : History) where
   first_clear = (user_file_clear env.folder before, (some_user_clear env.folder before, tt))
 
   finds : IsDetermined (bug_finder before env.folder word)
-  finds = bug_finds env.folder before word
+  finds = heads_are_determined side.Bugs before env.folder word
 
   -- once it is found
   abbrev found_checks : HeadEntry → List Check
@@ -297,7 +280,7 @@ module _ (env : Env) (word : List ℕ) (e : BugEdit) (old : History) where
 
 module _ (env : Env) (word : List ℕ) (old : History) where
   person_is : IsDetermined (person_finder (files_of old) env.folder word)
-  person_is = person_finds env.folder (files_of old) word
+  person_is = ids_are_determined side.Identities (files_of old) env.folder word
 
   set_never : (person other : Id) (r : Refusal) → FirstFails (set_user env word person old).checks r → AllPass (set_user env word other old).checks → ⊥
   set_never person other r (inl fails) passes = person_is.apart other fails.0 passes.0 fails.1

@@ -51,6 +51,7 @@ not_damaged env command old path sound (picked, fails) = none_damaged (doing_of 
     -- a bug that is found has a ref that reads
     lost : (word : List ℕ) (bug : HeadEntry) → (found (bug_finder files env.folder word) bug).Fails (refusal.Damaged path) → ⊥
     lost word bug (missed.NotFound, none, is) = cc is
+    lost word bug (missed.Ambiguous least next, many, is) = cc is
     lost word bug (missed.Damaged other, bad, is) = no_bad_found env.folder files sound word bad.0 bad.1 (inl bad.2.1)
 
     each : (command : Edit) → AreUndamaged (doing_of env command picked old).checks path
@@ -60,6 +61,7 @@ not_damaged env command old path sound (picked, fails) = none_damaged (doing_of 
       where
         unfound : (why : Missed) × (person_finder files env.folder word).Fails why × (refusal.Damaged path ≡ of_missed why) → ⊥
         unfound (missed.NotFound, none, is) = cc is
+        unfound (missed.Ambiguous least next, many, is) = cc is
         unfound (missed.Damaged other, never, is) = never
     each (edit.New title message) = (file, λ _. ((λ f. cc f.1), λ _. ((λ f. cc f.1), λ _. ((λ f. cc f.1), λ _. ((λ f. cc f.2), λ _. tt)))))
     each (edit.OfBug word e) = (

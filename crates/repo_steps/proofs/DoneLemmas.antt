@@ -1,10 +1,9 @@
 -- What a command that nothing keeps from being done leaves: its writes are of their kinds, and make its step.
 use Rattle.std.proofs.Common.{◌≡◌, ◌<◌, ◌≤◌, ℕ, false, IsTrue, List, [], ◌∷◌, ◌++◌, length, reverse, Contains, Option, Some, None, option_and_then, Ok, inl, inr, refl, sym, ◌∙◌, ap, subst}
 use Rattle.std.specs.Option.{option_map}
-use Rattle.repo_steps.proofs.Names.{Contains-one, IsId, joined, Id, Name, Line, Message, Title, Files, History, files_of, Wrote, Wrote-none, Wrote-one, Wrote-then, Objects, objects_in, MayBePut, Absent, Head, ref_of, GREATEST_TIME, bug_kind, BugOp, MOST_COMMITS, ops_in, Entity, IsLocal, head_edit, has_ref, head_at, is_there, ref_place, UserFound, BadUser, NoUser, User, user_at, user_entry, user_place, user_write, Env, HeadEntry, IsId-version_id, ref-not_user, same_or_other, user-not_object, HasBug, addition_objects, addition_writes, bug_says, later_addition, later_by, longer_bug, new_bug, op_ids, root_addition, some_id, edit_op, create_op, op_id, AllPass, Doing, doing_of, Picked, HasUser, edited_user, first_user_write, new_made, new_objects, new_text, new_user, set_user, user_writes, version_writes, IsWrite, BugBegins, BugGrows, OnlyChanges, Steps, first_user, first_user_place, new_version, Addition, BugEdit, Edit, IsLocal-user, found_is}
+use Rattle.repo_steps.proofs.Names.{Contains-one, IsId, joined, Id, Name, Line, Message, Title, Files, History, files_of, Wrote, Wrote-none, Wrote-one, Wrote-then, Objects, objects_in, MayBePut, Absent, Head, ref_of, GREATEST_TIME, bug_kind, BugOp, MOST_COMMITS, ops_in, Entity, IsLocal, head_edit, has_ref, head_at, is_there, ref_place, UserFound, BadUser, NoUser, User, user_at, user_entry, user_place, user_write, Env, HeadEntry, IsId-version_id, ref-not_user, same_or_other, user-not_object, HasBug, addition_objects, addition_writes, bug_says, later_addition, later_by, longer_bug, new_bug, op_ids, root_addition, some_id, edit_op, create_op, op_id, AllPass, Doing, doing_of, Picked, HasUser, edited_user, first_user_write, new_made, new_objects, new_text, new_user, set_user, user_writes, version_writes, IsWrite, BugBegins, BugGrows, OnlyChanges, Steps, first_user, first_user_place, new_version, Addition, BugEdit, Edit, IsLocal-user}
 use Rattle.identity.specs.Extending.{IsLonger}
 use Rattle.repo_state.specs.Users.{entry_by, entry_of_user, id_line}
-use Rattle.repo_steps.specs.declared.refusal.Stop.TheVariants as stop
 use Rattle.repo_state.specs.declared.side.Side.TheVariants as side
 use Rattle.repo_state.proofs.KindLemmas.{head_at-user_write, objects-user_write, user_at-set}
 use Rattle.bug_edits.proofs.EditLemmas.{begun_keeps, may_follow}
@@ -183,7 +182,7 @@ set_made_so env word id old passes = record {
 }
   where
     stands : IsTrue (has_ref (files_of old) env.folder side.Identities id)
-    stands = (found_is id passes.0).1
+    stands = passes.0.is_so.stands
 
     is_id : IsId id
     is_id = finds_an_id id passes.0

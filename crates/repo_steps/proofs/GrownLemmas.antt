@@ -1,8 +1,8 @@
 -- What a bug says, read anew from the files, once a command has written to it.
 use Rattle.std.proofs.Common.{◌≡◌, ℕ, List, [], ◌∷◌, refl, sym, ◌∙◌, ap, subst}
 use Rattle.std.proofs.lemmas.Grind.{flat_map-append}
-use Rattle.std.proofs.lemmas.Option.{same_Some}
-use Rattle.repo_steps.proofs.Names.{Title, Message, Id, Files, Head, root_time_of, Place, place_of, bug_kind, BugOp, snapshot_of, appended_head, appended_node, extended, Entity, Loaded, Placed, IsBug, clock_at, head_at, Env, HeadEntry, one_entity, found_is, HasBug, addition_head, bug_says, later_addition, root_addition, create_op, BugBegins, BugGrows, begun_entity, Addition, BugEdit}
+use Rattle.repo_steps.proofs.Names.{is_there, Title, Message, Id, Files, Head, root_time_of, Place, place_of, bug_kind, BugOp, snapshot_of, appended_head, appended_node, extended, Entity, Loaded, Placed, IsBug, clock_at, head_at, Env, HeadEntry, one_entity, HasBug, addition_head, bug_says, later_addition, root_addition, create_op, BugBegins, BugGrows, begun_entity, Addition, BugEdit}
+use Rattle.repo_state.specs.Finds.{Fits}
 use Rattle.repo_state.specs.declared.clocks.ClockFile.TheVariants as file
 use Rattle.repo_state.specs.declared.side.Side.TheVariants as side
 use Rattle.repo_steps.specs.Grown.{EndsWithTheEdit, begun_says}
@@ -23,11 +23,12 @@ module _ (env : Env) (edit : BugEdit) (word : List ℕ) (old new : Files) (told 
   abbrev later_bug : HeadEntry
   later_bug = record { id = step.bug.bug.id; name = addition_head env.moment.now added }
 
+  -- the word that found the bug before finds it again, since its ref stands
   ids : now.bug.id ≡ step.bug.bug.id
   ids =
-      let here = (found_is now.bug.id now.finds.found).0 in
-      let there = (found_is step.bug.bug.id step.bug.finds.found).0 in
-      same_Some now.bug.id step.bug.bug.id (sym here ∙ there)
+      let before = step.bug.finds.found.is_so in
+      let again : Fits new env.folder side.Bugs word step.bug.bug.id = record { is_id = before.is_id; is_prefix = before.is_prefix; begins = before.begins; stands = ap is_there step.head } in
+      sym (now.finds.found.no_other step.bug.bug.id again)
 
   names : now.bug.name ≡ later_bug.name
   names =

@@ -52,7 +52,7 @@ pub use Rattle.ref_store.specs.Refs.{Head, ref_of, Absent}
 pub use Rattle.ref_store.specs.Setting.{ref_write}
 pub use Rattle.repo_state.proofs.BugLemmas.{head_edit, one_entity}
 pub use Rattle.repo_state.proofs.BugSoundLemmas.{IsBug-over}
-pub use Rattle.repo_state.proofs.FoundLemmas.{IsLocal-user, found_is}
+pub use Rattle.repo_state.proofs.FoundLemmas.{IsLocal-user}
 pub use Rattle.repo_state.proofs.KindLemmas.{clock_at-capped, objects-ref_write}
 pub use Rattle.repo_state.proofs.PlaceLemmas.{ref-not_object, user-not_object, clock-not_object, ref-not_clock, ref-not_user, same_or_other}
 pub use Rattle.repo_state.specs.Bugs.{IsBug, EachIsLocal, IsLocal}

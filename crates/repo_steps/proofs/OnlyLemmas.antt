@@ -1,5 +1,5 @@
 -- What writes change of a folder's files, and what they leave of its refs and its user.
-use Rattle.std.proofs.Common.{◌≡◌, ◌≢◌, ℕ, false, IsTrue, List, [], ◌∷◌, ◌++◌, reverse, Contains, Option, None, refl, sym, ◌∙◌, ap, append_assoc, subst, arith}
+use Rattle.std.proofs.Common.{◌≡◌, ◌≢◌, ℕ, false, IsTrue, List, [], ◌∷◌, ◌++◌, reverse, Contains, None, refl, sym, ◌∙◌, ap, append_assoc, subst, arith}
 use Rattle.std.proofs.lemmas.List.{reverse-append}
 use Rattle.std.proofs.lemmas.List.Elements.{Contains-append_left, Contains-append_right}
 use Rattle.repo_steps.proofs.Names.{Absent, Head, joined, Id, Name, Files, History, files_of, written, EachWrite, Wrote, at_moment, Change, object_name, objects_in, object_write, Contains-first, IsName-object_name, ref_of, has_ref, head_at, is_there, ref_place, OnlyChanges, BadUser, user_at, user_place, Side, written-other, ref-not_object, user-not_object}
@@ -80,9 +80,6 @@ module _ (folder : List ℕ) where
     -- a head at no path that changed stays
     pub head_kept : (of : Side) (id : Id) → head_at new folder of id ≡ head_at old folder of id
     head_kept of id = ap ref_of (ref_kept of id)
-
-    user_kept : (user_at old folder ≡ BadUser → ⊥) → user_at new folder ≡ user_at old folder
-    user_kept sound = user_left [] old new only (none_among (joined folder user_place)) (λ id stands. ap (λ (file : Option (List ℕ)). is_there (ref_of file)) (ref_kept side.Identities id) ∙ stands) sound
 
 -- ---- what comes first
 

@@ -135,6 +135,7 @@ module _ (folder : List ℕ) (files : Files) where
 -- what finds nothing is of one place, if it is not damaged
 missed_rank : (r : Refusal) (n : ℕ) (why : Missed) → r ≡ of_missed why → rank_of r ≡ Some n → Some n ≡ Some 4
 missed_rank r n missed.NotFound same is = of_rank r refusal.NotFound n (Some 4) same refl is
+missed_rank r n (missed.Ambiguous least next) same is = of_rank r (refusal.Ambiguous least next) n (Some 4) same refl is
 missed_rank r n (missed.Damaged path) same is = absurd (cc (of_rank r (refusal.Damaged path) n None same refl is))
 
 found_rank : {T : Type 0} → (finder : Finder T) (value : T) → Within (found finder value) (Some 4)

@@ -1,12 +1,10 @@
 -- Where a cause holds and all checks before it pass, a command is refused for it.
 use Rattle.std.proofs.Common.{◌≡◌, ◌≢◌, ◌≤◌, ◌+◌, ◌^◌, ℕ, All, IsTrue, inl, inr, List, [], ◌∷◌, length, Contains, Some, None, Ok, refl, sym, ◌∙◌}
 use Rattle.std.proofs.lemmas.Option.{same_Some}
-use Rattle.repo_steps.proofs.Names.{HeadEntry, Picked, GREATEST_TIME, Id, Name, Line, Message, Title, Files, History, files_of, objects_in, IsShort, MOST_BYTES, CannotHave, HasLong, MOST_COMMITS, edit_op, create_op, op_id, BugEdit, bug_kind, BugOp, ops_in, edit_at, head_edit, has_ref, BadUser, NoUser, User, user_at, HasBug, bug_says, clock_room, commit_room, longer_bug, new_bug, new_operation, op_ids, FirstFails, names, sizes, Refused, HasUser, new_made, new_user, Env, Refusal}
+use Rattle.repo_steps.proofs.Names.{bug_finder, person_finder, of_missed, Missed, HeadEntry, Picked, GREATEST_TIME, Id, Name, Line, Message, Title, Files, History, files_of, objects_in, IsShort, MOST_BYTES, CannotHave, HasLong, MOST_COMMITS, edit_op, create_op, op_id, BugEdit, bug_kind, BugOp, ops_in, edit_at, head_edit, has_ref, BadUser, NoUser, User, user_at, HasBug, bug_says, clock_room, commit_room, longer_bug, new_bug, new_operation, op_ids, FirstFails, names, sizes, Refused, HasUser, new_made, new_user, Env, Refusal}
 use Rattle.bug_edits.specs.NewOps.{noop_op}
 use Rattle.bug_ops.specs.Snapshots.{zero_id}
-use Rattle.repo_state.specs.Finds.{Finds, Nothing}
 use Rattle.repo_state.specs.declared.side.Side.TheVariants as side
-use Rattle.repo_state.specs.declared.stop.Missed.TheVariants as missed
 use Rattle.words.specs.declared.edit.Edit.TheVariants as edit
 use Rattle.repo_steps.specs.declared.refusal.Refusal.TheVariants as refusal
 use Rattle.repo_steps.proofs.CauseLemmas.{at_limit}
@@ -68,14 +66,14 @@ module _ (env : Env) (old : History) where
         → Refused env (edit.New title message) old (refusal.EntityExists (op_id (create_op env.moment title message)))
     bug_reported short has = (no_pick env, inr (good user is_user, inr (some user is_user, inr (short, inl (has, refl)))))
 
-  -- ---- a word that finds nothing
+  -- ---- a word that finds nothing, or several
 
-  pub no_bug_found : (e : BugEdit) (word : List ℕ) (user : Id) → user_at files env.folder ≡ User user → Finds files env.folder side.Bugs word Nothing
-      → Refused env (edit.OfBug word e) old refusal.NotFound
-  no_bug_found e word user is none = (no_pick env, inr (good user is, inr (some user is, inl (missed.NotFound, none, refl))))
+  pub no_bug_found : (e : BugEdit) (word : List ℕ) (user : Id) (why : Missed) → user_at files env.folder ≡ User user → (bug_finder files env.folder word).Fails why
+      → Refused env (edit.OfBug word e) old (of_missed why)
+  no_bug_found e word user why is missed = (no_pick env, inr (good user is, inr (some user is, inl (why, missed, refl))))
 
-  pub no_person_found : (word : List ℕ) → Finds files env.folder side.Identities word Nothing → Refused env (edit.UserSet word) old refusal.NotFound
-  no_person_found word none = (no_pick env, inl (missed.NotFound, none, refl))
+  pub no_person_found : (word : List ℕ) (why : Missed) → (person_finder files env.folder word).Fails why → Refused env (edit.UserSet word) old (of_missed why)
+  no_person_found word why missed = (no_pick env, inl (why, missed, refl))
 
   -- ---- an edit of a bug
 

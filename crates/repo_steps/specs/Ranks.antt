@@ -8,6 +8,7 @@ use Rattle.repo_steps.specs.Checks.{Check}
 abbrev pub rank_of : Refusal → Option ℕ
 rank_of refusal.NoUser = Some 3
 rank_of refusal.NotFound = Some 4
+rank_of (refusal.Ambiguous least next) = Some 4
 rank_of refusal.NoLabelChange = Some 5
 rank_of refusal.SameStatus = Some 5
 rank_of (refusal.ClockFull name) = Some 6

@@ -28,9 +28,10 @@ stop_of_read read.Memory = stop.Memory
 stop_of_read read.Disk = stop.Disk
 stop_of_read (read.Damaged path) = stop.Refused (refusal.Damaged path)
 
--- how a command is refused whose argument finds nothing
+-- how a command is refused whose argument finds nothing, or several
 abbrev pub of_missed : Missed → Refusal
 of_missed missed.NotFound = refusal.NotFound
+of_missed (missed.Ambiguous least next) = refusal.Ambiguous least next
 of_missed (missed.Damaged path) = refusal.Damaged path
 
 abbrev pub stop_of_find : FindStop → Stop
@@ -57,6 +58,7 @@ stop_of_put (put.Taken name) = stop.Refused (refusal.NameTaken name)
 abbrev pub number_of : Refusal → ℕ
 number_of refusal.NoUser = 1
 number_of refusal.NotFound = 2
+number_of (refusal.Ambiguous least next) = 3
 number_of refusal.NoLabelChange = 5
 number_of refusal.SameStatus = 6
 number_of (refusal.ClockFull name) = 7

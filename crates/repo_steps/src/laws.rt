@@ -11,7 +11,7 @@ ghost use Rattle.gb_store.specs.declared.store.Change.{Change};
 ghost use Rattle.object_store.specs.Held.{objects_in};
 ghost use Rattle.ref_store.specs.Refs.{Head};
 ghost use Rattle.repo_state.specs.Clocks.{clock_at, clock_write};
-ghost use Rattle.repo_state.specs.Finds.{Finds, Nothing};
+ghost use Rattle.repo_state.specs.Finds.{Finds, Many, Nothing};
 ghost use Rattle.repo_state.specs.Sides.{head_at};
 ghost use Rattle.repo_state.specs.Sound.{IsSound};
 ghost use Rattle.repo_steps.specs.Stops.{number_of};
@@ -72,8 +72,8 @@ pub fn done_edits_make_their_step()
 {}
 
 /// A command whose argument finds no bug, or no person, is refused for that, after the checks that
-/// come first.
-pub fn words_that_find_nothing_are_refused()
+/// come first; and so it is where the argument finds several, with the two least.
+pub fn words_that_find_not_one_are_refused()
     ensures bugs { (env : EnvValue) (edit : BugEditValue) (word : List ℕ) (old : History)
         (user : Id)
         → user_at (files_of old) env.folder ≡ User user
@@ -82,6 +82,14 @@ pub fn words_that_find_nothing_are_refused()
     ensures persons { (env : EnvValue) (word : List ℕ) (old : History)
         → Finds (files_of old) env.folder side.Identities word Nothing
         → Refused env (UserSet word) old refusal.NotFound }
+    ensures several_bugs { (env : EnvValue) (edit : BugEditValue) (word : List ℕ) (old : History)
+        (user least next : Id)
+        → user_at (files_of old) env.folder ≡ User user
+        → Finds (files_of old) env.folder side.Bugs word (Many least next)
+        → Refused env (OfBug word edit) old (refusal.Ambiguous least next) }
+    ensures several_persons { (env : EnvValue) (word : List ℕ) (old : History) (least next : Id)
+        → Finds (files_of old) env.folder side.Identities word (Many least next)
+        → Refused env (UserSet word) old (refusal.Ambiguous least next) }
 {}
 
 /// An edit is refused for a full clock only if the head has the last edit clock, and for too many

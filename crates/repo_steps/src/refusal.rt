@@ -13,6 +13,8 @@ pub enum Refusal {
     NoUser,
     /// 2: the argument names nothing of the kind that is sought.
     NotFound,
+    /// 3: the argument names several, of which these are the two least, the lesser first.
+    Ambiguous(Id, Id),
     /// 5: each label that was named is on already, or none of those to be taken off is on.
     NoLabelChange,
     /// 6: the bug has the status already.
@@ -44,6 +46,7 @@ impl Refusal {
         match self {
             Refusal::NoUser => 1,
             Refusal::NotFound => 2,
+            Refusal::Ambiguous(_, _) => 3,
             Refusal::NoLabelChange => 5,
             Refusal::SameStatus => 6,
             Refusal::ClockFull(_) => 7,
@@ -127,6 +130,9 @@ impl From<FindStop> for Stop {
             FindStop::Memory => Stop::Memory,
             FindStop::Disk => Stop::Disk,
             FindStop::Missed(Missed::NotFound) => Stop::Refused(Refusal::NotFound),
+            FindStop::Missed(Missed::Ambiguous(least, next)) => {
+                Stop::Refused(Refusal::Ambiguous(least, next))
+            }
             FindStop::Missed(Missed::Damaged(path)) => Stop::Refused(Refusal::Damaged(path)),
         }
     }
