@@ -15,7 +15,7 @@ use Rattle.repo_state.proofs.BugLemmas.{bug_no_fault, bug_not_damaged, one_bug, 
 use Rattle.render.specs.Log.{log_text_of}
 use Rattle.repo_view.specs.Log.{IsLog, LogAnswers}
 use Rattle.repo_state.specs.Sound.{IsSound}
-use Rattle.repo_state.proofs.FoundLemmas.{finds_not_both}
+use Rattle.repo_state.proofs.FoundLemmas.{finds_not_both, finds_not_many}
 use Rattle.repo_state.proofs.UndamagedLemmas.{no_bad_found}
 
 -- a word has one log
@@ -40,4 +40,5 @@ log_not_damaged files folder word path sound (id, found, at, wrong) = no_bad_fou
 -- a bug that has a log is not missed
 pub log_not_missed : (files : Files) (folder word text : List ℕ) (why : Missed) → LogAnswers files folder word (Ok text) → LogAnswers files folder word (Err (stop.Missed why)) → ⊥
 log_not_missed files folder word text missed.NotFound log h = finds_not_both (log.0).id log.1.found h
+log_not_missed files folder word text (missed.Ambiguous least next) log h = finds_not_many (log.0).id least next log.1.found h
 log_not_missed files folder word text (missed.Damaged path) log h = bug_not_damaged files folder word log.0 log.2.entity h.0 log.1 log.2.is h.1 h.3

@@ -3,13 +3,14 @@ use Rattle.std.proofs.Common.{◌≡◌, ℕ, inl, inr, List, Err, sym, ◌∙�
 use Rattle.gb_text.specs.Folder.{joined}
 use Rattle.gb_text.specs.declared.id.Id.{Id}
 use Rattle.gb_store.specs.Files.{Files}
+use Rattle.repo_state.specs.Finds.{Finds, One}
 use Rattle.repo_state.specs.Sides.{ref_place}
 use Rattle.repo_state.specs.declared.side.Side.TheVariants as side
 use Rattle.repo_state.specs.declared.stop.FindStop.TheVariants as stop
 use Rattle.repo_state.specs.declared.stop.Missed.{Missed}
 use Rattle.repo_state.specs.declared.stop.Missed.TheVariants as missed
 use Rattle.repo_state.specs.declared.stop.ReadStop.TheVariants as read
-use Rattle.repo_state.proofs.FoundLemmas.{finds_not_both, finds_the_same, one_missed}
+use Rattle.repo_state.proofs.FoundLemmas.{finds_the_same, one_missed}
 use Rattle.repo_view.specs.Log.{LogAnswers}
 use Rattle.repo_view.specs.Shown.{ShowAnswers, UsersAnswers}
 use Rattle.repo_view.proofs.PeopleLemmas.{no_bad_among, one_bad_person}
@@ -26,7 +27,7 @@ module _ (files : Files) (folder word : List ℕ) where
       at ∙ ap (λ (bug : Id). joined folder (ref_place side.Bugs bug)) (finds_the_same id other found also) ∙ sym there
 
   pub one_log_missed : (one two : Missed) → LogMisses one → LogMisses two → one ≡ two
-  one_log_missed = one_missed LogMisses one_log_path (λ path none damaged. finds_not_both damaged.0 damaged.1 none)
+  one_log_missed = one_missed LogMisses (λ none. none) (λ least next many. many) one_log_path (λ path damaged. (damaged.0, damaged.1))
 
   -- ---- `show`
 
@@ -38,12 +39,13 @@ module _ (files : Files) (folder word : List ℕ) where
   one_show_path one two first (inl (id, found, at, wrong)) = bug_told_first files folder word one id found wrong first ∙ sym at
   one_show_path one two (inr first) (inr second) = one_bad_person files folder one two first.4 second.4
 
-  show_apart : (path : List ℕ) → ShowMisses missed.NotFound → ShowMisses (missed.Damaged path) → ⊥
-  show_apart path none (inl told) = finds_not_both told.0 told.1 none
-  show_apart path none (inr told) = finds_not_both (told.0).id told.1.found none
+  -- the word finds the bug that is told, or that is shown but for a person
+  show_finds : (path : List ℕ) → ShowMisses (missed.Damaged path) → (id : Id) × Finds files folder side.Bugs word (One id)
+  show_finds path (inl told) = (told.0, told.1)
+  show_finds path (inr told) = ((told.0).id, told.1.found)
 
   pub one_show_missed : (one two : Missed) → ShowMisses one → ShowMisses two → one ≡ two
-  one_show_missed = one_missed ShowMisses one_show_path show_apart
+  one_show_missed = one_missed ShowMisses (λ none. none) (λ least next many. many) one_show_path show_finds
 
 module _ (files : Files) (folder : List ℕ) where
   -- ---- `users`

@@ -34,7 +34,7 @@ use Rattle.repo_state.specs.declared.stop.Missed.{Missed}
 use Rattle.repo_state.specs.declared.stop.Missed.TheVariants as missed
 use Rattle.repo_state.specs.declared.stop.ReadStop.TheVariants as read
 use Rattle.repo_state.proofs.BugLemmas.{bug_no_fault, bug_not_damaged, one_bug}
-use Rattle.repo_state.proofs.FoundLemmas.{finds_not_both, finds_the_same}
+use Rattle.repo_state.proofs.FoundLemmas.{finds_not_both, finds_not_many, finds_the_same}
 use Rattle.repo_state.proofs.UndamagedLemmas.{no_bad_found}
 use Rattle.repo_view.specs.Shown.{AgreeOnAuthors, HaveSameCommits, IsShown, ShowAnswers, UsersAnswers}
 use Rattle.repo_view.proofs.PeopleLemmas.{no_bad_among, one_people, one_user, user_not_bad}
@@ -148,6 +148,7 @@ shown_no_fault files folder word text bug authors fault shown finds locals holds
 -- a bug that is shown is not missed
 pub show_not_missed : (files : Files) (folder word text : List ℕ) (why : Missed) → ShowAnswers files folder word (Ok text) → ShowAnswers files folder word (Err (stop.Missed why)) → ⊥
 show_not_missed files folder word text missed.NotFound shown h = finds_not_both (shown.0).id shown.1.found h
+show_not_missed files folder word text (missed.Ambiguous least next) shown h = finds_not_many (shown.0).id least next shown.1.found h
 show_not_missed files folder word text (missed.Damaged path) shown (inl h) = bug_not_damaged files folder word shown.0 shown.2.entity h.0 shown.1 shown.2.is_bug h.1 h.3
 show_not_missed files folder word text (missed.Damaged path) shown (inr (bug, finds, entity, is, bad)) = no_bad_among files folder path shown.2.people shown.2.are_people bad
 

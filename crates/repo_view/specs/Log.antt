@@ -7,7 +7,7 @@ use Rattle.bug_ops.specs.declared.op.BugOp.{BugOp}
 use Rattle.dag_entity.specs.declared.entity.Entity.{Entity}
 use Rattle.render.specs.Log.{log_text_of}
 use Rattle.repo_state.specs.Bugs.{BugRefused, FindsBug, IsBug, IsDamagedBug, ReadsBelow}
-use Rattle.repo_state.specs.Finds.{Finds, Nothing, One}
+use Rattle.repo_state.specs.Finds.{Finds, Many, Nothing, One}
 use Rattle.repo_state.specs.Sides.{ref_place}
 use Rattle.repo_state.specs.declared.side.HeadEntry.{HeadEntry}
 use Rattle.repo_state.specs.declared.side.Side.TheVariants as side
@@ -28,6 +28,7 @@ LogAnswers files folder word (Ok text) = (bug : HeadEntry) × FindsBug files fol
 LogAnswers files folder word (Err stop.Memory) = ⊤
 LogAnswers files folder word (Err stop.Disk) = ⊤
 LogAnswers files folder word (Err (stop.Missed missed.NotFound)) = Finds files folder side.Bugs word Nothing
+LogAnswers files folder word (Err (stop.Missed (missed.Ambiguous least next))) = Finds files folder side.Bugs word (Many least next)
 LogAnswers files folder word (Err (stop.Missed (missed.Damaged path))) =
     (id : Id) × Finds files folder side.Bugs word (One id) × (path ≡ joined folder (ref_place side.Bugs id)) × IsDamagedBug files folder id
 

@@ -18,7 +18,7 @@ use Rattle.render.specs.Users.{users_text_of}
 use Rattle.repo_state.specs.Answers.{HasBadPerson, IsBadUser, IsUser, ReadsPeople}
 use Rattle.repo_state.specs.Bugs.{FindsBug, IsBug, IsDamagedBug, ReadsBelow}
 use Rattle.repo_state.specs.People.{ArePeople}
-use Rattle.repo_state.specs.Finds.{Finds, Nothing, One}
+use Rattle.repo_state.specs.Finds.{Finds, Many, Nothing, One}
 use Rattle.repo_state.specs.Sides.{ref_place}
 use Rattle.repo_state.specs.declared.side.HeadEntry.{HeadEntry}
 use Rattle.repo_state.specs.declared.side.Side.TheVariants as side
@@ -60,6 +60,7 @@ ShowAnswers files folder word (Ok text) = (bug : HeadEntry) × FindsBug files fo
 ShowAnswers files folder word (Err stop.Memory) = ⊤
 ShowAnswers files folder word (Err stop.Disk) = ⊤
 ShowAnswers files folder word (Err (stop.Missed missed.NotFound)) = Finds files folder side.Bugs word Nothing
+ShowAnswers files folder word (Err (stop.Missed (missed.Ambiguous least next))) = Finds files folder side.Bugs word (Many least next)
 ShowAnswers files folder word (Err (stop.Missed (missed.Damaged path))) =
     ((id : Id) × Finds files folder side.Bugs word (One id) × (path ≡ joined folder (ref_place side.Bugs id)) × IsDamagedBug files folder id)
     ⊎ ((bug : HeadEntry) × FindsBug files folder word bug × (entity : Entity BugOp) × IsBug files folder bug entity × HasBadPerson files folder path)
