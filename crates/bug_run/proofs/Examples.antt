@@ -4,7 +4,7 @@ use Rattle.std.specs.Fmt.{digits}
 use Rattle.std.specs.List.{repeat}
 use Rattle.std.proofs.Common.{refl}
 use Rattle.hex.proofs.OnLiterals.{hex_on_literals}
-use Rattle.repo_steps.specs.declared.refusal.Refusal.TheVariants.{ClockFull, Damaged, EntityExists, NameTaken, NoLabelChange, NoUser, NotFound, RepeatedOperation, SameStatus, TooLarge}
+use Rattle.repo_steps.specs.declared.refusal.Refusal.TheVariants.{Ambiguous, ClockFull, Damaged, EntityExists, NameTaken, NoLabelChange, NoUser, NotFound, RepeatedOperation, SameStatus, TooLarge}
 use Rattle.repo_state.specs.Users.{id_line}
 use Rattle.repo_steps.specs.declared.refusal.Stop.TheVariants as stop
 use Rattle.bug_run.specs.Refusals.{refusal_line, usage_text}
@@ -74,6 +74,10 @@ line_of_no_user = refl
 line_of_nothing_found : refusal_line (ByCommand NotFound) ≡ codes "refused 2 not found\n"
 unfolding digits hex_on_literals
 line_of_nothing_found = refl
+
+line_of_several_found : refusal_line (ByCommand (Ambiguous (record { bytes = repeat 32 (10 ∷ []) }) (record { bytes = repeat 32 (11 ∷ []) }))) ≡ codes "refused 3 ambiguous " ++ repeat 32 (codes "0a") ++ codes " " ++ repeat 32 (codes "0b") ++ codes "\n"
+unfolding digits hex_on_literals
+line_of_several_found = refl
 
 line_of_a_full_clock : refusal_line (ByCommand (ClockFull (record { bytes = repeat 20 (11 ∷ []) }))) ≡ codes "refused 7 clock full " ++ repeat 20 (codes "0b") ++ codes "\n"
 unfolding digits hex_on_literals

@@ -1,7 +1,7 @@
 -- In a sound folder a command is done wherever nothing is a cause to refuse it; and what is printed of a bug.
 use Rattle.std.proofs.Common.{◌≡◌, ◌⊎◌, inl, inr, ℕ, Bool, IsTrue, List, ◌++◌, Result, Ok, Err, refl, ◌∙◌, ap, subst}
 use Rattle.gb_store.specs.Files.{Files, History, files_of}
-use Rattle.repo_state.specs.Finds.{Finds, Nothing}
+use Rattle.repo_state.specs.Finds.{FindsNoId}
 use Rattle.repo_state.specs.Sound.{IsSound}
 use Rattle.repo_steps.specs.declared.env.Env.{Env}
 use Rattle.repo_steps.specs.declared.refusal.Refusal.{Refusal}
@@ -30,12 +30,14 @@ use Rattle.bug_run.proofs.WordLemmas.{answered, printed_told}
 -- ---- commands that read
 
 module _ (files : Files) (folder : List ℕ) (sound : IsSound folder files) where
-  show_served : (word : List ℕ) → (Finds files folder side.Bugs word Nothing → ⊥) → (why : Missed) → ShowAnswers files folder word (Err (find.Missed why)) → ⊥
-  show_served word finds missed.NotFound is = finds is
+  show_served : (word : List ℕ) → ((why : Missed) × FindsNoId files folder side.Bugs word why → ⊥) → (why : Missed) → ShowAnswers files folder word (Err (find.Missed why)) → ⊥
+  show_served word finds missed.NotFound is = finds (missed.NotFound, is)
+  show_served word finds (missed.Ambiguous least next) is = finds (missed.Ambiguous least next, is)
   show_served word finds (missed.Damaged path) is = show_not_damaged files folder word path sound is
 
-  log_served : (word : List ℕ) → (Finds files folder side.Bugs word Nothing → ⊥) → (why : Missed) → LogAnswers files folder word (Err (find.Missed why)) → ⊥
-  log_served word finds missed.NotFound is = finds is
+  log_served : (word : List ℕ) → ((why : Missed) × FindsNoId files folder side.Bugs word why → ⊥) → (why : Missed) → LogAnswers files folder word (Err (find.Missed why)) → ⊥
+  log_served word finds missed.NotFound is = finds (missed.NotFound, is)
+  log_served word finds (missed.Ambiguous least next) is = finds (missed.Ambiguous least next, is)
   log_served word finds (missed.Damaged path) is = log_not_damaged files folder word path sound is
 
 -- no command is refused

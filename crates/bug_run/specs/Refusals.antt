@@ -3,7 +3,7 @@ use Rattle.std.specs.Prelude.{ℕ, List, ◌++◌, codes, decimal}
 use Rattle.hex.specs.Hex.{encode_lower}
 use Rattle.repo_steps.specs.Stops.{number_of as command_number}
 use Rattle.repo_steps.specs.declared.refusal.Refusal.{Refusal}
-use Rattle.repo_steps.specs.declared.refusal.Refusal.TheVariants.{NoUser, NotFound, NoLabelChange, SameStatus, ClockFull, RepeatedOperation, EntityExists, NameTaken, TooLarge, Damaged}
+use Rattle.repo_steps.specs.declared.refusal.Refusal.TheVariants.{NoUser, NotFound, Ambiguous, NoLabelChange, SameStatus, ClockFull, RepeatedOperation, EntityExists, NameTaken, TooLarge, Damaged}
 use Rattle.bug_run.specs.declared.status.Refused.{Refused}
 use Rattle.bug_run.specs.declared.status.Refused.TheVariants.{ByCommand, ByWords, SomeLines}
 use Rattle.words.specs.declared.words.BadWord.TheVariants.{BadFolder, BadText}
@@ -19,6 +19,7 @@ number_of (ByWords BadFolder) = 17
 abbrev pub refusal_words : Refusal → List ℕ
 refusal_words NoUser = codes "no user"
 refusal_words NotFound = codes "not found"
+refusal_words (Ambiguous least next) = codes "ambiguous " ++ encode_lower least.bytes ++ codes " " ++ encode_lower next.bytes
 refusal_words NoLabelChange = codes "no label change"
 refusal_words SameStatus = codes "same status"
 refusal_words (ClockFull name) = codes "clock full " ++ encode_lower name.bytes

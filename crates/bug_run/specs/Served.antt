@@ -8,22 +8,23 @@ use Rattle.dag_entity.specs.Entities.{IsOperationList}
 use Rattle.identity.specs.declared.chain.Person.{Person}
 use Rattle.render.specs.Show.{show_text_of}
 use Rattle.repo_state.specs.Bugs.{FindsBug}
-use Rattle.repo_state.specs.Finds.{Finds, Nothing}
+use Rattle.repo_state.specs.Finds.{FindsNoId}
 use Rattle.repo_state.specs.People.{ArePeople}
 use Rattle.repo_steps.specs.declared.env.Env.{Env}
 use Rattle.repo_steps.specs.declared.refusal.Refusal.{Refusal}
 use Rattle.repo_state.specs.declared.side.HeadEntry.{HeadEntry}
 use Rattle.repo_state.specs.declared.side.Side.TheVariants as side
+use Rattle.repo_state.specs.declared.stop.Missed.{Missed}
 use Rattle.repo_steps.specs.Doings.{Refused}
 use Rattle.snapshot.specs.LastMention.{snapshot_of}
 use Rattle.words.specs.declared.words.Command.{Command}
 use Rattle.words.specs.declared.words.Command.TheVariants.{Edit, Log, Show, Users}
 
--- a command has a cause to be refused: a check of an edit fails, or the word of a command that reads a bug finds none
+-- a command has a cause to be refused: a check of an edit fails, or the word of a command that reads a bug finds none, or several
 abbrev pub HasCause : Env → Command → History → Type 0
 HasCause env Users old = ⊥
-HasCause env (Show word) old = Finds (files_of old) env.folder side.Bugs word Nothing
-HasCause env (Log word) old = Finds (files_of old) env.folder side.Bugs word Nothing
+HasCause env (Show word) old = (why : Missed) × FindsNoId (files_of old) env.folder side.Bugs word why
+HasCause env (Log word) old = (why : Missed) × FindsNoId (files_of old) env.folder side.Bugs word why
 HasCause env (Edit edit) old = (r : Refusal) × Refused env edit old r
 
 -- a text shows the bug that a word finds: by what the operations of the operation commits below its head say, in order of edit

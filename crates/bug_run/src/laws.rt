@@ -1,5 +1,5 @@
 //! Laws of runs, each the contract of a function that does nothing.
-ghost use Rattle.std.specs.Prelude.{◌≡◌, ◌⊎◌, ◌≤◌, ◌+◌, ◌++◌, [], IsTrue, Contains, List, ℕ, Ok, Err, codes};
+ghost use Rattle.std.specs.Prelude.{◌≡◌, ◌⊎◌, ◌≤◌, ◌+◌, ◌++◌, [], IsTrue, Contains, List, ℕ, Result, Ok, Err, codes};
 ghost use Rattle.hex.specs.Hex.{encode_lower};
 ghost use Rattle.gb_text.specs.declared.id.Id.{Id};
 ghost use Rattle.gb_text.specs.declared.ruled.Line.{Line};
@@ -7,13 +7,17 @@ ghost use Rattle.gb_text.specs.declared.ruled.Message.{Message};
 ghost use Rattle.gb_text.specs.declared.ruled.Title.{Title};
 ghost use Rattle.gb_store.specs.Files.{Files, History, files_of};
 ghost use Rattle.repo_state.specs.Sound.{IsSound};
+ghost use Rattle.repo_state.specs.declared.side.Side.TheVariants as side;
 ghost use Rattle.repo_writes.specs.Kept.{LosesNothing};
+ghost use Rattle.bug_edits.specs.declared.edit.BugEdit.{BugEdit as BugEditValue};
 ghost use Rattle.repo_steps.specs.Steps.{Steps};
 ghost use Rattle.words.specs.declared.edit.Edit.{Edit as Edits};
 ghost use Rattle.words.specs.declared.edit.Edit.TheVariants as edits;
 ghost use Rattle.repo_steps.specs.declared.env.Env.{Env};
 ghost use Rattle.repo_steps.specs.declared.refusal.Refusal.{Refusal};
+ghost use Rattle.repo_steps.specs.declared.refusal.Stop.{Stop};
 ghost use Rattle.repo_steps.specs.declared.refusal.Stop.TheVariants as stop;
+ghost use Rattle.bug_run.specs.Alike.{FindsAlike};
 ghost use Rattle.bug_run.specs.Printed.{IsTold};
 ghost use Rattle.bug_run.specs.Reads.{ReadsCommand};
 ghost use Rattle.bug_run.specs.Run.{Call, CommandAnswers, RunAnswers, env_at};
@@ -49,7 +53,7 @@ pub fn runs_from_nothing_are_sound()
 
 /// In a sound folder a command is done wherever nothing is a cause to refuse it, but where the store
 /// fails, the output fails or memory runs out. An edit has a cause where a check of it fails, a command
-/// that reads a bug where its argument finds none, and the list of people has none.
+/// that reads a bug where its argument finds none or several, and the list of people has none.
 pub fn sound_folders_are_served()
     ensures { (call : Call) (old new : History) (before after : List ℕ) (answer : StatusValue)
         (request : Request) → IsTrue call.store_tells → call.asked ≡ asked.Request request
@@ -89,6 +93,28 @@ pub fn answers_are_determined()
         → ((edit : Edits) → command ≡ ask.Edit edit → ⊥)
         → CommandAnswers env command old one (Err (stop.Refused first))
         → CommandAnswers env command elder two (Err (stop.Refused second)) → first ≡ second }
+{}
+
+/// The answer to a command depends on a word for a bug or an identity only by what that finds. Two words
+/// that find the same give the same answers, and the same writes.
+pub fn answers_depend_on_what_words_find()
+    ensures show { (env : Env) (old new : History) (word other : List ℕ)
+        (result : Result Answer Stop) → FindsAlike (files_of old) env.folder side.Bugs word other
+        → CommandAnswers env (ask.Show word) old new result
+        → CommandAnswers env (ask.Show other) old new result }
+    ensures log { (env : Env) (old new : History) (word other : List ℕ)
+        (result : Result Answer Stop) → FindsAlike (files_of old) env.folder side.Bugs word other
+        → CommandAnswers env (ask.Log word) old new result
+        → CommandAnswers env (ask.Log other) old new result }
+    ensures edit { (env : Env) (old new : History) (word other : List ℕ) (edit : BugEditValue)
+        (result : Result Answer Stop) → FindsAlike (files_of old) env.folder side.Bugs word other
+        → CommandAnswers env (ask.Edit (edits.OfBug word edit)) old new result
+        → CommandAnswers env (ask.Edit (edits.OfBug other edit)) old new result }
+    ensures user { (env : Env) (old new : History) (word other : List ℕ)
+        (result : Result Answer Stop)
+        → FindsAlike (files_of old) env.folder side.Identities word other
+        → CommandAnswers env (ask.Edit (edits.UserSet word)) old new result
+        → CommandAnswers env (ask.Edit (edits.UserSet other)) old new result }
 {}
 
 /// A done command that edits prints the line of the id of what it made, and no refusal.

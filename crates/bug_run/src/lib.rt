@@ -11,9 +11,9 @@ mod top;
 mod usage;
 
 pub use laws::{
-    answers_are_determined, edits_read_few_objects, edits_tell_what_they_made,
-    runs_from_nothing_are_sound, runs_keep_folders, show_prints_the_operations_in_order,
-    sound_folders_are_served, words_decide_first,
+    answers_are_determined, answers_depend_on_what_words_find, edits_read_few_objects,
+    edits_tell_what_they_made, runs_from_nothing_are_sound, runs_keep_folders,
+    show_prints_the_operations_in_order, sound_folders_are_served, words_decide_first,
 };
 pub use moment::moment_of;
 pub use status::{Refused, Status};

@@ -1,5 +1,5 @@
 //! The lines that tell refusals.
-ghost use Rattle.std.specs.Prelude.{◌≡◌, ◌++◌, IfOk, decimal};
+ghost use Rattle.std.specs.Prelude.{◌≡◌, ◌++◌, IfOk, codes, decimal};
 ghost use Rattle.hex.specs.Hex.{encode_lower};
 ghost use Rattle.render.specs.Lines.{Adds};
 ghost use Rattle.bug_run.specs.Refusals.{number_of, refusal_line, refusal_words, words_of};
@@ -54,6 +54,7 @@ fn push_refusal(line: &mut String, refusal: &Refusal) -> Result<(), AllocError>
     match refusal {
         Refusal::NoUser => line.push_str("no user"),
         Refusal::NotFound => line.push_str("not found"),
+        Refusal::Ambiguous(least, next) => push_with_ids(line, "ambiguous ", least, next),
         Refusal::NoLabelChange => line.push_str("no label change"),
         Refusal::SameStatus => line.push_str("same status"),
         Refusal::ClockFull(name) => push_with_name(line, "clock full ", name),
@@ -82,6 +83,15 @@ fn push_with_id(line: &mut String, words: &str, id: &Id) -> Result<(), AllocErro
 {
     line.push_str(words)?;
     push_id(line, id)
+}
+
+// Adds words and two ids.
+fn push_with_ids(line: &mut String, words: &str, first: &Id, second: &Id) -> Result<(), AllocError>
+    ensures { Adds result line.old line.new
+        (words.now ++ encode_lower first.now.bytes ++ codes " " ++ encode_lower second.now.bytes) }
+{
+    push_with_id(line, words, first)?;
+    push_with_id(line, " ", second)
 }
 
 // Adds words and a name.
