@@ -12,3 +12,5 @@ mod changes;
 mod damage;
 #[cfg(test)]
 mod people;
+#[cfg(test)]
+mod prefixes;

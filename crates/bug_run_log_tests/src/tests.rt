@@ -208,9 +208,9 @@ const WORDS: &[Row] = &[
     Refused(&["f", "log", "--"], 0, NOT_FOUND, 10),
     Refused(&["f", "log", "x/../3912"], 0, NOT_FOUND, 10),
     Refused(&["g", "log", BUG], 0, NOT_FOUND, 10),
-    Refused(&["f", "log", SHORT], 0, NOT_FOUND, 10),
     Refused(&["f", "log", CAPITALS], 0, NOT_FOUND, 10),
     Done(&["./f/", "log", BUG], 0, GOOD_LOG, 10),
+    Done(&["f", "log", SHORT], 0, GOOD_LOG, 10),
 ];
 
 #[test]
