@@ -167,7 +167,7 @@ pub fn objects_and_state_are_apart()
         ≡ objects_in files folder }
 {}
 
-/// A word fits an id if it is some of the id's first digits, at least one, and a ref of the id stands. What
+/// An argument fits an id if it is some of the id's first digits, at least one, and the id has a ref. What
 /// it finds is one thing: the only id that it fits, nothing, or several, and then the two least are named.
 /// All 64 digits of an id find it.
 pub fn words_find_ids_by_their_first_digits()
@@ -193,8 +193,8 @@ pub fn words_find_ids_by_their_first_digits()
         → Finds files folder of (encode_lower id.bytes) (One id) }
 {}
 
-/// Where a word finds one id, a longer one finds the same id if it fits it, and else nothing. Where a
-/// word finds nothing, so does a longer one.
+/// Where an argument finds one id, a longer one finds the same id if it fits it, and else nothing. Where
+/// an argument finds nothing, so does a longer one.
 pub fn longer_words_find_the_same()
     ensures one { (files : Files) (folder : List ℕ) (of : SideValue) (word more : List ℕ)
         (id other : Id) → Finds files folder of word (One id)
