@@ -29,7 +29,7 @@ pub fn read<R: Files>(rt: &R, alloc: Global, path: &str, limit: u64) -> io::Resu
     ensures within { IfOk result (IsWithin limit) }
 {
     match open_file(rt, path)? {
-        Some(file) => read_from(alloc, file, limit),
+        Some((file, size)) => read_from(alloc, file, size, limit),
         None => Ok(Content::Absent),
     }
 }
@@ -38,32 +38,60 @@ pub fn read<R: Files>(rt: &R, alloc: Global, path: &str, limit: u64) -> io::Resu
 pub fn read_synced<R: Files>(rt: &R, alloc: Global, path: &str, limit: u64) -> io::Result<Content>
     ensures within { IfOk result (IsWithin limit) }
 {
-    let Some(file) = open_file(rt, path)? else {
+    let Some((file, size)) = open_file(rt, path)? else {
         return Ok(Content::Absent);
     };
     file.sync_all()?;
-    read_from(alloc, file, limit)
+    read_from(alloc, file, size, limit)
 }
 
-// What an open file holds.
-fn read_from<F: Read + Drop>(alloc: Global, file: F, limit: u64) -> io::Result<Content>
+// What an open file holds, which had so many bytes when it was looked at.
+fn read_from<F: Read + Drop>(alloc: Global, file: F, size: u64, limit: u64) -> io::Result<Content>
     ensures within { IfOk result (IsWithin limit) }
 {
+    let mut file = file;
     let mut bytes = Vec::new(alloc);
-    file.take(limit.saturating_add(1)).read_to_end(&mut bytes)?;
+    let most = limit.saturating_add(1);
+    if !is_read_at_once(&mut file, &mut bytes, size, most)? {
+        let left = most.saturating_sub(bytes.len() as u64);
+        file.take(left).read_to_end(&mut bytes)?;
+    }
     if bytes.len() as u64 > limit {
         return Ok(Content::Long);
     }
     Ok(Content::Whole(Bytes::from_vec(bytes)))
 }
 
-// Opens the plain file at a path. A pipe there would make the call wait, so the path is looked at first.
-fn open_file<R: Files>(rt: &R, path: &str) -> io::Result<Option<R::File>> {
-    if file_at(rt, path)?.is_none() {
-        return Ok(None);
+// Reads the start of a file with one call, which asks for one byte more than the file had when it was looked at, but for no
+// more than `most`. Whether that was the whole file: it was if the file has neither grown nor shrunk since.
+fn is_read_at_once<F: Read>(
+    file: &mut F,
+    bytes: &mut Vec<u8>,
+    size: u64,
+    most: u64,
+) -> io::Result<bool> {
+    bytes.resize(size.saturating_add(1).min(most) as usize, 0)?;
+    match file.read(bytes.as_mut_slice()) {
+        Ok(count) => {
+            bytes.truncate(count);
+            Ok(count as u64 == size)
+        }
+        Err(e) if e.kind() == ErrorKind::Interrupted => {
+            bytes.clear();
+            Ok(false)
+        }
+        Err(e) => Err(e),
     }
+}
+
+// Opens the plain file at a path, and says how many bytes it had. A pipe there would make the call wait, so the path is
+// looked at first.
+fn open_file<R: Files>(rt: &R, path: &str) -> io::Result<Option<(R::File, u64)>> {
+    let Some(entry) = file_at(rt, path)? else {
+        return Ok(None);
+    };
     match fs::open(rt, path) {
-        Ok(file) => Ok(Some(file)),
+        Ok(file) => Ok(Some((file, entry.len()))),
         Err(e) if is_absence(&e) => Ok(None),
         Err(e) => Err(e),
     }

@@ -45,12 +45,13 @@ impl Folders {
         }
     }
 
-    /// What stands at a path.
+    /// What stands at a path. The caller knows whether the path is that of an object.
     pub fn read<R: Locking>(
         &mut self,
         rt: &R,
         alloc: Global,
         path: &str,
+        is_object: bool,
         limit: u64,
     ) -> Result<Content, Failure>
         ensures within { IfOk result (IsWithin limit) }
@@ -61,7 +62,7 @@ impl Folders {
             return Ok(Content::Absent);
         }
         let content = at(alloc, Call::Read, path, disk::read(rt, alloc, path, limit))?;
-        if claim.purpose == Purpose::Write && Kind::of(path) == Kind::Other {
+        if claim.purpose == Purpose::Write && !is_object && Kind::of(path) == Kind::Other {
             self.note_found(rt, alloc, path, &content)?;
         }
         Ok(content)

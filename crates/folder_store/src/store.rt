@@ -116,11 +116,12 @@ impl<R: Locking + AllocGlobal + Clone + Drop> Store for FolderStore<R> {
     ghost never_fails = { λ _. false };
 
     fn read(&mut self, alloc: Global, path: &str, limit: u64) -> Result<Content, StoreFault> {
-        if is_object_path(path) {
+        let is_object = is_object_path(path);
+        if is_object {
             let reads = self.reads;
             self.reads = reads.saturating_add(1);
         }
-        let content = self.folders.read(&self.rt, alloc, path, limit);
+        let content = self.folders.read(&self.rt, alloc, path, is_object, limit);
         self.settle(content)
     }
 

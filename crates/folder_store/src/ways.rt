@@ -37,14 +37,16 @@ impl Ways {
         if self.seen.contains(folder) {
             return Ok(true);
         }
-        for end in 0..folder.len() {
-            if let Some(front) = front_at(folder, end) {
-                if !self.is_folder(rt, alloc, claim, front)? {
-                    return Ok(false);
+        if !self.seen.contains(folder_of(folder)) {
+            for end in 0..folder.len() {
+                if let Some(front) = front_at(folder, end) {
+                    if !self.is_folder(rt, alloc, claim, front)? {
+                        return Ok(false);
+                    }
                 }
             }
         }
-        self.is_folder(rt, alloc, claim, folder)
+        self.look(rt, alloc, claim, folder)
     }
 
     /// Makes a folder with those above it, as far as they are missing, and adds each folder above it to those that are to be
@@ -102,6 +104,17 @@ impl Ways {
         if self.seen.contains(folder) {
             return Ok(true);
         }
+        self.look(rt, alloc, claim, folder)
+    }
+
+    // The same for a folder that was not seen before.
+    fn look<R: Files>(
+        &mut self,
+        rt: &R,
+        alloc: Global,
+        claim: &Claim,
+        folder: &str,
+    ) -> Result<bool, Failure> {
         let looked = if claim.covers(folder) {
             disk::entry_at(rt, folder)
         } else {

@@ -3,8 +3,9 @@ use crate::fake::{Fake, Notes};
 use crate::system::{Testing, count, is_free, link, make_dir, write};
 use bug_edits::EDITS;
 use bug_run::Status;
-use gb_store::MemSink;
-use gb_text::List;
+use folder_store::{Claim, FolderStore, Purpose};
+use gb_store::{Content, MemSink, Store};
+use gb_text::{Folder, List};
 use gitbug_edge::{VERSION, run_over_folders};
 use std::os::unix::fs::PermissionsExt;
 use std::test::Fail;
@@ -23,6 +24,7 @@ pub fn try_all<R: Testing>(rt: &R) -> Result<(), Fail> {
     the_clock_and_random_bytes_are_used(rt)?;
     folders_are_synced_after_their_files(rt)?;
     objects_that_were_left_are_synced(rt)?;
+    files_that_change_are_read_whole(rt)?;
     Ok(())
 }
 
@@ -96,13 +98,15 @@ fn is_usage(ran: &Ran) -> bool {
 
 // Words that give no command, and what is said of them.
 fn usage_is_explained<R: Testing>(rt: &R) -> Result<(), Fail> {
-    let told: [(&[&str], &str); 6] = [
+    let told: [(&[&str], &str); 8] = [
         (&[], "gitbug: a folder and a command are missing\n"),
         (&["f", "nope", "x"], "gitbug: there is no command nope\n"),
         (&["f", "users", "x"], "gitbug: users takes no arguments\n"),
         (&["f", "meta"], "gitbug: meta takes ID KEY VALUE\n"),
         (&["help"], "commands:\n"),
         (&["--help"], "commands:\n"),
+        (&["f", "show", "--help"], "commands:\n"),
+        (&["f", "show", "-x"], "gitbug: show takes ID\n"),
     ];
     for (words, line) in &told {
         let ran = run_at(rt, words)?;
@@ -310,4 +314,43 @@ fn objects_that_were_left_are_synced<R: Testing>(rt: &R) -> Result<(), Fail> {
         .count();
     assert_eq!(rt; opens, 6);
     Ok(())
+}
+
+// A file is read whole, or is too long, by the bytes that it has when it is read, however many it had when it was looked at.
+fn files_that_change_are_read_whole<R: Testing>(rt: &R) -> Result<(), Fail> {
+    make_dir(rt, "c")?;
+    let texts = ["", "1", "22", "333", "4444"];
+    for then in texts {
+        write(rt, "c/a-then", then)?;
+        for now in texts {
+            write(rt, "c/a-now", now)?;
+            for limit in 0..5 {
+                assert!(rt; is_read(rt, now, limit)?);
+            }
+        }
+    }
+    let mut long = Vec::new(rt.alloc());
+    long.resize(20_000, b'7')?;
+    let long = String::from_utf8_lossy(rt.alloc(), &long)?;
+    write(rt, "c/a-now", long.as_str())?;
+    assert!(rt; is_read(rt, long.as_str(), 19_999)? && is_read(rt, long.as_str(), 20_000)?);
+    Ok(())
+}
+
+// Whether the file gives this text, or is too long for the limit.
+fn is_read<R: Testing>(rt: &R, text: &str, limit: u64) -> Result<bool, Fail> {
+    let alloc = rt.alloc();
+    let notes = Notes::new(alloc);
+    let mut claims = Vec::new(alloc);
+    claims.push(Claim {
+        folder: Folder::read(alloc, "c")?,
+        purpose: Purpose::Read,
+    })?;
+    let mut store = FolderStore::new(Fake::new(rt, Duration::ZERO, &notes), claims);
+    Ok(match store.read(alloc, "c/a-now", limit)? {
+        Content::Whole(bytes) => bytes.as_slice() == text.as_bytes()
+            && bytes.as_slice().len() as u64 <= limit,
+        Content::Long => text.len() as u64 > limit,
+        Content::Absent => false,
+    })
 }

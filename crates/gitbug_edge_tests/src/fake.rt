@@ -63,7 +63,7 @@ fn note(texts: &RefCell<String>, text: &str) -> io::Result<()> {
 }
 
 /// The system, at one time of the clock. Its random bytes are 0, 1, 2 and so on. A signal interrupts every second look at what
-/// a path names.
+/// a path names. A look at a file `NAME-now` itself sees the file `NAME-then`, as if it had changed since.
 #[derive(Clone, Drop)]
 pub struct Fake<'a, R: Testing> {
     host: &'a R,
@@ -203,7 +203,13 @@ impl<'a, R: Testing> Files for Fake<'a, R> {
     }
 
     fn symlink_metadata(&self, path: &str) -> io::Result<Metadata> {
-        self.host.symlink_metadata(path)
+        match path.strip_suffix("-now") {
+            Some(name) => {
+                let then = format!(in self.alloc(); "{name}-then")?;
+                self.host.symlink_metadata(then.as_str())
+            }
+            None => self.host.symlink_metadata(path),
+        }
     }
 
     fn copy(&self, _from: &str, _to: &str) -> io::Result<u64> {
