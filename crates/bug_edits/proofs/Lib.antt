@@ -1,4 +1,5 @@
 pub mod ArgumentLemmas
+pub mod CommentEditLemmas
 pub mod EditLemmas
 pub mod GivenLemmas
 pub mod LabelLemmas

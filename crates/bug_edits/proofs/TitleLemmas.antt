@@ -33,26 +33,26 @@ with_the_first bytes place word left title is =
     with_one_more bytes (titles_from place (map bytes (word ∷ left))) [] place word left title is (none_yet (titles_from place (map bytes (word ∷ left))))
 
 -- the words from one on
-from_word : {X : Type 0} (words : List X) (index : ℕ) (word : X) → index < length words → word ≡ get_or words index word → drop index words ≡ word ∷ drop (index + 1) words
-from_word words index word within is =
+from_word : {X : Type 0} (words : List X) (index : ℕ) (d : X) → index < length words → drop index words ≡ get_or words index d ∷ drop (index + 1) words
+from_word words index d within =
     let next : suc index ≡ index + 1 = omega arith in
-    drop-cons words index word within ∙ ap (λ w. w ∷ drop (suc index) words) (sym is) ∙ ap (λ n. word ∷ drop n words) next
+    drop-cons words index d within ∙ ap (λ n. get_or words index d ∷ drop n words) next
 
-pub with_the_next : {X : Type 0} (bytes : X → List ℕ) (all : Result (List Title) ℕ) (titles : List Title) (words : List X) (index : ℕ) (word : X) (title : Title)
-    → index < length words → word ≡ get_or words index word → Some title ≡ title_of (bytes word)
+pub with_the_next : {X : Type 0} (bytes : X → List ℕ) (all : Result (List Title) ℕ) (titles : List Title) (words : List X) (index : ℕ) (d : X) (title : Title)
+    → index < length words → Some title ≡ title_of (bytes (get_or words index d))
     → So bytes all titles (index + 3) (drop index words) → So bytes all (titles ++ title ∷ []) (index + 1 + 3) (drop (index + 1) words)
-with_the_next bytes all titles words index word title within at_index is so =
+with_the_next bytes all titles words index d title within is so =
     let next : index + 3 + 1 ≡ index + 1 + 3 = omega arith in
     subst (λ place. So bytes all (titles ++ title ∷ []) place (drop (index + 1) words)) next
-    (with_one_more bytes all titles (index + 3) word (drop (index + 1) words) title is (subst (So bytes all titles (index + 3)) (from_word words index word within at_index) so))
+    (with_one_more bytes all titles (index + 3) (get_or words index d) (drop (index + 1) words) title is (subst (So bytes all titles (index + 3)) (from_word words index d within) so))
 
 -- a word that is no title ends it
-pub ends_there : {X : Type 0} (bytes : X → List ℕ) (all : Result (List Title) ℕ) (titles : List Title) (words : List X) (index : ℕ) (word : X)
-    → index < length words → word ≡ get_or words index word → None ≡ title_of (bytes word) → So bytes all titles (index + 3) (drop index words) → Err (index + 3) ≡ all
-ends_there bytes all titles words index word within at_index is so =
+pub ends_there : {X : Type 0} (bytes : X → List ℕ) (all : Result (List Title) ℕ) (titles : List Title) (words : List X) (index : ℕ) (d : X)
+    → index < length words → None ≡ title_of (bytes (get_or words index d)) → So bytes all titles (index + 3) (drop index words) → Err (index + 3) ≡ all
+ends_there bytes all titles words index d within is so =
     let left = drop (index + 1) words in
     let ends : all ≡ Err (index + 3) =
-    subst (So bytes all titles (index + 3)) (from_word words index word within at_index) so
+    subst (So bytes all titles (index + 3)) (from_word words index d within) so
     ∙ ap (λ o. made (made_of_two (at (index + 3) o) (titles_from (index + 3 + 1) (map bytes left)) (λ first others. first ∷ others)) (λ others. titles ++ others)) (sym is) in
     sym ends
 

@@ -73,6 +73,10 @@ status_op moment status = SetStatus (new_common moment 4) status
 abbrev pub labels_op : Moment → List (List ℕ) → List (List ℕ) → BugOp
 labels_op moment added removed = LabelChange (new_common moment 5) added removed
 
+-- another message of the comment with this id
+abbrev pub edited_comment_op : Moment → Id → Message → BugOp
+edited_comment_op moment comment message = EditComment (new_common moment 6) comment message.text []
+
 -- an operation that changes nothing
 abbrev pub noop_op : Moment → BugOp
 noop_op moment = NoOp (new_common moment 7)

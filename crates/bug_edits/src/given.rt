@@ -1,5 +1,5 @@
 //! The arguments of edits, each read into its type.
-ghost use Rattle.std.specs.Prelude.{◌≡◌, ◌∷◌, IfOk, OnErr, IsSome, map, string_bytes};
+ghost use Rattle.std.specs.Prelude.{◌≡◌, ◌∷◌, IfOk, OnErr, IsSome, map};
 ghost use Rattle.bug_edits.specs.Given.{given_by, titles_from, two_given};
 ghost use Rattle.bug_edits.specs.declared.given.Form.TheVariants as form;
 
@@ -32,9 +32,9 @@ pub enum Given {
 type Reading = Result<Option<Result<Given, u64>>, Memory>;
 
 /// Arguments of these types, of which the first is the second of a command.
-pub(crate) fn read_given(alloc: Global, form: Form, arguments: &[String]) -> Reading
-    ensures read { IfOk result (λ read. read ≡ given_by form (map string_bytes arguments.now)) }
-    ensures memory { OnErr result (IsSome (given_by form (map string_bytes arguments.now))) }
+pub(crate) fn read_given(alloc: Global, form: Form, arguments: &[&str]) -> Reading
+    ensures read { IfOk result (λ read. read ≡ given_by form (map (λ s. s.now) arguments.now)) }
+    ensures memory { OnErr result (IsSome (given_by form (map (λ s. s.now) arguments.now))) }
 {
     match form {
         Form::Nothing => Ok(nothing(arguments)),
@@ -46,8 +46,8 @@ pub(crate) fn read_given(alloc: Global, form: Form, arguments: &[String]) -> Rea
 }
 
 // No argument.
-fn nothing(arguments: &[String]) -> Option<Result<Given, u64>>
-    ensures { result ≡ given_by form.Nothing (map string_bytes arguments.now) }
+fn nothing(arguments: &[&str]) -> Option<Result<Given, u64>>
+    ensures { result ≡ given_by form.Nothing (map (λ s. s.now) arguments.now) }
 {
     match arguments {
         [] => Some(Ok(Given::Nothing)),
@@ -56,47 +56,47 @@ fn nothing(arguments: &[String]) -> Option<Result<Given, u64>>
 }
 
 // A title.
-fn title(alloc: Global, arguments: &[String]) -> Reading
+fn title(alloc: Global, arguments: &[&str]) -> Reading
     ensures read { IfOk result (λ read. read
-        ≡ given_by form.Title (map string_bytes arguments.now)) }
-    ensures memory { OnErr result (IsSome (given_by form.Title (map string_bytes arguments.now))) }
+        ≡ given_by form.Title (map (λ s. s.now) arguments.now)) }
+    ensures memory { OnErr result (IsSome (given_by form.Title (map (λ s. s.now) arguments.now))) }
 {
     let [title] = arguments else {
         return Ok(None);
     };
-    match Title::read(alloc, title.as_str())? {
+    match Title::read(alloc, title)? {
         Some(title) => Ok(Some(Ok(Given::Title(title)))),
         None => Ok(Some(Err(2))),
     }
 }
 
 // A message.
-fn message(alloc: Global, arguments: &[String]) -> Reading
+fn message(alloc: Global, arguments: &[&str]) -> Reading
     ensures read { IfOk result (λ read. read
-        ≡ given_by form.Message (map string_bytes arguments.now)) }
+        ≡ given_by form.Message (map (λ s. s.now) arguments.now)) }
     ensures memory { OnErr result
-        (IsSome (given_by form.Message (map string_bytes arguments.now))) }
+        (IsSome (given_by form.Message (map (λ s. s.now) arguments.now))) }
 {
     let [message] = arguments else {
         return Ok(None);
     };
-    match Message::read(alloc, message.as_str())? {
+    match Message::read(alloc, message)? {
         Some(message) => Ok(Some(Ok(Given::Message(message)))),
         None => Ok(Some(Err(2))),
     }
 }
 
 // A title and a message.
-fn title_and_message(alloc: Global, arguments: &[String]) -> Reading
+fn title_and_message(alloc: Global, arguments: &[&str]) -> Reading
     ensures read { IfOk result (λ read. read
-        ≡ given_by form.TitleAndMessage (map string_bytes arguments.now)) }
+        ≡ given_by form.TitleAndMessage (map (λ s. s.now) arguments.now)) }
     ensures memory { OnErr result
-        (IsSome (given_by form.TitleAndMessage (map string_bytes arguments.now))) }
+        (IsSome (given_by form.TitleAndMessage (map (λ s. s.now) arguments.now))) }
 {
     let [title, message] = arguments else {
         return Ok(None);
     };
-    Ok(Some(two(alloc, title.as_str(), message.as_str())?))
+    Ok(Some(two(alloc, title, message)?))
 }
 
 // A title and a message, or the place of the first of them that is not one.
@@ -113,10 +113,10 @@ fn two(alloc: Global, title: &str, message: &str) -> Result<Result<Given, u64>, 
 }
 
 // One title or more.
-fn titles(alloc: Global, arguments: &[String]) -> Reading
+fn titles(alloc: Global, arguments: &[&str]) -> Reading
     ensures read { IfOk result (λ read. read
-        ≡ given_by form.Titles (map string_bytes arguments.now)) }
-    ensures memory { OnErr result (IsSome (given_by form.Titles (map string_bytes arguments.now))) }
+        ≡ given_by form.Titles (map (λ s. s.now) arguments.now)) }
+    ensures memory { OnErr result (IsSome (given_by form.Titles (map (λ s. s.now) arguments.now))) }
 {
     let [first, others @ ..] = arguments else {
         return Ok(None);
@@ -130,19 +130,19 @@ fn titles(alloc: Global, arguments: &[String]) -> Reading
 // Titles, of which the first is the second argument; or the place of the first that is none.
 fn titles_from(
     alloc: Global,
-    first: &String,
-    words: &[String],
+    first: &str,
+    words: &[&str],
 ) -> Result<Result<List<Title>, u64>, Memory>
     ensures { IfOk result (λ read. read
-        ≡ titles_from 2 (string_bytes first.now ∷ map string_bytes words.now)) }
+        ≡ titles_from 2 (first.now ∷ map (λ s. s.now) words.now)) }
 {
     let mut titles = Vec::new(alloc);
-    let Some(title) = Title::read(alloc, first.as_str())? else {
+    let Some(title) = Title::read(alloc, first)? else {
         return Ok(Err(2));
     };
     titles.push(title)?;
     for (index, word) in words.iter().enumerate() {
-        let Some(title) = Title::read(alloc, word.as_str())? else {
+        let Some(title) = Title::read(alloc, word)? else {
             return Ok(Err(index as u64 + 3));
         };
         titles.push(title)?;

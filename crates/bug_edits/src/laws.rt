@@ -5,6 +5,7 @@ ghost use Rattle.std.specs.List.Sorted.{IsStrictlySortedBy};
 ghost use Rattle.std.specs.Option.{option_or};
 ghost use Rattle.sha2.specs.Sha256.{sha256};
 ghost use Rattle.gb_text.specs.Digits.{IsId};
+ghost use Rattle.gb_text.specs.declared.id.Id.{Id as IdValue};
 ghost use Rattle.gb_text.specs.declared.ruled.Message.{Message as MessageValue};
 ghost use Rattle.gb_text.specs.declared.ruled.Title.{Title as TitleValue};
 ghost use Rattle.op_kind.specs.declared.place.Common.{Common as CommonValue};
@@ -16,10 +17,11 @@ ghost use Rattle.bug_ops.specs.declared.op.BugOp.{BugOp as OpValue};
 ghost use Rattle.bug_ops.specs.declared.op.BugOp.TheVariants.{LabelChange, SetTitle};
 ghost use Rattle.bug_ops.specs.declared.op.BugStatus.{BugStatus as StatusValue};
 ghost use Rattle.bug_ops.specs.declared.snapshot.Snapshot.{Snapshot as SnapshotValue};
+ghost use Rattle.snapshot.specs.CommentEdits.{AreEdited};
 ghost use Rattle.snapshot.specs.LastMention.{IsBugList, first_value, snapshot_of};
 ghost use Rattle.bug_edits.specs.EditLaws.{with_op};
 ghost use Rattle.bug_edits.specs.EditTable.{KeepsAllElse, edit_op, named_off, named_on, row_of};
-ghost use Rattle.bug_edits.specs.NewOps.{IsOfTheMoment, create_op, nonce_from, texts_of};
+ghost use Rattle.bug_edits.specs.NewOps.{IsOfTheMoment, create_op, edited_comment_op, nonce_from, texts_of};
 ghost use Rattle.bug_edits.specs.declared.edit.BugEdit.{BugEdit as BugEditValue};
 ghost use Rattle.bug_edits.specs.declared.edit.BugEdit.TheVariants as kind;
 ghost use Rattle.bug_edits.specs.declared.edit.NoChange.{NoChange as NoChangeValue};
@@ -145,6 +147,31 @@ pub fn operations_are_made_anew()
     ensures nonces { (one other : List ℕ) → one ≢ other → nonce_from one ≡ nonce_from other
         → (text : List ℕ) × (second : List ℕ) × (text ≢ second)
         × (sha256 text ≡ sha256 second) }
+{}
+
+/// With an edit of a comment, the comment with this id has the message, and each other is as it was.
+/// Nothing else changes but who acted, and the clock and the time of the last operation. The operation has
+/// the command's time and seed, and neither metadata of its own nor files; it may follow others, and
+/// satisfies the rules if the id is 32 bytes.
+pub fn edited_comments_have_the_message()
+    ensures comments { (moment : MomentValue) (ops : List OpValue) (place : PlaceValue)
+        (comment : IdValue) (message : MessageValue) → IsBugList ops
+        → AreEdited comment message.text (snapshot_of ops).list
+        (with_op ops place (edited_comment_op moment comment message)).list }
+    ensures rest { (moment : MomentValue) (ops : List OpValue) (place : PlaceValue)
+        (comment : IdValue) (message : MessageValue) → IsBugList ops
+        → (with_op ops place (edited_comment_op moment comment message)).row
+        ≡ record (snapshot_of ops).row {
+          actors = with_person (snapshot_of ops).row.actors place.author;
+          edit = place.edit;
+          last = moment.now;
+        } }
+    ensures anew { (moment : MomentValue) (comment : IdValue) (message : MessageValue)
+        → IsOfTheMoment moment (edited_comment_op moment comment message) }
+    ensures follows { (moment : MomentValue) (comment : IdValue) (message : MessageValue)
+        → bug_kind.is_following (edited_comment_op moment comment message) ≡ true }
+    ensures rules { (moment : MomentValue) (comment : IdValue) (message : MessageValue)
+        → IsId comment → bug_kind.KeepsRules (edited_comment_op moment comment message) }
 {}
 
 /// An operation that a command makes satisfies the rules of bugs' operations, if those of the bug do and

@@ -14,14 +14,15 @@ mod read_laws;
 
 pub use edit::{BugEdit, EditStop, NoChange, edit_op};
 pub use laws::{
-    changed_labels_ascend, edits_keep_all_else, edits_say_what_they_change,
-    edits_tell_who_acted_and_when, edits_that_change_nothing_are_refused,
-    labels_that_change_are_written, operations_are_made_anew, operations_keep_the_rules,
+    changed_labels_ascend, edited_comments_have_the_message, edits_keep_all_else,
+    edits_say_what_they_change, edits_tell_who_acted_and_when,
+    edits_that_change_nothing_are_refused, labels_that_change_are_written,
+    operations_are_made_anew, operations_keep_the_rules,
 };
 pub use moment::Moment;
 pub use names::{EDITS, EditName, read_edit};
 pub use new_op::NewOp;
-pub use operation::create_op;
+pub use operation::{create_op, edited_comment_op};
 pub use read_laws::{
     edits_are_read_as_their_rows_say, first_bad_words_of_edits_are_told, only_these_are_edits,
 };

@@ -1,5 +1,5 @@
 //! The names of edits: a table of the arguments that each takes, and of what is made of them.
-ghost use Rattle.std.specs.Prelude.{◌≡◌, IfOk, OnErr, IsSome, map, string_bytes};
+ghost use Rattle.std.specs.Prelude.{◌≡◌, IfOk, OnErr, IsSome, map};
 ghost use Rattle.bug_edits.specs.EditTable.{edit_from, edit_of, form_of, name_of, name_read};
 
 use crate::edit::BugEdit;
@@ -113,10 +113,10 @@ impl EditName {
 pub fn read_edit(
     alloc: Global,
     name: EditName,
-    arguments: &[String],
+    arguments: &[&str],
 ) -> Result<Option<Result<BugEdit, u64>>, Memory>
-    ensures read { IfOk result (λ read. read ≡ edit_from name (map string_bytes arguments.now)) }
-    ensures memory { OnErr result (IsSome (edit_from name (map string_bytes arguments.now))) }
+    ensures read { IfOk result (λ read. read ≡ edit_from name (map (λ s. s.now) arguments.now)) }
+    ensures memory { OnErr result (IsSome (edit_from name (map (λ s. s.now) arguments.now))) }
 {
     match read_given(alloc, name.form(), arguments)? {
         Some(Ok(given)) => match name.with(given) {

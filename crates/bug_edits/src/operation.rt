@@ -2,8 +2,8 @@
 ghost use Rattle.std.specs.Prelude.{◌≡◌, IfOk};
 ghost use Rattle.op_kind.specs.Bounds.{IsWithinBounds};
 ghost use Rattle.bug_ops.specs.BugForms.{AreLabels};
-ghost use Rattle.bug_edits.specs.NewOps.{comment_op, create_op, labels_op, metadata_op, new_common};
-ghost use Rattle.bug_edits.specs.NewOps.{noop_op, nowhere, status_op, title_op};
+ghost use Rattle.bug_edits.specs.NewOps.{comment_op, create_op, edited_comment_op, labels_op, metadata_op};
+ghost use Rattle.bug_edits.specs.NewOps.{new_common, noop_op, nowhere, status_op, title_op};
 
 use crate::moment::Moment;
 use crate::new_op::NewOp;
@@ -38,6 +38,27 @@ pub(crate) fn comment_op(alloc: Global, moment: &Moment, message: &Message) -> R
 {
     let op = BugOp::AddComment {
         common: new_common(alloc, moment, 3)?,
+        message: Text::from_str(alloc, message.as_str())?,
+        files: List::new(alloc),
+    };
+    Ok(NewOp { op })
+}
+
+/// Another message of the comment that the operation with this id made.
+pub fn edited_comment_op(
+    alloc: Global,
+    moment: &Moment,
+    comment: Id,
+    message: &Message,
+) -> Result<NewOp, Memory>
+    ensures { IfOk result (λ new. new.op
+        ≡ edited_comment_op moment.entry.now comment message.now) }
+{
+    // That an id is 32 bytes is known of one that is printed.
+    let _digits = comment.text();
+    let op = BugOp::EditComment {
+        common: new_common(alloc, moment, 6)?,
+        target: comment,
         message: Text::from_str(alloc, message.as_str())?,
         files: List::new(alloc),
     };

@@ -20,7 +20,8 @@ pub fn explain_usage<R: Eprint>(rt: &R, words: &[String]) -> io::Result<()> {
         explain(rt, Verb::OfBug(edit))?;
     }
     explain_each(rt, &LAST_VERBS)?;
-    eprintln!(rt; "  gitbug --help\n  gitbug --version")
+    eprintln!(rt; "  gitbug --help\n  gitbug --version")?;
+    eprintln!(rt; "Put -- before arguments that begin with -.")
 }
 
 // These commands, each with its arguments.

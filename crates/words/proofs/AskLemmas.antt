@@ -1,5 +1,6 @@
 -- What commands ask for, and in which order arguments are judged.
-use Rattle.std.proofs.Common.{◌≡◌, ◌≤◌, ◌<◌, ◌∙◌, ◌-◌, refl, sym, ap, subst, ℕ, List, [], ◌∷◌, length, take, drop, get_or, map, codes, arith, IsSome, Option, Some, None, Result, Ok, Err}
+use Rattle.std.proofs.Common.{◌≡◌, ◌≤◌, ◌<◌, ◌∙◌, refl, sym, ap, subst, ℕ, List, [], ◌∷◌, length, get_or, map, codes, arith, IsSome, Option, Some, None, Result, Ok, Err}
+use Rattle.std.specs.Prelude.{option_and_then}
 use Rattle.gb_text.specs.Folder.{folder_of}
 use Rattle.gb_text.specs.Ruled.{line_of, message_of, title_of}
 use Rattle.gb_text.specs.declared.ruled.Line.{Line}
@@ -7,13 +8,16 @@ use Rattle.gb_text.specs.declared.ruled.Message.{Message}
 use Rattle.gb_text.specs.declared.ruled.Title.{Title}
 use Rattle.gb_text.proofs.RuledLemmas.{the_line, the_message, the_title}
 use Rattle.bug_edits.specs.EditTable.{name_of as name_of_edit, row_of}
-use Rattle.bug_edits.specs.Given.{HasTitles, given_texts, made}
+use Rattle.bug_edits.specs.Given.{HasTitles, at, given_texts, made}
 use Rattle.bug_edits.specs.declared.edit.BugEdit.{BugEdit}
 use Rattle.bug_edits.proofs.ArgumentLemmas.{begin_with_two}
 use Rattle.bug_edits.proofs.GivenLemmas.{both}
 use Rattle.bug_edits.proofs.ReadLemmas.{row_named}
-use Rattle.words.specs.Words.{IsCommand, asked_by, asked_in, asked_of, command_of, of_bug}
+use Rattle.words.specs.Arguments.{arguments_of}
+use Rattle.words.specs.Verbs.{verb_of}
+use Rattle.words.specs.Words.{NamesCommand, asked_by, asked_of, by_verb, command_from, command_of, of_bug}
 use Rattle.words.specs.declared.edit.Edit.TheVariants as edits
+use Rattle.words.specs.declared.verb.Verb.{Verb}
 use Rattle.words.specs.declared.words.Asked.TheVariants as asked
 use Rattle.words.specs.declared.words.BadWord.TheVariants.{BadFolder, BadText}
 use Rattle.words.specs.declared.words.Command.{Command}
@@ -34,30 +38,45 @@ pub new : (title : Title) (message : Message) → command_of (codes "new") (titl
 new title message =
     ap Some (both 1 2 (title_of title.text) (message_of message.text) title message (λ t m. ask.Edit (edits.New t m)) (the_title title) (the_message message))
 
+pub edit_comment : (comment : List ℕ) (message : Message) → command_of (codes "edit") (comment ∷ message.text ∷ []) ≡ Some (Ok (ask.Edit (edits.OfComment comment message)))
+edit_comment comment message = ap (λ o. Some (made (at 2 o) (λ read. ask.Edit (edits.OfComment comment read)))) (the_message message)
+
 -- each edit is asked for by the name and the arguments of its row
 pub each : (bug : List ℕ) (e : BugEdit) → HasTitles (row_of e).words → command_of (name_of_edit (row_of e).name) (bug ∷ given_texts (row_of e).words) ≡ Some (Ok (of_bug bug e))
 each bug e some = edit_command (name_of_edit (row_of e).name) bug (given_texts (row_of e).words) (Ok e) (row_named e some)
 
 -- ---- the order of refusals
 
-pub asks_nothing : (folder name : List ℕ) (arguments : List (List ℕ)) → command_of name arguments ≡ None → asked_of (folder ∷ name ∷ arguments) ≡ asked.Nothing
-asks_nothing folder name arguments none = ap (asked_by (folder_of folder)) none
+pub refused_argument : (folder name : List ℕ) (rest : List (List ℕ)) → arguments_of rest ≡ None → asked_of (folder ∷ name ∷ rest) ≡ asked.Nothing
+refused_argument folder name rest none = ap (λ o. asked_by (folder_of folder) (option_and_then (command_of name) o)) none
 
-pub bad_folder : (folder name : List ℕ) (arguments : List (List ℕ)) → IsSome (command_of name arguments) → folder_of folder ≡ None
-    → asked_of (folder ∷ name ∷ arguments) ≡ asked.Refused BadFolder
-bad_folder folder name arguments some bad = ap (λ f. asked_by f (command_of name arguments)) bad ∙ by (command_of name arguments) some
+-- what is asked, by the arguments that are taken
+asked_with : (folder name : List ℕ) (rest arguments : List (List ℕ)) → arguments_of rest ≡ Some arguments
+    → asked_of (folder ∷ name ∷ rest) ≡ asked_by (folder_of folder) (command_of name arguments)
+asked_with folder name rest arguments are = ap (λ o. asked_by (folder_of folder) (option_and_then (command_of name) o)) are
+
+pub asks_nothing : (folder name : List ℕ) (rest arguments : List (List ℕ)) → arguments_of rest ≡ Some arguments → command_of name arguments ≡ None
+    → asked_of (folder ∷ name ∷ rest) ≡ asked.Nothing
+asks_nothing folder name rest arguments are none = asked_with folder name rest arguments are ∙ ap (asked_by (folder_of folder)) none
+
+pub bad_folder : (folder name : List ℕ) (rest arguments : List (List ℕ)) → arguments_of rest ≡ Some arguments → IsSome (command_of name arguments) → folder_of folder ≡ None
+    → asked_of (folder ∷ name ∷ rest) ≡ asked.Refused BadFolder
+bad_folder folder name rest arguments are some bad =
+    asked_with folder name rest arguments are ∙ ap (λ f. asked_by f (command_of name arguments)) bad ∙ by (command_of name arguments) some
   where
     by : (read : Option (Result Command ℕ)) → IsSome read → asked_by None read ≡ asked.Refused BadFolder
     by None some = absurd (cc some)
     by (Some read) some = refl
 
-pub bad_place : (folder name : List ℕ) (arguments : List (List ℕ)) (read : List ℕ) (place : ℕ) → folder_of folder ≡ Some read → command_of name arguments ≡ Some (Err place)
-    → asked_of (folder ∷ name ∷ arguments) ≡ asked.Refused (BadText place)
-bad_place folder name arguments read place good bad = ap (λ f. asked_by f (command_of name arguments)) good ∙ ap (asked_by (Some read)) bad
+pub bad_place : (folder name : List ℕ) (rest arguments : List (List ℕ)) (read : List ℕ) (place : ℕ) → arguments_of rest ≡ Some arguments → folder_of folder ≡ Some read
+    → command_of name arguments ≡ Some (Err place) → asked_of (folder ∷ name ∷ rest) ≡ asked.Refused (BadText place)
+bad_place folder name rest arguments read place are good bad =
+    asked_with folder name rest arguments are ∙ ap (λ f. asked_by f (command_of name arguments)) good ∙ ap (asked_by (Some read)) bad
 
-pub requested : (folder name : List ℕ) (arguments : List (List ℕ)) (read : List ℕ) (command : Command) → folder_of folder ≡ Some read → command_of name arguments ≡ Some (Ok command)
-    → asked_of (folder ∷ name ∷ arguments) ≡ asked.Request (record { folder = read; command = command })
-requested folder name arguments read command good is = ap (λ f. asked_by f (command_of name arguments)) good ∙ ap (asked_by (Some read)) is
+pub requested : (folder name : List ℕ) (rest arguments : List (List ℕ)) (read : List ℕ) (command : Command) → arguments_of rest ≡ Some arguments → folder_of folder ≡ Some read
+    → command_of name arguments ≡ Some (Ok command) → asked_of (folder ∷ name ∷ rest) ≡ asked.Request (record { folder = read; command = command })
+requested folder name rest arguments read command are good is =
+    asked_with folder name rest arguments are ∙ ap (λ f. asked_by f (command_of name arguments)) good ∙ ap (asked_by (Some read)) is
 
 -- ---- words
 
@@ -67,16 +86,23 @@ too_few bytes [] few = refl
 too_few bytes (a ∷ []) few = refl
 too_few bytes (a ∷ b ∷ more) few = absurd (omega (arith, few))
 
--- a command is one in any folder
-commands_are : (folder : Option (List ℕ)) (read : Result Command ℕ) → IsCommand (asked_in folder read)
-commands_are None read = tt
-commands_are (Some folder) (Ok command) = tt
-commands_are (Some folder) (Err place) = tt
+-- a name that is no command's gives none
+pub no_verb : (name : List ℕ) (rest : List (List ℕ)) → verb_of name ≡ None → None ≡ command_from name rest
+no_verb name rest none = by (arguments_of rest)
+  where
+    by : (o : Option (List (List ℕ))) → None ≡ option_and_then (command_of name) o
+    by None = refl
+    by (Some arguments) = ap (option_and_then (λ v. by_verb v arguments)) (sym none)
 
-pub is_command : {X : Type 0} (bytes : X → List ℕ) (words : List X) (folder name : X) (text : List ℕ) (read : Result Command ℕ) → 2 ≤ length words → folder ≡ get_or words 0 folder
-    → name ≡ get_or words 1 name → text ≡ bytes name → command_of text (map bytes (take (length words - 2) (drop 2 words))) ≡ Some read → IsCommand (asked_of (map bytes words))
-is_command bytes words folder name text read least is_folder is_name is_text is =
-    let arguments = take (length words - 2) (drop 2 words) in
-    let named : command_of (bytes name) (map bytes arguments) ≡ Some read = ap (λ n. command_of n (map bytes arguments)) (sym is_text) ∙ is in
-    subst (λ xs. IsCommand (asked_of (map bytes xs))) (sym (begin_with_two words folder name least is_folder is_name))
-    (subst (λ o. IsCommand (asked_by (folder_of (bytes folder)) o)) (sym named) (commands_are (folder_of (bytes folder)) read))
+-- what gives a command has the name of one
+pub some_verb : (name : List ℕ) (rest : List (List ℕ)) (read : Result Command ℕ) → command_from name rest ≡ Some read → IsSome (verb_of name)
+some_verb name rest read is = by (verb_of name) refl
+  where
+    by : (o : Option Verb) → verb_of name ≡ o → IsSome (verb_of name)
+    by None none = let bad : None ≡ Some read = no_verb name rest none ∙ is in absurd (cc bad)
+    by (Some v) some = subst IsSome (sym some) refl
+
+pub names_command : {X : Type 0} (bytes : X → List ℕ) (words : List X) (folder name : X) (text : List ℕ) → 2 ≤ length words → folder ≡ get_or words 0 folder
+    → name ≡ get_or words 1 name → text ≡ bytes name → IsSome (verb_of text) → NamesCommand (map bytes words)
+names_command bytes words folder name text least is_folder is_name is_text some =
+    subst (λ xs. NamesCommand (map bytes xs)) (sym (begin_with_two words folder name least is_folder is_name)) (subst (λ n. IsSome (verb_of n)) is_text some)

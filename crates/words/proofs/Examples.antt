@@ -25,11 +25,23 @@ log_of_two = refl
 no_label : asked_of (codes "f" ∷ codes "label-add" ∷ codes "b" ∷ []) ≡ Nothing
 no_label = refl
 
-of_other_commands : map (λ (word : List ℕ). asked_of (codes "f" ∷ word ∷ codes "b" ∷ [])) (codes "ls" ∷ codes "merge" ∷ codes "edit" ∷ codes "Log" ∷ codes "log " ∷ [] ∷ []) ≡ repeat 6 (Nothing ∷ [])
+of_other_commands : map (λ (word : List ℕ). asked_of (codes "f" ∷ word ∷ codes "b" ∷ [])) (codes "ls" ∷ codes "merge" ∷ codes "Edit" ∷ codes "Log" ∷ codes "log " ∷ [] ∷ []) ≡ repeat 6 (Nothing ∷ [])
 of_other_commands = refl
 
 of_other_commands_alone : map (λ (word : List ℕ). asked_of (codes "f" ∷ word ∷ [])) (codes "ls" ∷ codes "user" ∷ codes "user-ls" ∷ codes "board" ∷ [] ∷ []) ≡ repeat 5 (Nothing ∷ [])
 of_other_commands_alone = refl
+
+-- `-` and what follows `--` are arguments; what else begins with `-` is none
+logs_of_dashes : map (λ (rest : List (List ℕ)). asked_of (codes "f" ∷ codes "log" ∷ rest))
+    ((codes "-" ∷ []) ∷ (codes "--" ∷ codes "b" ∷ []) ∷ (codes "b" ∷ codes "--" ∷ []) ∷ (codes "--" ∷ codes "-b" ∷ []) ∷ (codes "--" ∷ codes "--" ∷ []) ∷ [])
+    ≡ map (λ (bug : List ℕ). Request (record { folder = codes "f"; command = Log bug })) (codes "-" ∷ codes "b" ∷ codes "b" ∷ codes "-b" ∷ codes "--" ∷ [])
+unfolding chars
+logs_of_dashes = refl
+
+no_logs_of_dashes : map (λ (rest : List (List ℕ)). asked_of (codes "f" ∷ codes "log" ∷ rest))
+    ((codes "-b" ∷ []) ∷ (codes "--b" ∷ []) ∷ (codes "--help" ∷ []) ∷ (codes "--" ∷ []) ∷ (codes "--" ∷ codes "b" ∷ codes "--" ∷ []) ∷ (codes "-b" ∷ codes "--" ∷ []) ∷ [])
+    ≡ repeat 6 (Nothing ∷ [])
+no_logs_of_dashes = refl
 
 bad_folder_first : asked_of (codes "a/../b" ∷ codes "title" ∷ codes "b" ∷ [] ∷ []) ≡ Refused BadFolder
 unfolding chars is_utf8
@@ -42,6 +54,10 @@ second_argument = refl
 name_before_email : asked_of (codes "f" ∷ codes "user-new" ∷ [] ∷ codes "\n" ∷ []) ≡ Refused (BadText 1)
 unfolding chars is_utf8
 name_before_email = refl
+
+second_argument_after_dashes : asked_of (codes "f" ∷ codes "title" ∷ codes "--" ∷ codes "-b" ∷ [] ∷ []) ≡ Refused (BadText 2)
+unfolding chars is_utf8
+second_argument_after_dashes = refl
 
 bad_email : asked_of (codes "f" ∷ codes "user-new" ∷ codes "n" ∷ codes "\n" ∷ []) ≡ Refused (BadText 2)
 unfolding chars is_utf8 lib.Utf8.encode

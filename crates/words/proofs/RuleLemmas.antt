@@ -57,10 +57,13 @@ edit_rules edit bug words =
     let persons = is_off (bytes_eq name (codes "user-new") || bytes_eq name (codes "user-edit"))
     (each_name (λ e. not (bytes_eq (name_of_edit e) (codes "user-new") || bytes_eq (name_of_edit e) (codes "user-edit"))) refl edit) in
     let bugs = is_off (bytes_eq name (codes "new")) (each_name (λ e. not (bytes_eq (name_of_edit e) (codes "new"))) refl edit) in
+    let comments = is_off (bytes_eq name (codes "edit")) (each_name (λ e. not (bytes_eq (name_of_edit e) (codes "edit"))) refl edit) in
     let person_rules = kept_by (is_title_word ∷ is_line_word ∷ []) any_word (bug ∷ words) in
     let bug_rules = kept_by (is_title_word ∷ is_message_word ∷ []) any_word (bug ∷ words) in
-    ap (λ b. if b then person_rules else (if bytes_eq name (codes "new") then bug_rules else kept_of_bug name (bug ∷ words))) persons
-    ∙ ap (λ b. if b then bug_rules else kept_of_bug name (bug ∷ words)) bugs
+    let comment_rules = kept_by (any_word ∷ is_message_word ∷ []) any_word (bug ∷ words) in
+    ap (λ b. if b then person_rules else if bytes_eq name (codes "new") then bug_rules else if bytes_eq name (codes "edit") then comment_rules else kept_of_bug name (bug ∷ words)) persons
+    ∙ ap (λ b. if b then bug_rules else if bytes_eq name (codes "edit") then comment_rules else kept_of_bug name (bug ∷ words)) bugs
+    ∙ ap (λ b. if b then comment_rules else kept_of_bug name (bug ∷ words)) comments
 
 edit_so : (edit : EditName) (bug : List ℕ) (words : List (List ℕ)) → IfSome (edit_of_bug bug (edit_from edit words)) (Judges 1 (words_keep (name_of_edit edit) (bug ∷ words)))
 edit_so edit bug words =
@@ -81,6 +84,9 @@ judged verb.New (one ∷ two ∷ []) =
     first_so 1 (is_title_word one) (is_message_word two ∷ []) (title_of one) (at 2 (message_of two)) (λ t m. ask.Edit (edits.New t m)) (title_word one)
     (last_so 2 (is_message_word two) (message_of two) (message_word two))
 judged (verb.OfBug edit) (bug ∷ words) = edit_so edit bug words
+judged verb.Edit (one ∷ two ∷ []) =
+    after_good 1 (is_message_word two ∷ []) (made (at 2 (message_of two)) (λ message. ask.Edit (edits.OfComment one message)))
+    (made_so 2 (is_message_word two ∷ []) (at 2 (message_of two)) (λ message. ask.Edit (edits.OfComment one message)) (last_so 2 (is_message_word two) (message_of two) (message_word two)))
 judged verb.Show (one ∷ []) = refl
 judged verb.Log (one ∷ []) = refl
 judged _ _ = tt
@@ -105,12 +111,13 @@ read_is None is = absurd (cc is)
 read_is (Some a) is = (a, refl)
 
 pub messages_are_read : (bug title message : List ℕ) → is_title_word title ≡ true → is_message_word message ≡ true
-    → IsRead (command_of (codes "comment") (bug ∷ message ∷ [])) × IsRead (command_of (codes "new") (title ∷ message ∷ []))
+    → IsRead (command_of (codes "comment") (bug ∷ message ∷ [])) × IsRead (command_of (codes "edit") (bug ∷ message ∷ [])) × IsRead (command_of (codes "new") (title ∷ message ∷ []))
     × IsRead (command_of (codes "meta") (bug ∷ title ∷ message ∷ []))
 messages_are_read bug title message is_title is_message =
     let t = read_is (title_of title) (sym is_title ∙ title_word title) in
     let m = read_is (message_of message) (sym is_message ∙ message_word message) in (
       (of_bug bug (bug_edit.Comment m.0), ap (λ o. edit_of_bug bug (edit_by named.Comment (Some (made (at 2 o) (λ read. given.Message read))))) m.1),
+      (ask.Edit (edits.OfComment bug m.0), ap (λ o. Some (made (at 2 o) (λ read. ask.Edit (edits.OfComment bug read)))) m.1),
       (ask.Edit (edits.New t.0 m.0), ap Some (both 1 2 (title_of title) (message_of message) t.0 m.0 (λ one two. ask.Edit (edits.New one two)) t.1 m.1)),
       (
         of_bug bug (bug_edit.Metadata t.0 m.0),

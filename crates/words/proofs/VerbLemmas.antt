@@ -11,7 +11,7 @@ use Rattle.bug_edits.specs.declared.names.EditName.{EditName}
 use Rattle.bug_edits.proofs.ReadLemmas.{counted_edits_give, counted_of, each_name, found_passes, name_back, name_is, of_a_name, some_is}
 use Rattle.words.specs.Verbs.{name_of, of_edit, other_of, verb_among, verb_of}
 use Rattle.words.specs.WordRules.{IsCounted, counted_commands}
-use Rattle.words.specs.Words.{by_verb, command_of, edit_of_bug}
+use Rattle.words.specs.Words.{NamesCommand, by_verb, command_of, edit_of_bug}
 use Rattle.words.specs.declared.verb.TheConstants.{FIRST_VERBS, LAST_VERBS}
 use Rattle.words.specs.declared.verb.Verb.{Verb}
 use Rattle.words.specs.declared.verb.Verb.TheVariants as verb
@@ -53,8 +53,20 @@ read_back verb.UserSet = refl
 read_back verb.Users = refl
 read_back verb.New = refl
 read_back (verb.OfBug edit) = ap (λ o. option_or o (of_edit (name_read (name_of_edit edit)))) (edit_is_no_other edit) ∙ ap of_edit (name_back edit)
+read_back verb.Edit = refl
 read_back verb.Show = refl
 read_back verb.Log = refl
+
+-- arguments name a command by their second
+pub verb_named : (words : List (List ℕ)) → NamesCommand words → (folder : List ℕ) × (rest : List (List ℕ)) × (v : Verb) × (words ≡ folder ∷ name_of v ∷ rest)
+verb_named [] none = absurd none
+verb_named (folder ∷ []) none = absurd none
+verb_named (folder ∷ name ∷ rest) some =
+    let found = some_is (verb_of name) some in
+    (folder, rest, found.0, ap (λ n. folder ∷ n ∷ rest) (is_named name found.0 found.1))
+
+pub named_by_verb : (folder : List ℕ) (rest : List (List ℕ)) (v : Verb) → NamesCommand (folder ∷ name_of v ∷ rest)
+named_by_verb folder rest v = subst IsSome (sym (read_back v)) refl
 
 -- arguments that give a command are those of a name that is read
 pub of_a_verb : (name : List ℕ) (arguments : List (List ℕ)) (read : Result Command ℕ) → command_of name arguments ≡ Some read
@@ -86,6 +98,7 @@ counted verb.UserNew (one ∷ two ∷ []) = inl (4, omega arith, refl)
 counted verb.UserEdit (one ∷ two ∷ []) = inl (5, omega arith, refl)
 counted verb.New (one ∷ two ∷ []) = inl (6, omega arith, refl)
 counted (verb.OfBug edit) (bug ∷ words) = edit_is_counted edit words (counted_of edit words) bug
+counted verb.Edit (one ∷ two ∷ []) = inl (7, omega arith, refl)
 counted _ _ = tt
 
 pub only_counted : (name : List ℕ) (arguments : List (List ℕ)) → IsSome (command_of name arguments) → IsCounted name (length arguments)
@@ -137,7 +150,10 @@ each_gives = (
       one_word (Gives (codes "show")) (λ a. refl),
       (
         one_word (Gives (codes "user-set")) (λ a. refl),
-        (two_words (Gives (codes "user-new")) (λ a b. refl), (two_words (Gives (codes "user-edit")) (λ a b. refl), (two_words (Gives (codes "new")) (λ a b. refl), tt))),
+        (
+          two_words (Gives (codes "user-new")) (λ a b. refl),
+          (two_words (Gives (codes "user-edit")) (λ a b. refl), (two_words (Gives (codes "new")) (λ a b. refl), (two_words (Gives (codes "edit")) (λ a b. refl), tt))),
+        ),
       ),
     ),
   ),

@@ -1,3 +1,5 @@
+pub mod Arguments
+pub mod ClapCommand
 pub mod Verbs
 pub mod WordRules
 pub mod Words

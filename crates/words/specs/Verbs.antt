@@ -16,6 +16,7 @@ name_of verb.UserSet = codes "user-set"
 name_of verb.Users = codes "users"
 name_of verb.New = codes "new"
 name_of (verb.OfBug edit) = name_of_edit edit
+name_of verb.Edit = codes "edit"
 name_of verb.Show = codes "show"
 name_of verb.Log = codes "log"
 

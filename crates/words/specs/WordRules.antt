@@ -10,7 +10,7 @@ use Rattle.words.specs.declared.words.Command.{Command}
 -- the names of commands that are no edits of a bug, each with the number of its arguments
 abbrev pub counted_commands : List (List ℕ × ℕ)
 counted_commands =
-    (codes "users", 0) ∷ (codes "log", 1) ∷ (codes "show", 1) ∷ (codes "user-set", 1) ∷ (codes "user-new", 2) ∷ (codes "user-edit", 2) ∷ (codes "new", 2) ∷ []
+    (codes "users", 0) ∷ (codes "log", 1) ∷ (codes "show", 1) ∷ (codes "user-set", 1) ∷ (codes "user-new", 2) ∷ (codes "user-edit", 2) ∷ (codes "new", 2) ∷ (codes "edit", 2) ∷ []
 
 -- a name with so many arguments is a command; an edit of a bug has one more than it counts, which finds the bug
 abbrev pub IsCounted : List ℕ → ℕ → Type 0
@@ -26,7 +26,9 @@ is_line_word word = is_utf8 word && is_line_text word
 abbrev pub words_keep : List ℕ → List (List ℕ) → List Bool
 words_keep name arguments =
     if bytes_eq name (codes "user-new") || bytes_eq name (codes "user-edit") then kept_by (is_title_word ∷ is_line_word ∷ []) any_word arguments
-    else (if bytes_eq name (codes "new") then kept_by (is_title_word ∷ is_message_word ∷ []) any_word arguments else kept_of_bug name arguments)
+    else if bytes_eq name (codes "new") then kept_by (is_title_word ∷ is_message_word ∷ []) any_word arguments
+    else if bytes_eq name (codes "edit") then kept_by (any_word ∷ is_message_word ∷ []) any_word arguments
+    else kept_of_bug name arguments
 
 -- arguments are read, and none is refused
 abbrev pub IsRead : Option (Result Command ℕ) → Type 0

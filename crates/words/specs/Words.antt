@@ -1,5 +1,5 @@
 -- What arguments ask: a command, each argument read by its rule, in a folder; or what they alone refuse.
-use Rattle.std.specs.Prelude.{⊤, ℕ, List, [], ◌∷◌, Option, Some, None, option_and_then, Result, Ok, Err}
+use Rattle.std.specs.Prelude.{ℕ, IsSome, List, [], ◌∷◌, Option, Some, None, option_and_then, Result, Ok, Err}
 use Rattle.gb_text.specs.Folder.{folder_of}
 use Rattle.gb_text.specs.Ruled.{line_of, message_of, title_of}
 use Rattle.gb_text.specs.declared.ruled.Line.{Line}
@@ -7,7 +7,8 @@ use Rattle.gb_text.specs.declared.ruled.Title.{Title}
 use Rattle.bug_edits.specs.EditTable.{edit_from}
 use Rattle.bug_edits.specs.Given.{at, made, made_of_two}
 use Rattle.bug_edits.specs.declared.edit.BugEdit.{BugEdit}
-use Rattle.words.specs.declared.edit.Edit.TheVariants.{New, OfBug, UserEdit, UserNew, UserSet}
+use Rattle.words.specs.Arguments.{arguments_of}
+use Rattle.words.specs.declared.edit.Edit.TheVariants.{New, OfBug, OfComment, UserEdit, UserNew, UserSet}
 use Rattle.words.specs.Verbs.{verb_of}
 use Rattle.words.specs.declared.verb.Verb.{Verb}
 use Rattle.words.specs.declared.verb.Verb.TheVariants as verb
@@ -31,6 +32,10 @@ person one two = made_of_two (at 1 (title_of one)) (at 2 (line_of two)) (λ name
 abbrev pub new_bug : List ℕ → List ℕ → Result Command ℕ
 new_bug one two = made_of_two (at 1 (title_of one)) (at 2 (message_of two)) (λ title message. Edit (New title message))
 
+-- another message of the comment that an argument finds
+abbrev pub edited_comment : List ℕ → List ℕ → Result Command ℕ
+edited_comment one two = made (at 2 (message_of two)) (λ message. Edit (OfComment one message))
+
 -- what is read of an edit of the bug that an argument finds
 abbrev pub edit_of_bug : List ℕ → Option (Result BugEdit ℕ) → Option (Result Command ℕ)
 edit_of_bug bug None = None
@@ -44,6 +49,7 @@ by_verb verb.UserSet (one ∷ []) = Some (Ok (Edit (UserSet one)))
 by_verb verb.Users [] = Some (Ok Users)
 by_verb verb.New (one ∷ two ∷ []) = Some (new_bug one two)
 by_verb (verb.OfBug edit) (bug ∷ words) = edit_of_bug bug (edit_from edit words)
+by_verb verb.Edit (one ∷ two ∷ []) = Some (edited_comment one two)
 by_verb verb.Show (bug ∷ []) = Some (Ok (Show bug))
 by_verb verb.Log (bug ∷ []) = Some (Ok (Log bug))
 by_verb _ _ = None
@@ -51,6 +57,10 @@ by_verb _ _ = None
 -- the command of a name, if there is one, with these arguments
 abbrev pub command_of : List ℕ → List (List ℕ) → Option (Result Command ℕ)
 command_of name arguments = option_and_then (λ v. by_verb v arguments) (verb_of name)
+
+-- the same with the arguments that the rest gives, if none of it is refused
+abbrev pub command_from : List ℕ → List (List ℕ) → Option (Result Command ℕ)
+command_from name rest = option_and_then (command_of name) (arguments_of rest)
 
 -- ---- requests
 
@@ -65,12 +75,12 @@ abbrev pub asked_by : Option (List ℕ) → Option (Result Command ℕ) → Aske
 asked_by folder None = asked.Nothing
 asked_by folder (Some command) = asked_in folder command
 
--- What arguments ask: of a folder, the name of a command and its arguments. Nothing where they give no command.
+-- What arguments ask: of a folder, the name of a command and the rest. Nothing where they give no command.
 abbrev pub asked_of : List (List ℕ) → Asked
-asked_of (folder ∷ name ∷ arguments) = asked_by (folder_of folder) (command_of name arguments)
+asked_of (folder ∷ name ∷ rest) = asked_by (folder_of folder) (command_from name rest)
 asked_of _ = asked.Nothing
 
--- arguments give a command, which may be refused
-abbrev pub IsCommand : Asked → Type 0
-IsCommand asked.Nothing = ⊥
-IsCommand _ = ⊤
+-- the second argument is the name of a command
+abbrev pub NamesCommand : List (List ℕ) → Type 0
+NamesCommand (folder ∷ name ∷ rest) = IsSome (verb_of name)
+NamesCommand _ = ⊥

@@ -15,4 +15,6 @@ pub enum Edit {
     New { title: Title, message: Message },
     /// An edit of the bug that an argument finds.
     OfBug { bug: Text, edit: BugEdit },
+    /// Another message of the comment that an argument finds.
+    OfComment { comment: Text, message: Message },
 }

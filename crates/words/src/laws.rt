@@ -1,5 +1,6 @@
 //! Laws of what arguments ask, each the contract of a function that does nothing.
-ghost use Rattle.std.specs.Prelude.{◌≡◌, ◌∷◌, [], ℕ, List, IsSome, Some, None, Result, Ok, Err, codes, length, map, true};
+ghost use Rattle.std.specs.Prelude.{◌≡◌, ◌∷◌, ◌++◌, [], ℕ, List, IsSome, Some, None, Result, Ok, Err, codes, length, map, true};
+ghost use Rattle.std.specs.List.{AllByRecursion};
 ghost use Rattle.gb_text.specs.Folder.{folder_of};
 ghost use Rattle.gb_text.specs.declared.ruled.Line.{Line as LineValue};
 ghost use Rattle.gb_text.specs.declared.ruled.Message.{Message as MessageValue};
@@ -10,9 +11,10 @@ ghost use Rattle.bug_edits.specs.EditWords.{IsFirstBad, all_keep, is_message_wor
 ghost use Rattle.bug_edits.specs.Given.{HasTitles, given_texts};
 ghost use Rattle.bug_edits.specs.declared.edit.BugEdit.{BugEdit as BugEditValue};
 ghost use Rattle.bug_edits.specs.declared.edit.BugEdit.TheVariants as bug_edit;
+ghost use Rattle.words.specs.Arguments.{IsFlag, IsPlain, Shape, arguments_of};
 ghost use Rattle.words.specs.Verbs.{name_of, verb_of};
 ghost use Rattle.words.specs.WordRules.{IsCounted, IsRead, words_keep};
-ghost use Rattle.words.specs.Words.{asked_of, command_of, of_bug};
+ghost use Rattle.words.specs.Words.{NamesCommand, asked_of, command_of, of_bug};
 ghost use Rattle.words.specs.declared.edit.Edit.TheVariants as edits;
 ghost use Rattle.words.specs.declared.verb.Verb.{Verb as VerbValue};
 ghost use Rattle.words.specs.declared.words.Asked.TheVariants as asked;
@@ -30,11 +32,31 @@ pub fn only_these_are_commands()
         → (asked_of [] ≡ asked.Nothing) × (asked_of (folder ∷ []) ≡ asked.Nothing) }
 {}
 
-/// The name of a command is read as that command, and no other text is.
+/// Arguments that do not begin with `-`, and `-` alone, are taken as they are. The first `--` is dropped,
+/// and those after it are taken as they are. If one that begins with `-` and is longer comes first, none
+/// is taken. All arguments are of one of these three shapes.
+pub fn only_these_arguments_are_taken()
+    ensures plain { (given : List (List ℕ)) → AllByRecursion IsPlain given
+        → arguments_of given ≡ Some given }
+    ensures separated { (before after : List (List ℕ)) → AllByRecursion IsPlain before
+        → arguments_of (before ++ codes "--" ∷ after) ≡ Some (before ++ after) }
+    ensures refused { (before after : List (List ℕ)) (flag : List ℕ)
+        → AllByRecursion IsPlain before → IsFlag flag
+        → arguments_of (before ++ flag ∷ after) ≡ None }
+    ensures each { (given : List (List ℕ)) → Shape given }
+{}
+
+/// The name of a command is read as that command, and no other text is. Arguments name a command if and
+/// only if the second of them is such a name.
 pub fn names_are_those_of_verbs()
     ensures read { (verb : VerbValue) → verb_of (name_of verb) ≡ Some verb }
     ensures only { (name : List ℕ) (verb : VerbValue)
         → verb_of name ≡ Some verb → name ≡ name_of verb }
+    ensures named { (words : List (List ℕ)) → NamesCommand words → (folder : List ℕ)
+        × (rest : List (List ℕ)) × (verb : VerbValue)
+        × (words ≡ folder ∷ name_of verb ∷ rest) }
+    ensures each { (folder : List ℕ) (rest : List (List ℕ)) (verb : VerbValue)
+        → NamesCommand (folder ∷ name_of verb ∷ rest) }
 {}
 
 /// What each command asks for, by its name and its arguments.
@@ -57,7 +79,7 @@ pub fn commands_ask_for_what_they_name()
         ≡ Some (Ok (ask.Edit (edits.New title message))) }
 {}
 
-/// What each edit of a bug asks for: the first argument finds the bug.
+/// What each edit of a bug asks for: the first argument finds the bug, or the comment.
 pub fn edits_of_bugs_ask_for_what_they_name()
     ensures each { (bug : List ℕ) (edit : BugEditValue) → HasTitles (row_of edit).words
         → command_of (name_of_edit (row_of edit).name) (bug ∷ given_texts (row_of edit).words)
@@ -85,30 +107,39 @@ pub fn edits_of_bugs_ask_for_what_they_name()
         → command_of (codes "label-rm")
         (bug ∷ label.text ∷ map (λ (other : TitleValue). other.text) more)
         ≡ Some (Ok (of_bug bug (bug_edit.RemoveLabels (label ∷ more)))) }
+    ensures edit { (comment : List ℕ) (message : MessageValue)
+        → command_of (codes "edit") (comment ∷ message.text ∷ [])
+        ≡ Some (Ok (ask.Edit (edits.OfComment comment message))) }
 {}
 
-/// Arguments that give no command ask nothing, whatever the folder. Otherwise a bad folder is
-/// refused, whatever the command's arguments. Otherwise the place of an argument that breaks its
-/// rule is reported. Otherwise the command is asked for, in that folder.
+/// Arguments that give no command ask nothing, whatever the folder: one of them is refused, or those
+/// that are taken are not a command's. Otherwise a bad folder is refused, whatever the command's
+/// arguments. Otherwise the place of an argument that breaks its rule is reported, among those that are
+/// taken. Otherwise the command is asked for, in that folder.
 pub fn requests_are_read_in_order()
-    ensures nothing { (folder name : List ℕ) (arguments : List (List ℕ))
-        → command_of name arguments ≡ None
-        → asked_of (folder ∷ name ∷ arguments) ≡ asked.Nothing }
-    ensures folder { (folder name : List ℕ) (arguments : List (List ℕ))
+    ensures refused { (folder name : List ℕ) (rest : List (List ℕ))
+        → arguments_of rest ≡ None → asked_of (folder ∷ name ∷ rest) ≡ asked.Nothing }
+    ensures nothing { (folder name : List ℕ) (rest arguments : List (List ℕ))
+        → arguments_of rest ≡ Some arguments → command_of name arguments ≡ None
+        → asked_of (folder ∷ name ∷ rest) ≡ asked.Nothing }
+    ensures folder { (folder name : List ℕ) (rest arguments : List (List ℕ))
+        → arguments_of rest ≡ Some arguments
         → IsSome (command_of name arguments) → folder_of folder ≡ None
-        → asked_of (folder ∷ name ∷ arguments) ≡ asked.Refused BadFolder }
-    ensures place { (folder name : List ℕ) (arguments : List (List ℕ)) (read : List ℕ) (place : ℕ)
+        → asked_of (folder ∷ name ∷ rest) ≡ asked.Refused BadFolder }
+    ensures place { (folder name : List ℕ) (rest arguments : List (List ℕ)) (read : List ℕ)
+        (place : ℕ) → arguments_of rest ≡ Some arguments
         → folder_of folder ≡ Some read → command_of name arguments ≡ Some (Err place)
-        → asked_of (folder ∷ name ∷ arguments) ≡ asked.Refused (BadText place) }
-    ensures request { (folder name : List ℕ) (arguments : List (List ℕ)) (read : List ℕ)
-        (command : CommandValue)
+        → asked_of (folder ∷ name ∷ rest) ≡ asked.Refused (BadText place) }
+    ensures request { (folder name : List ℕ) (rest arguments : List (List ℕ)) (read : List ℕ)
+        (command : CommandValue) → arguments_of rest ≡ Some arguments
         → folder_of folder ≡ Some read → command_of name arguments ≡ Some (Ok command)
-        → asked_of (folder ∷ name ∷ arguments)
+        → asked_of (folder ∷ name ∷ rest)
         ≡ asked.Request (record { folder = read; command = command }) }
 {}
 
 /// A command is refused with the place of the first argument that breaks its rule, counted from 1.
-/// A comment, what begins a bug, and a value under a key may be any message, of several lines too.
+/// A comment, what it is edited to, what begins a bug, and a value under a key may be any message, of
+/// several lines too.
 pub fn first_bad_words_are_told()
     ensures first { (name : List ℕ) (arguments : List (List ℕ)) (place : ℕ)
         → command_of name arguments ≡ Some (Err place)
@@ -119,6 +150,7 @@ pub fn first_bad_words_are_told()
     ensures messages { (bug title message : List ℕ) → is_title_word title ≡ true
         → is_message_word message ≡ true
         → IsRead (command_of (codes "comment") (bug ∷ message ∷ []))
+        × IsRead (command_of (codes "edit") (bug ∷ message ∷ []))
         × IsRead (command_of (codes "new") (title ∷ message ∷ []))
         × IsRead (command_of (codes "meta") (bug ∷ title ∷ message ∷ [])) }
 {}

@@ -15,6 +15,8 @@ pub enum Verb {
     New,
     /// An edit of a bug.
     OfBug(EditName),
+    /// Another message of a comment.
+    Edit,
     Show,
     Log,
 }
@@ -29,7 +31,7 @@ pub const FIRST_VERBS: [Verb; 5] = [
 ];
 
 /// The commands of which people are told after the edits of a bug, in this order.
-pub const LAST_VERBS: [Verb; 2] = [Verb::Show, Verb::Log];
+pub const LAST_VERBS: [Verb; 3] = [Verb::Edit, Verb::Show, Verb::Log];
 
 impl Verb {
     /// The command of this name, if there is one.
@@ -56,6 +58,7 @@ impl Verb {
             Verb::Users => "users",
             Verb::New => "new",
             Verb::OfBug(edit) => edit.name(),
+            Verb::Edit => "edit",
             Verb::Show => "show",
             Verb::Log => "log",
         }
@@ -69,6 +72,7 @@ impl Verb {
             Verb::Users => "",
             Verb::New => "TITLE MESSAGE",
             Verb::OfBug(edit) => edit.takes(),
+            Verb::Edit => "COMMENT MESSAGE",
             Verb::UserSet | Verb::Show | Verb::Log => "ID",
         }
     }

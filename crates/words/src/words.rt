@@ -1,8 +1,11 @@
 //! What arguments ask, each read into its type.
 ghost use Rattle.std.specs.Prelude.{◌≡◌, IfOk, OnErr, IsSome, map, string_bytes};
-ghost use Rattle.words.specs.Words.{IsCommand, asked_of, by_verb, command_of, new_bug, of_bug, person};
+ghost use Rattle.words.specs.Verbs.{verb_of};
+ghost use Rattle.words.specs.Words.{NamesCommand, asked_of, by_verb, command_from, edited_comment};
+ghost use Rattle.words.specs.Words.{new_bug, of_bug, person};
 ghost use Rattle.words.specs.declared.verb.Verb.TheVariants as verb;
 
+use crate::arguments::read_arguments;
 use crate::edit::Edit;
 use crate::verb::Verb;
 use bug_edits::{BugEdit, EditName, read_edit};
@@ -50,16 +53,18 @@ pub enum Asked {
 }
 
 /// What arguments ask: a folder, the name of a command, and as many arguments as the command takes,
-/// each read into its type. A bad folder is refused first, and then the first argument that breaks
-/// its rule.
+/// each read into its type. After the name the first `--` is dropped, and those after it are taken as
+/// they are; one before it that begins with `-` and is longer gives no command. A bad folder is
+/// refused first, and then the first argument that breaks its rule. Memory runs out only if the name
+/// is that of a command, and perhaps before it is known that its arguments give none.
 pub fn read_words(alloc: Global, words: &[String]) -> Result<Asked, Memory>
     ensures read { IfOk result (λ asked. asked ≡ asked_of (map string_bytes words.now)) }
-    ensures memory { OnErr result (IsCommand (asked_of (map string_bytes words.now))) }
+    ensures memory { OnErr result (NamesCommand (map string_bytes words.now)) }
 {
-    let [folder, name, arguments @ ..] = words else {
+    let [folder, name, rest @ ..] = words else {
         return Ok(Asked::Nothing);
     };
-    let Some(command) = command_of(alloc, name.as_str(), arguments)? else {
+    let Some(command) = command_from(alloc, name.as_str(), rest)? else {
         return Ok(Asked::Nothing);
     };
     let folder = match Folder::read(alloc, folder.as_str()) {
@@ -77,22 +82,25 @@ pub fn read_words(alloc: Global, words: &[String]) -> Result<Asked, Memory>
 // are not those of one.
 type Reading = Result<Option<Result<Command, u64>>, Memory>;
 
-// The command of this name that has these arguments.
-fn command_of(alloc: Global, name: &str, arguments: &[String]) -> Reading
+// The command of this name that has the arguments that the rest gives.
+fn command_from(alloc: Global, name: &str, rest: &[String]) -> Reading
     ensures read { IfOk result (λ read. read
-        ≡ command_of name.now (map string_bytes arguments.now)) }
-    ensures memory { OnErr result (IsSome (command_of name.now (map string_bytes arguments.now))) }
+        ≡ command_from name.now (map string_bytes rest.now)) }
+    ensures memory { OnErr result (IsSome (verb_of name.now)) }
 {
-    match Verb::read(name) {
-        Some(verb) => by_verb(alloc, verb, arguments),
-        None => Ok(None),
-    }
+    let Some(verb) = Verb::read(name) else {
+        return Ok(None);
+    };
+    let Some(arguments) = read_arguments(alloc, rest)? else {
+        return Ok(None);
+    };
+    by_verb(alloc, verb, arguments.as_slice())
 }
 
 // This command, with these arguments.
-fn by_verb(alloc: Global, verb: Verb, arguments: &[String]) -> Reading
-    ensures read { IfOk result (λ read. read ≡ by_verb verb (map string_bytes arguments.now)) }
-    ensures memory { OnErr result (IsSome (by_verb verb (map string_bytes arguments.now))) }
+fn by_verb(alloc: Global, verb: Verb, arguments: &[&str]) -> Reading
+    ensures read { IfOk result (λ read. read ≡ by_verb verb (map (λ s. s.now) arguments.now)) }
+    ensures memory { OnErr result (IsSome (by_verb verb (map (λ s. s.now) arguments.now))) }
 {
     match verb {
         Verb::UserNew => user_new(alloc, arguments),
@@ -101,14 +109,15 @@ fn by_verb(alloc: Global, verb: Verb, arguments: &[String]) -> Reading
         Verb::Users => Ok(users(arguments)),
         Verb::New => new(alloc, arguments),
         Verb::OfBug(name) => edit(alloc, name, arguments),
+        Verb::Edit => edit_of_comment(alloc, arguments),
         Verb::Show => show(alloc, arguments),
         Verb::Log => log(alloc, arguments),
     }
 }
 
 // The list of people, which takes no argument.
-fn users(arguments: &[String]) -> Option<Result<Command, u64>>
-    ensures { result ≡ by_verb verb.Users (map string_bytes arguments.now) }
+fn users(arguments: &[&str]) -> Option<Result<Command, u64>>
+    ensures { result ≡ by_verb verb.Users (map (λ s. s.now) arguments.now) }
 {
     match arguments {
         [] => Some(Ok(Command::Users)),
@@ -117,66 +126,66 @@ fn users(arguments: &[String]) -> Option<Result<Command, u64>>
 }
 
 // A new person, of a name and an email.
-fn user_new(alloc: Global, arguments: &[String]) -> Reading
+fn user_new(alloc: Global, arguments: &[&str]) -> Reading
     ensures read { IfOk result (λ read. read
-        ≡ by_verb verb.UserNew (map string_bytes arguments.now)) }
-    ensures memory { OnErr result (IsSome (by_verb verb.UserNew (map string_bytes arguments.now))) }
+        ≡ by_verb verb.UserNew (map (λ s. s.now) arguments.now)) }
+    ensures memory { OnErr result (IsSome (by_verb verb.UserNew (map (λ s. s.now) arguments.now))) }
 {
     let [name, email] = arguments else {
         return Ok(None);
     };
-    match person(alloc, name.as_str(), email.as_str())? {
+    match person(alloc, name, email)? {
         Ok((name, email)) => Ok(Some(Ok(Command::Edit(Edit::UserNew { name, email })))),
         Err(place) => Ok(Some(Err(place))),
     }
 }
 
 // A new version of the user, with a name and an email.
-fn user_edit(alloc: Global, arguments: &[String]) -> Reading
+fn user_edit(alloc: Global, arguments: &[&str]) -> Reading
     ensures read { IfOk result (λ read. read
-        ≡ by_verb verb.UserEdit (map string_bytes arguments.now)) }
+        ≡ by_verb verb.UserEdit (map (λ s. s.now) arguments.now)) }
     ensures memory { OnErr result
-        (IsSome (by_verb verb.UserEdit (map string_bytes arguments.now))) }
+        (IsSome (by_verb verb.UserEdit (map (λ s. s.now) arguments.now))) }
 {
     let [name, email] = arguments else {
         return Ok(None);
     };
-    match person(alloc, name.as_str(), email.as_str())? {
+    match person(alloc, name, email)? {
         Ok((name, email)) => Ok(Some(Ok(Command::Edit(Edit::UserEdit { name, email })))),
         Err(place) => Ok(Some(Err(place))),
     }
 }
 
 // Another user.
-fn user_set(alloc: Global, arguments: &[String]) -> Reading
+fn user_set(alloc: Global, arguments: &[&str]) -> Reading
     ensures read { IfOk result (λ read. read
-        ≡ by_verb verb.UserSet (map string_bytes arguments.now)) }
-    ensures memory { OnErr result (IsSome (by_verb verb.UserSet (map string_bytes arguments.now))) }
+        ≡ by_verb verb.UserSet (map (λ s. s.now) arguments.now)) }
+    ensures memory { OnErr result (IsSome (by_verb verb.UserSet (map (λ s. s.now) arguments.now))) }
 {
     let [id] = arguments else {
         return Ok(None);
     };
-    let id = Text::from_str(alloc, id.as_str())?;
+    let id = Text::from_str(alloc, id)?;
     Ok(Some(Ok(Command::Edit(Edit::UserSet { id }))))
 }
 
 // A new bug with a title and a message.
-fn new(alloc: Global, arguments: &[String]) -> Reading
-    ensures read { IfOk result (λ read. read ≡ by_verb verb.New (map string_bytes arguments.now)) }
-    ensures memory { OnErr result (IsSome (by_verb verb.New (map string_bytes arguments.now))) }
+fn new(alloc: Global, arguments: &[&str]) -> Reading
+    ensures read { IfOk result (λ read. read ≡ by_verb verb.New (map (λ s. s.now) arguments.now)) }
+    ensures memory { OnErr result (IsSome (by_verb verb.New (map (λ s. s.now) arguments.now))) }
 {
     let [title, message] = arguments else {
         return Ok(None);
     };
-    Ok(Some(new_bug(alloc, title.as_str(), message.as_str())?))
+    Ok(Some(new_bug(alloc, title, message)?))
 }
 
 // An edit of the bug that the first argument finds.
-fn edit(alloc: Global, name: EditName, arguments: &[String]) -> Reading
+fn edit(alloc: Global, name: EditName, arguments: &[&str]) -> Reading
     ensures read { IfOk result (λ read. read
-        ≡ by_verb (verb.OfBug name) (map string_bytes arguments.now)) }
+        ≡ by_verb (verb.OfBug name) (map (λ s. s.now) arguments.now)) }
     ensures memory { OnErr result
-        (IsSome (by_verb (verb.OfBug name) (map string_bytes arguments.now))) }
+        (IsSome (by_verb (verb.OfBug name) (map (λ s. s.now) arguments.now))) }
 {
     let [bug, arguments @ ..] = arguments else {
         return Ok(None);
@@ -188,36 +197,48 @@ fn edit(alloc: Global, name: EditName, arguments: &[String]) -> Reading
     }
 }
 
+// Another message of the comment that the first argument finds.
+fn edit_of_comment(alloc: Global, arguments: &[&str]) -> Reading
+    ensures read { IfOk result (λ read. read
+        ≡ by_verb verb.Edit (map (λ s. s.now) arguments.now)) }
+    ensures memory { OnErr result (IsSome (by_verb verb.Edit (map (λ s. s.now) arguments.now))) }
+{
+    let [comment, message] = arguments else {
+        return Ok(None);
+    };
+    Ok(Some(edited_comment(alloc, comment, message)?))
+}
+
 // A bug as text.
-fn show(alloc: Global, arguments: &[String]) -> Reading
-    ensures read { IfOk result (λ read. read ≡ by_verb verb.Show (map string_bytes arguments.now)) }
-    ensures memory { OnErr result (IsSome (by_verb verb.Show (map string_bytes arguments.now))) }
+fn show(alloc: Global, arguments: &[&str]) -> Reading
+    ensures read { IfOk result (λ read. read ≡ by_verb verb.Show (map (λ s. s.now) arguments.now)) }
+    ensures memory { OnErr result (IsSome (by_verb verb.Show (map (λ s. s.now) arguments.now))) }
 {
     let [bug] = arguments else {
         return Ok(None);
     };
-    let bug = Text::from_str(alloc, bug.as_str())?;
+    let bug = Text::from_str(alloc, bug)?;
     Ok(Some(Ok(Command::Show { bug })))
 }
 
 // The log of a bug.
-fn log(alloc: Global, arguments: &[String]) -> Reading
-    ensures read { IfOk result (λ read. read ≡ by_verb verb.Log (map string_bytes arguments.now)) }
-    ensures memory { OnErr result (IsSome (by_verb verb.Log (map string_bytes arguments.now))) }
+fn log(alloc: Global, arguments: &[&str]) -> Reading
+    ensures read { IfOk result (λ read. read ≡ by_verb verb.Log (map (λ s. s.now) arguments.now)) }
+    ensures memory { OnErr result (IsSome (by_verb verb.Log (map (λ s. s.now) arguments.now))) }
 {
     let [bug] = arguments else {
         return Ok(None);
     };
-    let bug = Text::from_str(alloc, bug.as_str())?;
+    let bug = Text::from_str(alloc, bug)?;
     Ok(Some(Ok(Command::Log { bug })))
 }
 
 // An edit of the bug that an argument finds.
-fn of_bug(alloc: Global, bug: &String, edit: BugEdit) -> Result<Command, Memory>
-    ensures { IfOk result (λ command. command ≡ of_bug (string_bytes bug.now) edit) }
+fn of_bug(alloc: Global, bug: &str, edit: BugEdit) -> Result<Command, Memory>
+    ensures { IfOk result (λ command. command ≡ of_bug bug.now edit) }
 {
     Ok(Command::Edit(Edit::OfBug {
-        bug: Text::from_str(alloc, bug.as_str())?,
+        bug: Text::from_str(alloc, bug)?,
         edit,
     }))
 }
@@ -246,4 +267,19 @@ fn new_bug(alloc: Global, title: &str, message: &str) -> Result<Result<Command, 
         (None, _) => Err(1),
         (_, None) => Err(2),
     })
+}
+
+// Another message of the comment that an argument finds.
+fn edited_comment(
+    alloc: Global,
+    comment: &str,
+    message: &str,
+) -> Result<Result<Command, u64>, Memory>
+    ensures { IfOk result (λ read. read ≡ edited_comment comment.now message.now) }
+{
+    let Some(message) = Message::read(alloc, message)? else {
+        return Ok(Err(2));
+    };
+    let comment = Text::from_str(alloc, comment)?;
+    Ok(Ok(Command::Edit(Edit::OfComment { comment, message })))
 }

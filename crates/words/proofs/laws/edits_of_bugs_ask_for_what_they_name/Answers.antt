@@ -1,6 +1,6 @@
 use Rattle.std.proofs.Common.{◌∷◌}
 use Rattle.bug_edits.specs.declared.edit.BugEdit.TheVariants as bug_edit
-use Rattle.words.proofs.AskLemmas.{each}
+use Rattle.words.proofs.AskLemmas.{each, edit_comment}
 use Rattle.words.proofs.laws.edits_of_bugs_ask_for_what_they_name.Goals as goal
 
 pub returns-clause-each : goal.returns-clause-each
@@ -20,3 +20,6 @@ returns-clause-label_add c = λ bug label more. each bug (bug_edit.AddLabels (la
 
 pub returns-clause-label_rm : goal.returns-clause-label_rm
 returns-clause-label_rm c = λ bug label more. each bug (bug_edit.RemoveLabels (label ∷ more)) tt
+
+pub returns-clause-edit : goal.returns-clause-edit
+returns-clause-edit c = edit_comment

@@ -1,5 +1,8 @@
-use Rattle.words.proofs.AskLemmas.{asks_nothing, bad_folder, bad_place, requested}
+use Rattle.words.proofs.AskLemmas.{asks_nothing, bad_folder, bad_place, refused_argument, requested}
 use Rattle.words.proofs.laws.requests_are_read_in_order.Goals as goal
+
+pub returns-clause-refused : goal.returns-clause-refused
+returns-clause-refused c = refused_argument
 
 pub returns-clause-nothing : goal.returns-clause-nothing
 returns-clause-nothing c = asks_nothing
