@@ -16,8 +16,8 @@ pub struct Split {
 }
 
 /// Splits a prefix of a comment's id into a prefix of its bug's id and one of its own. Takes no
-/// memory. No command uses it yet: one that is given a comment will split this argument, and read
-/// only bugs that the first part fits.
+/// memory. A command that is given a comment splits its argument so, and reads only bugs that the
+/// first part fits.
 pub fn split_prefix(prefix: &Prefix) -> Split
     ensures first { option_map digits_of result.first ≡ some_digits (first_digits prefix.now) }
     ensures second { option_map digits_of result.second ≡ some_digits (second_digits prefix.now) }

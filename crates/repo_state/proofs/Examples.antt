@@ -8,6 +8,7 @@ use Rattle.gb_text.specs.declared.id.Id.{Id}
 use Rattle.gb_store.specs.Files.{Files, Put}
 use Rattle.ref_store.specs.declared.read.TheConstants.{MOST_BYTES}
 use Rattle.repo_state.specs.Clocks.{clock_at, clock_write, see_writes}
+use Rattle.repo_state.specs.Comments.{bug_digits}
 use Rattle.repo_state.specs.Finds.{Finds, Nothing, One}
 use Rattle.repo_state.specs.Sides.{ref_place}
 use Rattle.repo_state.specs.Users.{BadUser, NoUser, User, user_at, user_of, user_write}
@@ -141,3 +142,7 @@ user_of_nothing = refl
 user_written : user_write (codes "f") id ≡ Put (codes "f/git-bug/user") (id_digits ++ codes "\n")
 unfolding hex_on_literals
 user_written = refl
+
+-- ten digits of the id of a comment, of which six are of its bug's id
+six_of_a_bug : bug_digits (codes "3399112f32") ≡ codes "3912f3"
+six_of_a_bug = refl

@@ -2,9 +2,12 @@ pub mod BugLemmas
 pub mod BugListLemmas
 pub mod BugSoundLemmas
 pub mod ClockFileLemmas
+pub mod CommentLemmas
+pub mod CommentWordLemmas
 pub mod EmptyLemmas
 pub mod EntryLemmas
 pub mod Examples
+pub mod FittingLemmas
 pub mod FoundLemmas
 pub mod HeadIdLemmas
 pub mod IdLemmas
@@ -12,10 +15,12 @@ pub mod KindLemmas
 pub mod LedLemmas
 pub mod ListedLemmas
 pub mod ListingLemmas
+pub mod OnceLemmas
 pub mod PeopleLemmas
 pub mod PlaceLemmas
 pub mod PrefixLemmas
 pub mod RemoteLemmas
+pub mod SeekLemmas
 pub mod UndamagedLemmas
 pub mod UserFileLemmas
 pub mod WordLemmas

@@ -72,7 +72,7 @@ no_head files folder entry (stop.Damaged path) told =
     (told.1, subst (IsBadFound (objects_in files folder)) (sym told.0) tt)
 
 -- the list up to a place, what stands there, and the rest
-split_at : {X : Type 0} (xs : List X) (k : ℕ) (d : X) → k < length xs → xs ≡ take k xs ++ get_or xs k d ∷ drop (k + 1) xs
+pub split_at : {X : Type 0} (xs : List X) (k : ℕ) (d : X) → k < length xs → xs ≡ take k xs ++ get_or xs k d ∷ drop (k + 1) xs
 split_at xs k d lt = sym (take-append-drop k xs) ∙ ap (λ (rest : List _). take k xs ++ rest) (drop-cons xs k d lt ∙ ap (λ (n : ℕ). get_or xs k d ∷ drop n xs) (sym (add-one k)))
 
 -- the heads of refs up to one that has none

@@ -26,7 +26,7 @@ use Rattle.repo_state.proofs.ListingLemmas.{not_before_itself, not_both_before}
 
 module _ {X : Type 0} (p : X → Bool) where
   -- what passes is kept
-  Contains-filter : (xs : List X) (x : X) → Contains xs x → p x ≡ true → Contains (filter p xs) x
+  pub Contains-filter : (xs : List X) (x : X) → Contains xs x → p x ≡ true → Contains (filter p xs) x
   Contains-filter [] x (k, lt, e) h = absurd (omega arith)
   Contains-filter (z ∷ xs) x (zero, lt, e) h = subst (λ (b : Bool). Contains (cond b (z ∷ filter p xs) (filter p xs)) x) (sym (ap p e ∙ h)) (0, omega arith, e)
   Contains-filter (z ∷ xs) x (suc k, lt, e) h = each (p z) (Contains-filter xs x (k, omega arith, e) h)
@@ -36,7 +36,7 @@ module _ {X : Type 0} (p : X → Bool) where
       each false later = later
 
   -- and what is kept passes
-  Contains-from_filter : (xs : List X) (x : X) → Contains (filter p xs) x → Contains xs x × (p x ≡ true)
+  pub Contains-from_filter : (xs : List X) (x : X) → Contains (filter p xs) x → Contains xs x × (p x ≡ true)
   Contains-from_filter [] x (k, lt, e) = absurd (omega arith)
   Contains-from_filter (z ∷ xs) x h = each (Contains-from_filter xs x) (p z) refl h
     where
@@ -56,7 +56,7 @@ all_unmapped : (P : List ℕ → Type 0) (ids : List Id) → AllByRecursion P (m
 all_unmapped P [] all = tt
 all_unmapped P (id ∷ ids) all = (all.0, all_unmapped P ids all.1)
 
-unmapped : (ids : List Id) → IsStrictlySortedBy (slice_cmp nat_cmp) (map (λ (id : Id). id.bytes) ids) → IsStrictlySortedBy (λ one two. slice_cmp nat_cmp one.bytes two.bytes) ids
+pub unmapped : (ids : List Id) → IsStrictlySortedBy (slice_cmp nat_cmp) (map (λ (id : Id). id.bytes) ids) → IsStrictlySortedBy (λ one two. slice_cmp nat_cmp one.bytes two.bytes) ids
 unfolding IsStrictlySortedBy
 unmapped [] rising = tt
 unmapped (id ∷ ids) rising = (all_unmapped (λ bytes. slice_cmp nat_cmp id.bytes bytes ≡ Less) ids rising.0, unmapped ids rising.1)

@@ -29,7 +29,7 @@ module _ (folder : List ℕ) (files : Files) (sound : IsSound folder files) wher
   sound_entity id head none are authors locals fault holds =
       none fault (λ author e. cc) (other_fault bug_kind id (head ∷ []) (objects_in files folder) authors [] fault (λ author e. cc) holds)
 
-  no_bad_bug : (id : Id) → IsId id → IsDamagedBug files folder id → ⊥
+  pub no_bad_bug : (id : Id) → IsId id → IsDamagedBug files folder id → ⊥
   no_bad_bug id is (inl bad) = subst (IsAuthoredBug folder files id) bad (sound parts.Authors id is)
   no_bad_bug id is (inr (head, has, wrong)) =
       let good : IsAuthoredBug folder files id (Head head) = subst (IsAuthoredBug folder files id) has (sound parts.Authors id is) in

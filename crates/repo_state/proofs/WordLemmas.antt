@@ -15,19 +15,19 @@ use Rattle.repo_state.specs.Sides.{IsBefore, has_ref}
 use Rattle.repo_state.specs.declared.side.Side.{Side}
 use Rattle.repo_state.proofs.ListingLemmas.{in_order, not_before_itself}
 
-take_front : (front rest : List ℕ) → take (length front) (front ++ rest) ≡ front
+pub take_front : (front rest : List ℕ) → take (length front) (front ++ rest) ≡ front
 take_front front rest = grind (arith, common_steps)
 
 -- no prefix is empty
-not_empty : (word : List ℕ) → is_prefix_text word ≡ true → word ≢ []
+pub not_empty : (word : List ℕ) → is_prefix_text word ≡ true → word ≢ []
 not_empty word is none = let empty : is_prefix_text [] ≡ true = subst (λ (w : List ℕ). is_prefix_text w ≡ true) none is in cc (empty)
 
-at_least_one : (word : List ℕ) → word ≢ [] → nat_le 1 (length word) ≡ true
+pub at_least_one : (word : List ℕ) → word ≢ [] → nat_le 1 (length word) ≡ true
 at_least_one [] some = absurd (some refl)
 at_least_one (c ∷ cs) some = le-leb 1 (length (c ∷ cs)) (omega arith)
 
 -- the first digits of an id are a prefix
-front_is_prefix : (id : Id) (word rest : List ℕ) → IsId id → word ≢ [] → encode_lower id.bytes ≡ word ++ rest → is_prefix_text word ≡ true
+pub front_is_prefix : (id : Id) (word rest : List ℕ) → IsId id → word ≢ [] → encode_lower id.bytes ≡ word ++ rest → is_prefix_text word ≡ true
 front_is_prefix id word rest is some front =
     let sized = id_digits-sized id is in
     let long : length (word ++ rest) ≡ 64 = sym (ap (λ (t : List ℕ). length t) front) ∙ sized in

@@ -1,12 +1,14 @@
 pub mod Answers
 pub mod Bugs
 pub mod Clocks
+pub mod Comments
 pub mod Finds
 pub mod Listed
 pub mod People
 pub mod Places
 pub mod RemoteTexts
 pub mod Remotes
+pub mod Seeking
 pub mod Sides
 pub mod Sound
 pub mod Stops

@@ -3,19 +3,27 @@
 
 mod bugs;
 mod clocks;
+mod comment_laws;
+mod comments;
 mod finding;
+mod fitting;
 mod laws;
 mod listing;
 mod operations;
 mod people;
 mod refs;
 mod remote;
+mod seeking;
 mod side;
 mod stop;
 mod user_file;
 
 pub use bugs::{bug_among, bug_at, read_bug};
 pub use clocks::{ClockFile, clock, clock_changes, see};
+pub use comment_laws::{
+    comments_are_found_by_their_first_digits, longer_words_find_the_same_comment,
+};
+pub use comments::{CommentEntry, FoundComment, find_comment};
 pub use finding::{find, find_head};
 pub use laws::{
     an_empty_folder_is_sound, clocks_read_as_they_were_seen, finders_are_determined,
