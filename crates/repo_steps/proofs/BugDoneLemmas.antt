@@ -3,7 +3,7 @@ use Rattle.std.proofs.Common.{◌≡◌, ◌≤◌, ℕ, false, true, List, [], 
 use Rattle.std.proofs.lemmas.List.{map-append}
 use Rattle.std.proofs.lemmas.List.Elements.{Contains-append_left, Contains-append_right, Contains-get_or}
 use Rattle.std.proofs.lemmas.Option.{same_Some}
-use Rattle.repo_steps.proofs.Names.{Contains-one, IsId, GREATEST_TIME, Id, Name, Files, History, files_of, Wrote, Change, Wrote-then, Objects, objects_after, objects_in, Commit, commit_at, bind-some, MayBePut, missing_writes, Contains-cons_cases, Contains-first, Contains-later, Head, ref_write, edit_time_of, root_time_of, seen_by, CAP, IsId-version_id, Place, place_of, bug_kind, bug_keeps_laws, BugOp, MOST_COMMITS, Contains-nil, AreHeld, CanBeRead, MayBeAppended, appended_head, appended_node, IsEntity, ops_in, extended, edit_at, Entity, Loaded, Placed, EachIsLocal, IsBug, IsLocal, clock_at, clock_place, see_writes, has_ref, head_at, ref_place, UserFound, BadUser, NoUser, User, user_at, ClockFile, Env, HeadEntry, head_edit, IsBug-over, clock_at-capped, HasBug, addition_head, addition_objects, addition_writes, bug_says, clock_writes, later_addition, op_ids, root_addition, edit_op, op_id, IsWrite, BugBegins, BugGrows, begun_entity, Addition, BugEdit}
+use Rattle.repo_steps.proofs.Names.{Contains-one, IsId, GREATEST_TIME, Id, Name, Files, History, files_of, Wrote, Change, Wrote-then, Objects, objects_after, objects_in, Commit, commit_at, bind-some, MayBePut, missing_writes, Contains-cons_cases, Contains-first, Contains-later, Head, ref_write, edit_time_of, root_time_of, seen_by, CAP, IsId-version_id, Place, place_of, bug_kind, bug_keeps_laws, BugOp, MOST_COMMITS, Contains-nil, AreHeld, CanBeRead, MayBeAppended, appended_head, appended_node, IsEntity, ops_in, extended, edit_at, Entity, Loaded, Placed, EachIsLocal, IsBug, IsLocal, clock_at, clock_place, see_writes, has_ref, head_at, ref_place, UserFound, BadUser, NoUser, User, user_at, ClockFile, Env, HeadEntry, head_edit, IsBug-over, clock_at-capped, HasFound, Growth, addition_head, addition_objects, addition_writes, bug_says, clock_writes, later_addition, op_ids, root_addition, op_id, IsWrite, BugBegins, BugGrows, begun_entity, Addition}
 use Rattle.object_store.specs.Typed.{HoldsAs, as_commit, tree_at}
 use Rattle.op_pack.specs.Heads.{IsClock, edit_clock_of}
 use Rattle.bug_ops.specs.declared.op.BugOp.TheVariants.{AddComment, Create, EditComment, LabelChange, NoOp, SetMetadata, SetStatus, SetTitle}
@@ -230,9 +230,10 @@ module _ (env : Env) (old : History) (op : BugOp) (rules : bug_kind.KeepsRules o
 
 -- ---- a bug with one operation more
 
-module _ (env : Env) (old : History) (edit : BugEdit) (word : List ℕ) (op : BugOp) (rules : bug_kind.KeepsRules op) (follows : bug_kind.is_following op ≡ true)
+module _ (env : Env) (old : History) (growth : Growth) (op : BugOp) (rules : bug_kind.KeepsRules op) (follows : bug_kind.is_following op ≡ true)
     (user : Id) (is_user : user_at (files_of old) env.folder ≡ User user) (local : IsLocal (files_of old) env.folder user)
-    (found : HasBug env.folder (files_of old) word) (adds : edit_op env.moment edit (bug_says found.entity) ≡ Ok op) (has_clock : found.entity.edit ≡ GREATEST_TIME → ⊥) (has_room : MOST_COMMITS ≤ length found.entity.packs → ⊥)
+    (found : HasFound env.folder (files_of old) (growth.finder (files_of old))) (stands : head_at (files_of old) env.folder side.Bugs found.bug.id ≡ Head found.bug.name)
+    (adds : growth.adds (bug_says found.entity) ≡ Ok op) (has_clock : found.entity.edit ≡ GREATEST_TIME → ⊥) (has_room : MOST_COMMITS ≤ length found.entity.packs → ⊥)
     (is_new : Contains (op_ids (ops_in bug_kind found.entity.packs)) (op_id op) → ⊥)
     (free : MayBePut env.folder (addition_objects env.moment.now (Some (later_addition env.folder (files_of old) op user found.bug found.entity.edit))) old) (is_id : IsId found.bug.id) where
   abbrev edit_before : ℕ
@@ -356,7 +357,7 @@ module _ (env : Env) (old : History) (edit : BugEdit) (word : List ℕ) (op : Bu
       let is = put_node env old added added_may added_can local.is_id added_parents free in
       parent (head (Contains-first (addition_head env.moment.now added) [])) (record { commit = is.commit; held = is.held; names = subst (λ (l : List Name). Contains l found.bug.name) is.parents (Contains-first found.bug.name []) })
 
-  grows : BugGrows env edit word (files_of old) (files_of then_edited) (op_id op)
+  grows : BugGrows env growth (files_of old) (files_of then_edited) (op_id op)
   grows = record {
     user = user;
     is_user = is_user;
@@ -373,11 +374,11 @@ module _ (env : Env) (old : History) (edit : BugEdit) (word : List ℕ) (op : Bu
 
   then_wrote : Wrote (IsWrite env.folder) old then_edited
   then_wrote = Wrote-then (IsWrite env.folder) old then_set then_edited
-      (set_wrote env old added added_may added_can local.is_id added_parents free longer authors each_local is_id is_longer (Some found.bug.name) found.finds.head under) then_seen.wrote
+      (set_wrote env old added added_may added_can local.is_id added_parents free longer authors each_local is_id is_longer (Some found.bug.name) stands under) then_seen.wrote
 
   -- the bug grows
-  pub bug_grown : MadeBug env old added (λ (new : Files). BugGrows env edit word (files_of old) new (op_id op))
+  pub bug_grown : MadeBug env old added (λ (new : Files). BugGrows env growth (files_of old) new (op_id op))
   bug_grown = record {
     wrote = subst (Wrote (IsWrite env.folder) old) then_all then_wrote;
-    step = subst (λ (new : History). BugGrows env edit word (files_of old) (files_of new) (op_id op)) then_all grows;
+    step = subst (λ (new : History). BugGrows env growth (files_of old) (files_of new) (op_id op)) then_all grows;
   }

@@ -1,12 +1,12 @@
 -- What is so where a command is refused for a user that is missing, an entity or an operation that exists, a name that is taken, an object
 -- that is too large, or a chain or a bug that is full.
 use Rattle.std.proofs.Common.{◌≡◌, ◌≤◌, ◌+◌, ◌^◌, ◌⊎◌, ℕ, IsTrue, inl, inr, List, length, Contains, Some, None, refl, sym, ◌∙◌, ap, subst, arith}
-use Rattle.repo_steps.proofs.Names.{GREATEST_TIME, Id, Name, Line, Message, Title, Files, History, files_of, Objects, objects_in, MOST_BYTES, CannotHave, HasLong, MOST_COMMITS, create_op, op_id, BugEdit, bug_kind, ops_in, edit_at, head_edit, has_ref, NoUser, user_at, HasBug, op_ids, FirstFails, names, Refused, doing_of, HasUser, new_made, Picked, Edit, Env, Refusal}
+use Rattle.repo_steps.proofs.Names.{GREATEST_TIME, Id, Name, Line, Message, Title, Files, History, files_of, Objects, objects_in, MOST_BYTES, CannotHave, HasLong, MOST_COMMITS, create_op, op_id, BugEdit, bug_kind, ops_in, edit_at, head_edit, has_ref, NoUser, user_at, Finder, HeadEntry, Growth, HasBug, HasCommented, HasFound, comment_growth, edit_growth, longer_bug, op_ids, FirstFails, names, Refused, doing_of, HasUser, new_made, Picked, Edit, Env, Refusal}
 use Rattle.commit_walk.specs.declared.below.TheConstants.{MOST_COMMITS as MOST_VERSIONS}
 use Rattle.repo_state.specs.declared.side.Side.TheVariants as side
 use Rattle.words.specs.declared.edit.Edit.TheVariants as edit
 use Rattle.repo_steps.specs.declared.refusal.Refusal.TheVariants as refusal
-use Rattle.repo_steps.proofs.RankLemmas.{FailsAt, places_of, told_by}
+use Rattle.repo_steps.proofs.RankLemmas.{FailsAt, longer_places, places_of, told_by}
 
 -- what a refusal names
 same_id : (one other : Id) → refusal.EntityExists one ≡ refusal.EntityExists other → one ≡ other
@@ -47,6 +47,8 @@ module _ (env : Env) (old : History) where
       each (edit.New title message) (inr none) = absurd none
       each (edit.OfBug word e) (inl f) = f.0
       each (edit.OfBug word e) (inr none) = absurd none
+      each (edit.OfComment word message) (inl f) = f.0
+      each (edit.OfComment word message) (inr none) = absurd none
 
   -- ---- what exists
 
@@ -68,14 +70,27 @@ module _ (env : Env) (old : History) where
       each (inl f) = let same = same_id id (op_id (create_op env.moment title message)) f.1 in (same, subst (λ (i : Id). IsTrue (has_ref files env.folder side.Bugs i)) (sym same) f.0)
       each (inr none) = absurd none
 
-  -- an edit is refused as repeated where an operation of the bug has its id
+  -- what is checked of a bug that gets an operation more, at a place
+  abbrev LongerAt : ℕ → Growth → Picked → Refusal → Type 0
+  LongerAt n growth picked r = FailsAt n (longer_bug env growth picked.bug picked.op old).checks longer_places r
+
+  abbrev Found : Growth → Type 0
+  Found growth = HasFound env.folder files (growth.finder files)
+
+  -- it is refused as repeated where an operation of the bug has its id
+  repeated : (growth : Growth) (picked : Picked) (id : Id) → LongerAt 8 growth picked (refusal.RepeatedOperation id) → (bug : Found growth) × Contains (op_ids (ops_in bug_kind bug.entity.packs)) id
+  repeated growth picked id (inl f) = (f.0, subst (Contains (op_ids (ops_in bug_kind f.0.entity.packs))) (sym (same_operation id (op_id picked.op) f.2)) f.1)
+  repeated growth picked id (inr none) = absurd none
+
   pub operation_exists : (e : BugEdit) (word : List ℕ) (id : Id) → Refused env (edit.OfBug word e) old (refusal.RepeatedOperation id)
       → (bug : HasBug env.folder files word) × Contains (op_ids (ops_in bug_kind bug.entity.packs)) id
-  operation_exists e word id (picked, fails) = each (told_by env (edit.OfBug word e) picked old (refusal.RepeatedOperation id) 8 refl fails)
-    where
-      each : At 8 (edit.OfBug word e) picked (refusal.RepeatedOperation id) → (bug : HasBug env.folder files word) × Contains (op_ids (ops_in bug_kind bug.entity.packs)) id
-      each (inl f) = (f.0, subst (Contains (op_ids (ops_in bug_kind f.0.entity.packs))) (sym (same_operation id (op_id picked.op) f.2)) f.1)
-      each (inr none) = absurd none
+  operation_exists e word id (picked, fails) = repeated (edit_growth env e word) picked id (told_by env (edit.OfBug word e) picked old (refusal.RepeatedOperation id) 8 refl fails)
+
+  pub comment_exists : (message : Message) (word : List ℕ) (id : Id) → Refused env (edit.OfComment word message) old (refusal.RepeatedOperation id)
+      → (comment : Id) × (bug : HasCommented env.folder files word comment) × Contains (op_ids (ops_in bug_kind bug.entity.packs)) id
+  comment_exists message word id (picked, fails) =
+      let has = repeated (comment_growth env message word picked.comment) picked id (told_by env (edit.OfComment word message) picked old (refusal.RepeatedOperation id) 8 refl fails) in
+      (picked.comment, has.0, has.1)
 
   -- ---- objects
 
@@ -97,6 +112,8 @@ module _ (env : Env) (old : History) where
       each (edit.New title message) (inr none) = absurd none
       each (edit.OfBug word e) (inl f) = by (doing_of env (edit.OfBug word e) picked old).objects f
       each (edit.OfBug word e) (inr none) = absurd none
+      each (edit.OfComment word message) (inl f) = by (doing_of env (edit.OfComment word message) picked old).objects f
+      each (edit.OfComment word message) (inr none) = absurd none
 
   -- an object is too large where one that the command makes is
   pub object_large : (command : Edit) (picked : Picked) → FirstFails (doing_of env command picked old).checks (refusal.TooLarge (MOST_BYTES + 1))
@@ -115,6 +132,9 @@ module _ (env : Env) (old : History) where
       each (edit.OfBug word e) (inl full) = absurd (let is = same_count (MOST_BYTES + 1) (MOST_COMMITS + 1) full.2 in omega (arith, is))
       each (edit.OfBug word e) (inr (inl f)) = f.0
       each (edit.OfBug word e) (inr (inr none)) = absurd none
+      each (edit.OfComment word message) (inl full) = absurd (let is = same_count (MOST_BYTES + 1) (MOST_COMMITS + 1) full.2 in omega (arith, is))
+      each (edit.OfComment word message) (inr (inl f)) = f.0
+      each (edit.OfComment word message) (inr (inr none)) = absurd none
 
   -- ---- a full chain
 
@@ -144,24 +164,36 @@ module _ (env : Env) (old : History) where
   -- ---- a full bug
 
   -- the edit clock of the bug's head
-  pub at_limit : {word : List ℕ} (bug : HasBug env.folder files word) → bug.entity.edit ≡ GREATEST_TIME → edit_at held bug.bug.name ≡ Some GREATEST_TIME
+  pub at_limit : {finder : Finder HeadEntry} (bug : HasFound env.folder files finder) → bug.entity.edit ≡ GREATEST_TIME → edit_at held bug.bug.name ≡ Some GREATEST_TIME
   at_limit bug full = head_edit held bug.bug.name bug.entity.edit bug.is.is.edit ∙ ap (λ (n : ℕ). Some n) full
 
+  -- a clock is told as full where it is the last that is written
+  full_clock : (growth : Growth) (picked : Picked) (name : Name) → LongerAt 6 growth picked (refusal.ClockFull name) → (bug : Found growth) × (name ≡ bug.bug.name) × (edit_at held bug.bug.name ≡ Some GREATEST_TIME)
+  full_clock growth picked name (inl f) = let same : name ≡ f.0.bug.name = let is = f.2 in cc in (f.0, same, at_limit f.0 f.1)
+  full_clock growth picked name (inr none) = absurd none
+
+  -- commits are told as too many where there are the most that are read
+  many_commits : (growth : Growth) (picked : Picked) → LongerAt 7 growth picked (refusal.TooLarge (MOST_COMMITS + 1)) → (bug : Found growth) × (MOST_COMMITS ≤ length bug.entity.packs)
+  many_commits growth picked (inl f) = (f.0, f.1)
+  many_commits growth picked (inr (inl long)) = absurd (let is = same_count (MOST_COMMITS + 1) (MOST_BYTES + 1) long.1 in omega (arith, is))
+  many_commits growth picked (inr (inr none)) = absurd none
+
   module _ (e : BugEdit) (word : List ℕ) where
-    -- a clock is told as full where it is the last that is written
     pub only_full_clocks : (name : Name) → Refused env (edit.OfBug word e) old (refusal.ClockFull name)
         → (bug : HasBug env.folder files word) × (name ≡ bug.bug.name) × (edit_at held bug.bug.name ≡ Some GREATEST_TIME)
-    only_full_clocks name (picked, fails) = each (told_by env (edit.OfBug word e) picked old (refusal.ClockFull name) 6 refl fails)
-      where
-        each : At 6 (edit.OfBug word e) picked (refusal.ClockFull name) → (bug : HasBug env.folder files word) × (name ≡ bug.bug.name) × (edit_at held bug.bug.name ≡ Some GREATEST_TIME)
-        each (inl f) = let same : name ≡ f.0.bug.name = let is = f.2 in cc in (f.0, same, at_limit f.0 f.1)
-        each (inr none) = absurd none
+    only_full_clocks name (picked, fails) = full_clock (edit_growth env e word) picked name (told_by env (edit.OfBug word e) picked old (refusal.ClockFull name) 6 refl fails)
 
-    -- commits are told as too many where there are the most that are read
     pub only_many_commits : Refused env (edit.OfBug word e) old (refusal.TooLarge (MOST_COMMITS + 1)) → (bug : HasBug env.folder files word) × (MOST_COMMITS ≤ length bug.entity.packs)
-    only_many_commits (picked, fails) = each (told_by env (edit.OfBug word e) picked old (refusal.TooLarge (MOST_COMMITS + 1)) 7 refl fails)
-      where
-        each : At 7 (edit.OfBug word e) picked (refusal.TooLarge (MOST_COMMITS + 1)) → (bug : HasBug env.folder files word) × (MOST_COMMITS ≤ length bug.entity.packs)
-        each (inl f) = (f.0, f.1)
-        each (inr (inl long)) = absurd (let is = same_count (MOST_COMMITS + 1) (MOST_BYTES + 1) long.1 in omega (arith, is))
-        each (inr (inr none)) = absurd none
+    only_many_commits (picked, fails) = many_commits (edit_growth env e word) picked (told_by env (edit.OfBug word e) picked old (refusal.TooLarge (MOST_COMMITS + 1)) 7 refl fails)
+
+  module _ (message : Message) (word : List ℕ) where
+    pub comment_full_clocks : (name : Name) → Refused env (edit.OfComment word message) old (refusal.ClockFull name)
+        → (comment : Id) × (bug : HasCommented env.folder files word comment) × (name ≡ bug.bug.name) × (edit_at held bug.bug.name ≡ Some GREATEST_TIME)
+    comment_full_clocks name (picked, fails) =
+        let full = full_clock (comment_growth env message word picked.comment) picked name (told_by env (edit.OfComment word message) picked old (refusal.ClockFull name) 6 refl fails) in
+        (picked.comment, full.0, full.1, full.2)
+
+    pub comment_many_commits : Refused env (edit.OfComment word message) old (refusal.TooLarge (MOST_COMMITS + 1)) → (comment : Id) × (bug : HasCommented env.folder files word comment) × (MOST_COMMITS ≤ length bug.entity.packs)
+    comment_many_commits (picked, fails) =
+        let many = many_commits (comment_growth env message word picked.comment) picked (told_by env (edit.OfComment word message) picked old (refusal.TooLarge (MOST_COMMITS + 1)) 7 refl fails) in
+        (picked.comment, many.0, many.1)

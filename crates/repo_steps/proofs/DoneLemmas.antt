@@ -1,12 +1,12 @@
 -- What a command that nothing keeps from being done leaves: its writes are of their kinds, and make its step.
 use Rattle.std.proofs.Common.{◌≡◌, ◌<◌, ◌≤◌, ℕ, false, IsTrue, List, [], ◌∷◌, ◌++◌, length, reverse, Contains, Option, Some, None, option_and_then, Ok, inl, inr, refl, sym, ◌∙◌, ap, subst}
 use Rattle.std.specs.Option.{option_map}
-use Rattle.repo_steps.proofs.Names.{Contains-one, IsId, joined, Id, Name, Line, Message, Title, Files, History, files_of, Wrote, Wrote-none, Wrote-one, Wrote-then, Objects, objects_in, MayBePut, Absent, Head, ref_of, GREATEST_TIME, bug_kind, BugOp, MOST_COMMITS, ops_in, Entity, IsLocal, head_edit, has_ref, head_at, is_there, ref_place, UserFound, BadUser, NoUser, User, user_at, user_entry, user_place, user_write, Env, HeadEntry, IsId-version_id, ref-not_user, same_or_other, user-not_object, HasBug, addition_objects, addition_writes, bug_says, later_addition, later_by, longer_bug, new_bug, op_ids, root_addition, some_id, edit_op, create_op, op_id, AllPass, Doing, doing_of, Picked, HasUser, edited_user, first_user_write, new_made, new_objects, new_text, new_user, set_user, user_writes, version_writes, IsWrite, BugBegins, BugGrows, OnlyChanges, Steps, first_user, first_user_place, new_version, Addition, BugEdit, Edit, IsLocal-user}
+use Rattle.repo_steps.proofs.Names.{Contains-one, IsId, joined, Id, Name, Line, Message, Title, Files, History, files_of, Wrote, Wrote-none, Wrote-one, Wrote-then, Objects, objects_in, MayBePut, Absent, Head, ref_of, GREATEST_TIME, bug_kind, BugOp, MOST_COMMITS, ops_in, Entity, IsLocal, head_edit, has_ref, head_at, is_there, ref_place, UserFound, BadUser, NoUser, User, user_at, user_entry, user_place, user_write, Env, HeadEntry, IsId-version_id, ref-not_user, same_or_other, user-not_object, HasFound, Growth, comment_growth, edit_growth, addition_objects, addition_writes, bug_says, later_addition, later_by, longer_bug, new_bug, op_ids, root_addition, some_id, create_op, op_id, AllPass, Doing, doing_of, Picked, HasUser, edited_user, first_user_write, new_made, new_objects, new_text, new_user, set_user, user_writes, version_writes, IsWrite, BugBegins, BugGrows, OnlyChanges, Steps, first_user, first_user_place, new_version, Addition, Edit, IsLocal-user}
 use Rattle.identity.specs.Extending.{IsLonger}
 use Rattle.repo_state.specs.Users.{entry_by, entry_of_user, id_line}
 use Rattle.repo_state.specs.declared.side.Side.TheVariants as side
 use Rattle.repo_state.proofs.KindLemmas.{head_at-user_write, objects-user_write, user_at-set}
-use Rattle.bug_edits.proofs.EditLemmas.{begun_keeps, may_follow}
+use Rattle.bug_edits.proofs.EditLemmas.{begun_keeps}
 use Rattle.repo_steps.specs.Doings.{Done}
 use Rattle.repo_writes.specs.Kinds.{a_user}
 use Rattle.words.specs.declared.edit.Edit.TheVariants as edit
@@ -15,7 +15,7 @@ use Rattle.repo_steps.proofs.BugDoneLemmas.{IsId-op_id, MadeBug, bug_begun, bug_
 use Rattle.repo_steps.proofs.ClearLemmas.{bug_one, says_one}
 use Rattle.repo_state.proofs.FoundLemmas.{finds_an_id}
 use Rattle.repo_steps.proofs.OnlyLemmas.{OnlyChanges-none, OnlyChanges-put, OnlyChanges-then, ref_left, user_left, all_both, head_at-absent}
-use Rattle.repo_steps.proofs.RuleLemmas.{adds_keep}
+use Rattle.repo_steps.proofs.RuleLemmas.{AddsWell, comments_add_well, edits_add_well}
 
 -- what stands after all writes of a command
 abbrev pub after : Doing → History → History
@@ -219,13 +219,15 @@ begun_made_so env title message old passes = record {
     made : MadeBug env old (root_addition env.folder (files_of old) op user.0) (λ (new : Files). BugBegins env op (files_of old) new (op_id op))
     made = bug_begun env old op (begun_keeps env.moment title message) refl user.0 user.1 user.2 free passes.1.1.1.0 (IsId-op_id op)
 
--- a bug that has one operation more
-longer_made_so : (env : Env) (e : BugEdit) (word : List ℕ) (head : HeadEntry) (op : BugOp) (old : History) → AllPass (longer_bug env e word head op old).checks → IsMade env (edit.OfBug word e) (longer_bug env e word head op old) old
-longer_made_so env e word head op old passes = record {
+-- a bug that has one operation more, by a command whose step is that
+longer_made_so : (env : Env) (command : Edit) (growth : Growth) (head : HeadEntry) (op : BugOp) (old : History) → AddsWell env (files_of old) growth
+    → ((new : Files) → BugGrows env growth (files_of old) new (op_id op) → Steps env command (files_of old) new (op_id op)) → AllPass (longer_bug env growth head op old).checks
+    → IsMade env command (longer_bug env growth head op old) old
+longer_made_so env command growth head op old well step passes = record {
   told = op_id op;
   is_told = refl;
   wrote = subst (λ (o : Option Addition). Wrote (IsWrite env.folder) old (reverse (addition_writes env (files_of old) o) ++ old)) (sym same) made.wrote;
-  steps = subst (λ (o : Option Addition). BugGrows env e word (files_of old) (files_of (reverse (addition_writes env (files_of old) o) ++ old)) (op_id op)) (sym same) made.step;
+  steps = subst (λ (o : Option Addition). Steps env command (files_of old) (files_of (reverse (addition_writes env (files_of old) o) ++ old)) (op_id op)) (sym same) (step _ made.step);
 }
   where
     files : Files
@@ -234,18 +236,18 @@ longer_made_so env e word head op old passes = record {
     user : (id : Id) × (user_at files env.folder ≡ User id) × IsLocal files env.folder id
     user = local_user_is env.folder files passes.0 passes.1.0
 
-    bug : HasBug env.folder files word
+    bug : HasFound env.folder files (growth.finder files)
     bug = record { bug = head; finds = passes.1.1.0; entity = passes.1.1.1.0.0; is = passes.1.1.1.0.1 }
 
     -- what each check says of the bug is so of this one
-    of_this : (Bars : HeadEntry → Entity BugOp → Type 0) (other : HasBug env.folder files word) → (Bars other.bug other.entity → ⊥) → Bars bug.bug bug.entity → ⊥
+    of_this : (Bars : HeadEntry → Entity BugOp → Type 0) (other : HasFound env.folder files (growth.finder files)) → (Bars other.bug other.entity → ⊥) → Bars bug.bug bug.entity → ⊥
     of_this Bars other none bars = none
-        (let one = bug_one env.folder files word bug other in
+        (let one = bug_one env.folder files (growth.finder files) well.finds bug other in
         subst (λ (entity : Entity BugOp). Bars other.bug entity) one.1 (subst (λ (head : HeadEntry). Bars head bug.entity) one.0 bars))
 
-    -- and the operation is what the edit adds to it
-    adds : edit_op env.moment e (bug_says bug.entity) ≡ Ok op
-    adds = says_one env files word e bug passes.1.1.1.1.0.0 ∙ passes.1.1.1.1.0.1
+    -- and the operation is what is added to it
+    adds : growth.adds (bug_says bug.entity) ≡ Ok op
+    adds = says_one env.folder files growth well.finds bug passes.1.1.1.1.0.0 ∙ passes.1.1.1.1.0.1
 
     addition : Addition
     addition = later_addition env.folder files op user.0 bug.bug bug.entity.edit
@@ -257,19 +259,22 @@ longer_made_so env e word head op old passes = record {
     free : MayBePut env.folder (addition_objects env.moment.now (Some addition)) old
     free = subst (λ (o : Option Addition). MayBePut env.folder (addition_objects env.moment.now o) old) same passes.1.1.1.1.1.1.1.1.1.0
 
-    made : MadeBug env old addition (λ (new : Files). BugGrows env e word files new (op_id op))
-    made = bug_grown env old e word op (adds_keep env files word e op bug adds) (may_follow env.moment e (bug_says bug.entity) op adds) user.0 user.1 user.2 bug adds
+    made : MadeBug env old addition (λ (new : Files). BugGrows env growth files new (op_id op))
+    made = bug_grown env old growth op (well.keeps op bug adds) (well.follows op (bug_says bug.entity) adds) user.0 user.1 user.2 bug (well.head head bug.finds) adds
         (of_this (λ head entity. entity.edit ≡ GREATEST_TIME) passes.1.1.1.1.1.0.0 passes.1.1.1.1.1.0.1)
         (of_this (λ head entity. MOST_COMMITS ≤ length entity.packs) passes.1.1.1.1.1.1.0.0 passes.1.1.1.1.1.1.0.1)
         (of_this (λ head entity. Contains (op_ids (ops_in bug_kind entity.packs)) (op_id op)) passes.1.1.1.1.1.1.1.1.0.0 passes.1.1.1.1.1.1.1.1.0.1)
-        free (finds_an_id bug.bug.id bug.finds.found)
+        free (well.sized head bug.finds)
 
 pub made_so : (env : Env) (command : Edit) (picked : Picked) (old : History) → AllPass (doing_of env command picked old).checks → IsMade env command (doing_of env command picked old) old
 made_so env (edit.UserNew name email) picked old passes = new_made_so env name email old passes
 made_so env (edit.UserEdit name email) picked old passes = edited_made_so env name email old passes
 made_so env (edit.UserSet word) picked old passes = set_made_so env word picked.person old passes
 made_so env (edit.New title message) picked old passes = begun_made_so env title message old passes
-made_so env (edit.OfBug word e) picked old passes = longer_made_so env e word picked.bug picked.op old passes
+made_so env (edit.OfBug word e) picked old passes =
+    longer_made_so env (edit.OfBug word e) (edit_growth env e word) picked.bug picked.op old (edits_add_well env (files_of old) e word) (λ new step. step) passes
+made_so env (edit.OfComment word message) picked old passes =
+    longer_made_so env (edit.OfComment word message) (comment_growth env message word picked.comment) picked.bug picked.op old (comments_add_well env (files_of old) message word picked.comment) (λ new step. (picked.comment, step)) passes
 
 -- a command that was done made its step
 pub done_steps : (env : Env) (command : Edit) (old new : History) (id : Id) → Done env command old new id → Steps env command (files_of old) (files_of new) id

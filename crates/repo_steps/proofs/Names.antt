@@ -1,6 +1,6 @@
 -- The names that most proofs here cite, passed on from one place. Declares nothing.
 pub use Rattle.bug_edits.specs.EditTable.{edit_op}
-pub use Rattle.bug_edits.specs.NewOps.{create_op, op_id}
+pub use Rattle.bug_edits.specs.NewOps.{create_op, edited_comment_op, op_id}
 pub use Rattle.bug_edits.specs.declared.edit.BugEdit.{BugEdit}
 pub use Rattle.bug_edits.specs.declared.edit.NoChange.{NoChange}
 pub use Rattle.bug_ops.specs.Kind.{bug_kind}
@@ -57,6 +57,7 @@ pub use Rattle.repo_state.proofs.KindLemmas.{clock_at-capped, objects-ref_write}
 pub use Rattle.repo_state.proofs.PlaceLemmas.{ref-not_object, user-not_object, clock-not_object, ref-not_clock, ref-not_user, same_or_other}
 pub use Rattle.repo_state.specs.Bugs.{IsBug, EachIsLocal, IsLocal}
 pub use Rattle.repo_state.specs.Clocks.{clock_at, see_writes, clock_place, clock_write, clock_in}
+pub use Rattle.repo_state.specs.Comments.{FindsComment, FindsNoComment}
 pub use Rattle.repo_state.specs.Finds.{bug_finder, person_finder, Finder}
 pub use Rattle.repo_state.specs.Sides.{head_at, ref_place, has_ref, is_there}
 pub use Rattle.repo_state.specs.Users.{user_at, User, BadUser, NoUser, UserFound, user_entry, user_place, user_write}
@@ -65,7 +66,7 @@ pub use Rattle.repo_state.specs.declared.side.HeadEntry.{HeadEntry}
 pub use Rattle.repo_state.specs.declared.side.Side.{Side}
 pub use Rattle.repo_state.specs.declared.stop.Missed.{Missed}
 pub use Rattle.repo_steps.specs.Answers.{DoingAnswers, IsStopped}
-pub use Rattle.repo_steps.specs.BugDoings.{root_addition, addition_objects, HasBug, bug_says, addition_head, op_ids, some_id, addition_writes, later_addition, later_by, longer_bug, new_bug, bug_reads, clock_room, commit_room, new_operation, clock_writes, edit_adds}
+pub use Rattle.repo_steps.specs.BugDoings.{root_addition, addition_objects, HasBug, HasCommented, HasFound, Growth, bug_of_comment, comment_growth, edit_growth, bug_says, addition_head, op_ids, some_id, addition_writes, later_addition, later_by, longer_bug, new_bug, bug_reads, clock_room, commit_room, new_operation, clock_writes, adds_op}
 pub use Rattle.repo_steps.specs.Checks.{FirstFails, AllPass, Check, AreClear}
 pub use Rattle.repo_steps.specs.Doing.{names, found, sizes, user_file, fresh, some_user, Doing}
 pub use Rattle.repo_steps.specs.Doings.{doing_of, Refused, EditAnswers}
@@ -79,5 +80,7 @@ pub use Rattle.repo_steps.specs.declared.plan.Addition.{Addition}
 pub use Rattle.repo_steps.specs.declared.refusal.Refusal.{Refusal}
 pub use Rattle.repo_steps.specs.declared.refusal.Stop.{Stop}
 pub use Rattle.repo_writes.specs.Kinds.{IsWrite, an_object, ref_to}
+pub use Rattle.bug_ops.specs.declared.snapshot.Snapshot.{Snapshot}
+pub use Rattle.repo_state.specs.declared.comments.CommentEntry.{CommentEntry}
 pub use Rattle.snapshot.specs.LastMention.{snapshot_of}
 pub use Rattle.words.specs.declared.edit.Edit.{Edit}

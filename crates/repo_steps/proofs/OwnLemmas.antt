@@ -4,7 +4,7 @@ use Rattle.std.specs.Prelude.{is_some, option_and_then}
 use Rattle.std.specs.Option.{option_map}
 use Rattle.std.proofs.lemmas.List.Elements.{Contains-append_cases, Contains-append_left, Contains-append_right}
 use Rattle.std.specs.Bool.{nat_lt}
-use Rattle.repo_steps.proofs.Names.{Contains-one, Title, Line, Id, Name, Files, History, files_of, written, Change, object_name, objects_in, object_write, missing_writes, Contains-cons_cases, Contains-first, Contains-later, Contains-nil, ref_write, seen_by, clock_at, clock_write, see_writes, ref_place, UserFound, BadUser, NoUser, User, user_at, user_entry, user_write, ClockFile, Env, HeadEntry, addition_objects, addition_writes, clock_writes, later_by, longer_bug, new_bug, root_addition, some_id, doing_of, Doing, create_op, edited_user, first_user_write, new_made, new_objects, new_user, user_writes, version_writes, Picked, Addition, Edit}
+use Rattle.repo_steps.proofs.Names.{Contains-one, Title, Line, Id, Name, Files, History, files_of, written, Change, object_name, objects_in, object_write, missing_writes, Contains-cons_cases, Contains-first, Contains-later, Contains-nil, ref_write, seen_by, clock_at, clock_write, see_writes, ref_place, UserFound, BadUser, NoUser, User, user_at, user_entry, user_write, ClockFile, Env, HeadEntry, addition_objects, addition_writes, clock_writes, comment_growth, edit_growth, later_by, longer_bug, new_bug, root_addition, some_id, doing_of, Doing, create_op, edited_user, first_user_write, new_made, new_objects, new_user, user_writes, version_writes, Picked, Addition, Edit}
 use Rattle.repo_state.specs.declared.clocks.ClockFile.TheVariants as file
 use Rattle.repo_state.specs.declared.side.Side.TheVariants as side
 use Rattle.repo_steps.specs.BugDoings.{addition_shows, bug_set, create_writes, shown_create}
@@ -123,4 +123,7 @@ module _ (env : Env) (entry : History) (change : Change) where
       addition_own (new_bug env title message entry) added refl refl refl added refl among
   own (edit.OfBug word e) picked among =
       let added = option_and_then (later_by env.folder files picked.bug picked.op) (some_id (user_at files env.folder)) in
-      addition_own (longer_bug env e word picked.bug picked.op entry) added refl refl refl added refl among
+      addition_own (longer_bug env (edit_growth env e word) picked.bug picked.op entry) added refl refl refl added refl among
+  own (edit.OfComment word message) picked among =
+      let added = option_and_then (later_by env.folder files picked.bug picked.op) (some_id (user_at files env.folder)) in
+      addition_own (longer_bug env (comment_growth env message word picked.comment) picked.bug picked.op entry) added refl refl refl added refl among

@@ -5,7 +5,7 @@ use Rattle.std.specs.Prelude.{⊤, nat_le, option_and_then}
 use Rattle.std.specs.Option.{option_map}
 use Rattle.std.proofs.lemmas.Bool.{leb-true}
 use Rattle.std.proofs.lemmas.Option.{same_Some}
-use Rattle.repo_steps.proofs.Names.{joined, Id, Files, History, files_of, MOST_BYTES, MOST_COMMITS, create_op, op_id, BugEdit, NoChange, BugOp, Finder, bug_finder, person_finder, ref_place, user_at, user_entry, user_place, HeadEntry, Side, Missed, addition_objects, bug_reads, clock_room, commit_room, edit_adds, later_by, new_operation, root_addition, some_id, AreClear, Check, FirstFails, found, fresh, names, sizes, some_user, user_file, doing_of, new_made, new_objects, user_chain, user_room, Picked, of_missed, of_no_change, Edit, Env, Refusal}
+use Rattle.repo_steps.proofs.Names.{joined, Id, Files, History, files_of, MOST_BYTES, MOST_COMMITS, create_op, op_id, NoChange, BugOp, Finder, Growth, comment_growth, edit_growth, longer_bug, person_finder, ref_place, user_at, user_entry, user_place, HeadEntry, Side, Missed, addition_objects, bug_reads, clock_room, commit_room, adds_op, later_by, new_operation, root_addition, some_id, AreClear, Check, FirstFails, found, fresh, names, sizes, some_user, user_file, doing_of, new_made, new_objects, user_chain, user_room, Picked, of_missed, of_no_change, Edit, Env, Refusal}
 use Rattle.commit_walk.specs.declared.below.TheConstants.{MOST_COMMITS as MOST_VERSIONS}
 use Rattle.bug_edits.specs.declared.edit.NoChange.TheVariants as no_change
 use Rattle.repo_state.specs.declared.side.Side.TheVariants as side
@@ -152,23 +152,27 @@ no_change_rank : (why : NoChange) → rank_of (of_no_change why) ≡ Some 5
 no_change_rank no_change.SameStatus = refl
 no_change_rank no_change.NoLabelChange = refl
 
-edit_adds_rank : (env : Env) (files : Files) (word : List ℕ) (e : BugEdit) (op : BugOp) → Within (edit_adds env files word e op) (Some 5)
-edit_adds_rank env files word e op r n fails is = of_rank r (of_no_change fails.1) n (Some 5) fails.3 (no_change_rank fails.1) is
+adds_rank : (folder : List ℕ) (files : Files) (growth : Growth) (op : BugOp) → Within (adds_op folder files growth op) (Some 5)
+adds_rank folder files growth op r n fails is = of_rank r (of_no_change fails.1) n (Some 5) fails.3 (no_change_rank fails.1) is
 
-module _ (folder : List ℕ) (files : Files) (word : List ℕ) where
+module _ (folder : List ℕ) (files : Files) (finder : Finder HeadEntry) where
   bug_reads_rank : (bug : HeadEntry) → Within (bug_reads folder files bug) None
   bug_reads_rank bug r n fails is = of_rank r (refusal.Damaged (joined folder (ref_place side.Bugs bug.id))) n None fails.1 refl is
 
-  clock_room_rank : Within (clock_room folder files word) (Some 6)
+  clock_room_rank : Within (clock_room folder files finder) (Some 6)
   clock_room_rank r n fails is = of_rank r (refusal.ClockFull fails.0.bug.name) n (Some 6) fails.2 refl is
 
-  commit_room_rank : Within (commit_room folder files word) (Some 7)
+  commit_room_rank : Within (commit_room folder files finder) (Some 7)
   commit_room_rank r n fails is = of_rank r (refusal.TooLarge (MOST_COMMITS + 1)) n (Some 7) fails.2 refl is
 
-  new_operation_rank : (op : BugOp) → Within (new_operation folder files word op) (Some 8)
+  new_operation_rank : (op : BugOp) → Within (new_operation folder files finder op) (Some 8)
   new_operation_rank op r n fails is = of_rank r (refusal.RepeatedOperation (op_id op)) n (Some 8) fails.2 refl is
 
 -- ---- each command
+
+-- the places of the checks of what adds to a bug
+abbrev pub longer_places : List (Option ℕ)
+longer_places = None ∷ Some 3 ∷ Some 4 ∷ None ∷ Some 5 ∷ Some 6 ∷ Some 7 ∷ Some 7 ∷ Some 8 ∷ Some 9 ∷ []
 
 -- the places of the checks of a command
 abbrev pub places_of : Edit → List (Option ℕ)
@@ -176,7 +180,8 @@ places_of (edit.UserNew name email) = None ∷ Some 7 ∷ Some 8 ∷ Some 9 ∷ 
 places_of (edit.UserEdit name email) = None ∷ Some 3 ∷ None ∷ Some 7 ∷ Some 7 ∷ Some 9 ∷ []
 places_of (edit.UserSet word) = Some 4 ∷ []
 places_of (edit.New title message) = None ∷ Some 3 ∷ Some 7 ∷ Some 8 ∷ Some 9 ∷ []
-places_of (edit.OfBug word e) = None ∷ Some 3 ∷ Some 4 ∷ None ∷ Some 5 ∷ Some 6 ∷ Some 7 ∷ Some 7 ∷ Some 8 ∷ Some 9 ∷ []
+places_of (edit.OfBug word e) = longer_places
+places_of (edit.OfComment word message) = longer_places
 
 places_ascend : (command : Edit) → ascend 0 (places_of command) ≡ true
 places_ascend (edit.UserNew name email) = refl
@@ -184,6 +189,24 @@ places_ascend (edit.UserEdit name email) = refl
 places_ascend (edit.UserSet word) = refl
 places_ascend (edit.New title message) = refl
 places_ascend (edit.OfBug word e) = refl
+places_ascend (edit.OfComment word message) = refl
+
+-- the checks of what adds to a bug
+longer_within : (env : Env) (growth : Growth) (bug : HeadEntry) (op : BugOp) (old : History) → AreWithin (longer_bug env growth bug op old).checks longer_places
+longer_within env growth bug op old =
+    (user_file_rank env.folder files, (some_user_rank env.folder files, (found_rank finder bug, (bug_reads_rank env.folder files finder bug, (adds_rank env.folder files growth op, then)))))
+  where
+    files : Files
+    files = files_of old
+
+    finder : Finder HeadEntry
+    finder = growth.finder files
+
+    objects : List (List ℕ)
+    objects = addition_objects env.moment.now (option_and_then (later_by env.folder files bug op) (some_id (user_at files env.folder)))
+
+    then : AreWithin (clock_room env.folder files finder ∷ commit_room env.folder files finder ∷ sizes objects ∷ new_operation env.folder files finder op ∷ names env.folder objects old ∷ []) (Some 6 ∷ Some 7 ∷ Some 7 ∷ Some 8 ∷ Some 9 ∷ [])
+    then = (clock_room_rank env.folder files finder, (commit_room_rank env.folder files finder, (sizes_rank objects, (new_operation_rank env.folder files finder op, (names_rank env.folder objects old, tt)))))
 
 pub checks_within : (env : Env) (command : Edit) (picked : Picked) (old : History) → AreWithin (doing_of env command picked old).checks (places_of command)
 checks_within env (edit.UserNew name email) picked old =
@@ -199,19 +222,8 @@ checks_within env (edit.New title message) picked old =
     let new = create_op env.moment title message in
     let objects = addition_objects env.moment.now (option_map (root_addition env.folder files new) (some_id (user_at files env.folder))) in
     (user_file_rank env.folder files, (some_user_rank env.folder files, (sizes_rank objects, (fresh_rank env.folder files side.Bugs (op_id new), (names_rank env.folder objects old, tt)))))
-checks_within env (edit.OfBug word e) picked old =
-    let user = user_file_rank env.folder files in
-    let is_found = found_rank (bug_finder files env.folder word) picked.bug in
-    (user, (some_user_rank env.folder files, (is_found, (bug_reads_rank env.folder files word picked.bug, (edit_adds_rank env files word e picked.op, then)))))
-  where
-    files : Files
-    files = files_of old
-
-    objects : List (List ℕ)
-    objects = addition_objects env.moment.now (option_and_then (later_by env.folder files picked.bug picked.op) (some_id (user_at files env.folder)))
-
-    then : AreWithin (clock_room env.folder files word ∷ commit_room env.folder files word ∷ sizes objects ∷ new_operation env.folder files word picked.op ∷ names env.folder objects old ∷ []) (Some 6 ∷ Some 7 ∷ Some 7 ∷ Some 8 ∷ Some 9 ∷ [])
-    then = (clock_room_rank env.folder files word, (commit_room_rank env.folder files word, (sizes_rank objects, (new_operation_rank env.folder files word picked.op, (names_rank env.folder objects old, tt)))))
+checks_within env (edit.OfBug word e) picked old = longer_within env (edit_growth env e word) picked.bug picked.op old
+checks_within env (edit.OfComment word message) picked old = longer_within env (comment_growth env message word picked.comment) picked.bug picked.op old
 
 -- of the causes that hold, one that comes first is told
 pub told_in_order : (env : Env) (command : Edit) (picked : Picked) (old : History) (told other : Refusal) (first last : ℕ)

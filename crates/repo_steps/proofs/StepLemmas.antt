@@ -1,16 +1,19 @@
 -- What a step of a command leaves and prints is determined by the files before it.
 use Rattle.std.proofs.Common.{◌≡◌, ◌≢◌, ℕ, inl, inr, Bool, cond, List, [], ◌∷◌, Contains, Option, Some, None, refl, sym, ◌∙◌, ap, subst, arith}
-use Rattle.repo_steps.proofs.Names.{Title, Line, joined, Id, Name, Files, written, Contains-cons_cases, Head, ref_of, edit_time_of, seen_by, BugOp, Entity, clock_at, clock_in, clock_place, has_ref, head_at, is_there, ref_place, UserFound, BadUser, NoUser, User, user_at, user_place, user_write, ClockFile, Env, HeadEntry, Side, clock-not_object, ref-not_clock, ref-not_object, ref-not_user, same_or_other, user-not_object, addition_head, later_addition, root_addition, create_op, op_id, new_made, BugBegins, BugGrows, OnlyChanges, Steps, first_user, first_user_place, BugEdit, Edit}
+use Rattle.repo_steps.proofs.Names.{Title, Line, joined, Id, Name, Files, written, Contains-cons_cases, Head, ref_of, edit_time_of, seen_by, BugOp, Entity, clock_at, clock_in, clock_place, has_ref, head_at, is_there, ref_place, UserFound, BadUser, NoUser, User, user_at, user_place, user_write, ClockFile, Env, HeadEntry, Side, clock-not_object, ref-not_clock, ref-not_object, ref-not_user, same_or_other, user-not_object, addition_head, later_addition, root_addition, create_op, op_id, new_made, BugBegins, BugGrows, OnlyChanges, Steps, first_user, first_user_place, CommentEntry, Growth, comment_growth, edit_growth, Edit}
 use Rattle.gb_text.specs.Digits.{id_of}
 use Rattle.gb_text.specs.LineEnd.{line_of}
 use Rattle.repo_state.specs.Users.{local_user, user_of}
 use Rattle.repo_state.specs.declared.clocks.ClockFile.TheVariants as file
 use Rattle.repo_state.specs.declared.side.Side.TheVariants as side
 use Rattle.repo_state.proofs.PlaceLemmas.{clock-not_user, clock-other}
+use Rattle.repo_state.specs.Finds.{IsDetermined}
+use Rattle.repo_state.proofs.CommentLemmas.{comment_finder_is_determined}
 use Rattle.repo_state.proofs.FoundLemmas.{finds_the_same}
 use Rattle.repo_steps.specs.Steps.{IsObjectFile, UserEditSteps, UserNewSteps, UserSetSteps}
 use Rattle.words.specs.declared.edit.Edit.TheVariants as edit
 use Rattle.repo_steps.proofs.ClearLemmas.{adds_one, bug_one, one_user, user-head, user-same}
+use Rattle.repo_steps.proofs.RuleLemmas.{comments_add_well, edits_add_well}
 
 -- ---- places apart
 
@@ -196,9 +199,9 @@ begins-same env op old one two first second here there = record {
     clocks-same file.BugsCreate = here.create_clock ∙ sym there.create_clock
     clocks-same file.BugsEdit = here.edit_clock ∙ sym there.edit_clock
 
-grows-same : (env : Env) (e : BugEdit) (word : List ℕ) (old one two : Files) (first second : Id) → BugGrows env e word old one first → BugGrows env e word old two second
+grows-same : (env : Env) (growth : Growth) (old one two : Files) (first second : Id) → IsDetermined (growth.finder old) → BugGrows env growth old one first → BugGrows env growth old two second
     → Same env.folder one two first second
-grows-same env e word old one two first second here there = record {
+grows-same env growth old one two first second finds here there = record {
   told = here.is_told ∙ ap op_id ops ∙ sym there.is_told;
   heads = heads;
   user = users-same env.folder one two
@@ -215,10 +218,10 @@ grows-same env e word old one two first second here there = record {
     place = ref_place side.Bugs bug.id
 
     ops : here.op ≡ there.op
-    ops = adds_one env old word e here.op there.op here.bug there.bug here.is_op there.is_op
+    ops = adds_one env.folder old growth finds here.op there.op here.bug there.bug here.is_op there.is_op
 
     bugs : (there.bug.bug ≡ bug) × (there.bug.entity ≡ here.bug.entity)
-    bugs = bug_one env.folder old word there.bug here.bug
+    bugs = bug_one env.folder old (growth.finder old) finds there.bug here.bug
 
     edits : there.bug.entity.edit ≡ here.bug.entity.edit
     edits = ap (λ (entity : Entity BugOp). entity.edit) bugs.1
@@ -258,4 +261,10 @@ steps-same env (edit.UserNew name email) old one two first second here there = n
 steps-same env (edit.UserEdit name email) old one two first second here there = edit-same env name email old one two first second here there
 steps-same env (edit.UserSet word) old one two first second here there = set-same env word old one two first second here there
 steps-same env (edit.New title message) old one two first second here there = begins-same env (create_op env.moment title message) old one two first second here there
-steps-same env (edit.OfBug bug e) old one two first second here there = grows-same env e bug old one two first second here there
+steps-same env (edit.OfBug word e) old one two first second here there = grows-same env (edit_growth env e word) old one two first second (edits_add_well env old e word).finds here there
+steps-same env (edit.OfComment word message) old one two first second here there =
+    let found = comment_finder_is_determined old env.folder word in
+    let same : here.0 ≡ there.0 = ap (λ (entry : CommentEntry). entry.comment)
+    (found.one (record { bug = here.1.bug.bug; comment = here.0 }) (record { bug = there.1.bug.bug; comment = there.0 }) here.1.bug.finds there.1.bug.finds) in
+    grows-same env (comment_growth env message word there.0) old one two first second (comments_add_well env old message word there.0).finds
+    (subst (λ (comment : Id). BugGrows env (comment_growth env message word comment) old one first) same here.1) there.1

@@ -1,5 +1,5 @@
 -- What each command on bugs does: when it is refused, what it writes, and the id that it returns.
-use Rattle.std.specs.Prelude.{◌≡◌, ◌≤◌, ◌+◌, ℕ, List, [], ◌∷◌, ◌++◌, length, map, Contains, Option, Some, None, option_and_then, Ok, Err}
+use Rattle.std.specs.Prelude.{◌≡◌, ◌≤◌, ◌+◌, ℕ, List, [], ◌∷◌, ◌++◌, length, map, Contains, Option, Some, None, option_and_then, Result, Ok, Err}
 use Rattle.std.specs.Option.{option_map}
 use Rattle.gb_text.specs.Folder.{joined}
 use Rattle.gb_text.specs.declared.decimal.TheConstants.{GREATEST_TIME}
@@ -14,7 +14,7 @@ use Rattle.object_batch.specs.Batches.{missing_writes}
 use Rattle.ref_store.specs.Setting.{ref_write}
 use Rattle.lamport.specs.Clock.{edit_time_of, root_time_of}
 use Rattle.bug_edits.specs.EditTable.{edit_op}
-use Rattle.bug_edits.specs.NewOps.{create_op, op_id}
+use Rattle.bug_edits.specs.NewOps.{create_op, edited_comment_op, op_id}
 use Rattle.bug_ops.specs.Snapshots.{zero_id}
 use Rattle.bug_edits.specs.declared.edit.NoChange.{NoChange}
 use Rattle.bug_ops.specs.Kind.{bug_kind}
@@ -28,9 +28,10 @@ use Rattle.dag_entity.specs.Appending.{appended_name, appended_objects}
 use Rattle.dag_entity.specs.Entities.{ops_in}
 use Rattle.dag_entity.specs.Nodes.{edit_at}
 use Rattle.dag_entity.specs.declared.entity.Entity.{Entity}
-use Rattle.repo_state.specs.Bugs.{FindsBug, HasBugFault, IsBug}
+use Rattle.repo_state.specs.Bugs.{HasBugFault, IsBug}
 use Rattle.repo_state.specs.Clocks.{clock_at, see_writes}
-use Rattle.repo_state.specs.Finds.{bug_finder}
+use Rattle.repo_state.specs.Comments.{FindsComment, FindsNoComment}
+use Rattle.repo_state.specs.Finds.{Finder, bug_finder}
 use Rattle.repo_state.specs.Sides.{ref_place}
 use Rattle.repo_state.specs.Users.{UserFound, BadUser, NoUser, User, user_at}
 use Rattle.repo_state.specs.declared.clocks.ClockFile.TheVariants as file
@@ -116,12 +117,43 @@ later_by folder files bug op author = option_map (later_addition folder files op
 
 -- ---- checks of a bug
 
--- the bug that a word finds, with its entity, in which nothing is wrong
-pub record HasBug (folder : List ℕ) (files : Files) (word : List ℕ) : Type 0 where
+-- the bug that is found, with its entity, in which nothing is wrong
+pub record HasFound (folder : List ℕ) (files : Files) (finder : Finder HeadEntry) : Type 0 where
   pub bug : HeadEntry
-  pub finds : FindsBug files folder word bug
+  pub finds : finder.Found bug
   pub entity : Entity BugOp
   pub is : IsBug files folder bug entity
+
+-- the bug that a word finds
+abbrev pub HasBug : List ℕ → Files → List ℕ → Type 0
+HasBug folder files word = HasFound folder files (bug_finder files folder word)
+
+-- the bug of a comment that a word finds
+abbrev pub bug_of_comment : Files → List ℕ → List ℕ → Id → Finder HeadEntry
+bug_of_comment files folder word comment = record {
+  Found = λ bug. FindsComment files folder word (record { bug = bug; comment = comment });
+  Fails = FindsNoComment files folder word;
+}
+
+-- and that bug, with its entity
+abbrev pub HasCommented : List ℕ → Files → List ℕ → Id → Type 0
+HasCommented folder files word comment = HasFound folder files (bug_of_comment files folder word comment)
+
+-- What adds an operation to a bug: how the bug is found, and what is added by what the bug says, or why nothing is.
+pub record Growth : Type 1 where
+  pub finder : Files → Finder HeadEntry
+  pub adds : Snapshot → Result BugOp NoChange
+
+-- an edit of the bug that a word finds
+abbrev pub edit_growth : Env → BugEdit → List ℕ → Growth
+edit_growth env edit word = record { finder = λ files. bug_finder files env.folder word; adds = edit_op env.moment edit }
+
+-- another message of the comment that a word finds, which is this one
+abbrev pub comment_growth : Env → Message → List ℕ → Id → Growth
+comment_growth env message word comment = record {
+  finder = λ files. bug_of_comment files env.folder word comment;
+  adds = λ bug. Ok (edited_comment_op env.moment comment message);
+}
 
 -- nothing is wrong with the entity of the bug at this head
 abbrev pub bug_reads : List ℕ → Files → HeadEntry → Check
@@ -130,40 +162,40 @@ bug_reads folder files bug = record {
   Passes = (entity : Entity BugOp) × IsBug files folder bug entity;
 }
 
--- nothing of this kind bars the bug that a word finds
-abbrev pub bug_check : (folder : List ℕ) (files : Files) (word : List ℕ) → (HasBug folder files word → Type 0) → (HasBug folder files word → Refusal) → Check
-bug_check folder files word Bars refusal = record {
-  Fails = λ r. (bug : HasBug folder files word) × Bars bug × (r ≡ refusal bug);
-  Passes = (bug : HasBug folder files word) × (Bars bug → ⊥);
+-- nothing of this kind bars the bug that is found
+abbrev pub bug_check : (folder : List ℕ) (files : Files) (finder : Finder HeadEntry) → (HasFound folder files finder → Type 0) → (HasFound folder files finder → Refusal) → Check
+bug_check folder files finder Bars refusal = record {
+  Fails = λ r. (bug : HasFound folder files finder) × Bars bug × (r ≡ refusal bug);
+  Passes = (bug : HasFound folder files finder) × (Bars bug → ⊥);
 }
 
 -- what a bug says, by its operations in order
 abbrev pub bug_says : Entity BugOp → Snapshot
 bug_says entity = snapshot_of (ops_in bug_kind entity.packs)
 
--- the edit adds this operation to the bug that the word finds, by what it says
-abbrev pub edit_adds : Env → Files → List ℕ → BugEdit → BugOp → Check
-edit_adds env files word edit op = record {
-  Fails = λ r. (bug : HasBug env.folder files word) × (why : NoChange) × (edit_op env.moment edit (bug_says bug.entity) ≡ Err why) × (r ≡ of_no_change why);
-  Passes = (bug : HasBug env.folder files word) × (edit_op env.moment edit (bug_says bug.entity) ≡ Ok op);
+-- this operation is added to the bug that is found, by what it says
+abbrev pub adds_op : List ℕ → Files → Growth → BugOp → Check
+adds_op folder files growth op = record {
+  Fails = λ r. (bug : HasFound folder files (growth.finder files)) × (why : NoChange) × (growth.adds (bug_says bug.entity) ≡ Err why) × (r ≡ of_no_change why);
+  Passes = (bug : HasFound folder files (growth.finder files)) × (growth.adds (bug_says bug.entity) ≡ Ok op);
 }
 
 -- an edit clock is left above that of its head
-abbrev pub clock_room : List ℕ → Files → List ℕ → Check
-clock_room folder files word = bug_check folder files word (λ bug. bug.entity.edit ≡ GREATEST_TIME) (λ bug. refusal.ClockFull bug.bug.name)
+abbrev pub clock_room : List ℕ → Files → Finder HeadEntry → Check
+clock_room folder files finder = bug_check folder files finder (λ bug. bug.entity.edit ≡ GREATEST_TIME) (λ bug. refusal.ClockFull bug.bug.name)
 
 -- it has room for one commit more
-abbrev pub commit_room : List ℕ → Files → List ℕ → Check
-commit_room folder files word = bug_check folder files word (λ bug. MOST_COMMITS ≤ length bug.entity.packs) (λ bug. refusal.TooLarge (MOST_COMMITS + 1))
+abbrev pub commit_room : List ℕ → Files → Finder HeadEntry → Check
+commit_room folder files finder = bug_check folder files finder (λ bug. MOST_COMMITS ≤ length bug.entity.packs) (λ bug. refusal.TooLarge (MOST_COMMITS + 1))
 
 -- the ids of operations
 abbrev pub op_ids : List BugOp → List Id
 op_ids ops = map (λ op. (bug_kind.common_of op).place.id) ops
 
 -- it does not have the operation yet
-abbrev pub new_operation : List ℕ → Files → List ℕ → BugOp → Check
-new_operation folder files word op =
-    bug_check folder files word (λ bug. Contains (op_ids (ops_in bug_kind bug.entity.packs)) (op_id op)) (λ bug. refusal.RepeatedOperation (op_id op))
+abbrev pub new_operation : List ℕ → Files → Finder HeadEntry → BugOp → Check
+new_operation folder files finder op =
+    bug_check folder files finder (λ bug. Contains (op_ids (ops_in bug_kind bug.entity.packs)) (op_id op)) (λ bug. refusal.RepeatedOperation (op_id op))
 
 -- ---- the commands
 
@@ -187,23 +219,24 @@ begun_bug env op old =
       told = Some (op_id op);
     }
 
--- the operation that an edit adds to the bug that a word finds, at its head, by the user
-abbrev pub longer_bug : Env → BugEdit → List ℕ → HeadEntry → BugOp → History → Doing
-longer_bug env edit word bug op old =
+-- an operation that is added to the bug that is found, at its head, by the user
+abbrev pub longer_bug : Env → Growth → HeadEntry → BugOp → History → Doing
+longer_bug env growth bug op old =
     let files = files_of old in
+    let finder = growth.finder files in
     let addition = option_and_then (later_by env.folder files bug op) (some_id (user_at files env.folder)) in
     let objects = addition_objects env.moment.now addition in
     record {
       checks =
           user_file env.folder files ∷
           some_user env.folder files ∷
-          found (bug_finder files env.folder word) bug ∷
+          found finder bug ∷
           bug_reads env.folder files bug ∷
-          edit_adds env files word edit op ∷
-          clock_room env.folder files word ∷
-          commit_room env.folder files word ∷
+          adds_op env.folder files growth op ∷
+          clock_room env.folder files finder ∷
+          commit_room env.folder files finder ∷
           sizes objects ∷
-          new_operation env.folder files word op ∷
+          new_operation env.folder files finder op ∷
           names env.folder objects old ∷ [];
       objects = objects;
       sets = option_map (bug_set env.moment.now) addition;

@@ -6,7 +6,7 @@ use Rattle.repo_steps.specs.declared.env.Env.{Env}
 use Rattle.repo_steps.specs.declared.refusal.Refusal.{Refusal}
 use Rattle.repo_steps.specs.declared.refusal.Stop.{Stop}
 use Rattle.repo_steps.specs.Answers.{DoingAnswers, IsDone}
-use Rattle.repo_steps.specs.BugDoings.{longer_bug, new_bug}
+use Rattle.repo_steps.specs.BugDoings.{comment_growth, edit_growth, longer_bug, new_bug}
 use Rattle.repo_steps.specs.Checks.{AllPass, FirstFails}
 use Rattle.bug_edits.specs.declared.edit.BugEdit.{BugEdit}
 use Rattle.words.specs.declared.edit.Edit.{Edit}
@@ -21,7 +21,8 @@ doing_of env (edit.UserNew name email) picked old = new_user env name email old
 doing_of env (edit.UserEdit name email) picked old = edited_user env name email old
 doing_of env (edit.UserSet word) picked old = set_user env word picked.person old
 doing_of env (edit.New title message) picked old = new_bug env title message old
-doing_of env (edit.OfBug word e) picked old = longer_bug env e word picked.bug picked.op old
+doing_of env (edit.OfBug word e) picked old = longer_bug env (edit_growth env e word) picked.bug picked.op old
+doing_of env (edit.OfComment word message) picked old = longer_bug env (comment_growth env message word picked.comment) picked.bug picked.op old
 
 -- nothing keeps a command from being done
 abbrev pub MayStep : Env → Edit → History → Type 0

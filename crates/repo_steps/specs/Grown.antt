@@ -6,26 +6,27 @@ use Rattle.gb_text.specs.declared.ruled.Title.{Title}
 use Rattle.gb_store.specs.Files.{Files}
 use Rattle.op_kind.specs.declared.place.Place.{Place}
 use Rattle.bug_ops.specs.Kind.{bug_kind}
+use Rattle.bug_ops.specs.declared.op.BugOp.{BugOp}
 use Rattle.bug_ops.specs.declared.op.BugStatus.TheVariants.{Opened}
 use Rattle.bug_ops.specs.declared.snapshot.Comment.{Comment}
 use Rattle.bug_ops.specs.declared.snapshot.Snapshot.{Snapshot}
 use Rattle.lamport.specs.Clock.{edit_time_of, root_time_of}
 use Rattle.snapshot.specs.LastMention.{snapshot_of}
 use Rattle.dag_entity.specs.Entities.{ops_in}
+use Rattle.dag_entity.specs.declared.entity.Entity.{Entity}
 use Rattle.repo_state.specs.Clocks.{clock_at}
 use Rattle.repo_state.specs.declared.clocks.ClockFile.TheVariants as file
 use Rattle.repo_steps.specs.declared.env.Env.{Env}
-use Rattle.repo_steps.specs.BugDoings.{HasBug, bug_says}
+use Rattle.repo_steps.specs.BugDoings.{Growth, bug_says}
 use Rattle.repo_steps.specs.Steps.{BugGrows}
-use Rattle.bug_edits.specs.declared.edit.BugEdit.{BugEdit}
 
--- the bug that the word finds after the step of an edit says what its operations of before say with the edit's behind them, which stands under the id that was told, is by the user and has the clock of an edit
-pub record EndsWithTheEdit (env : Env) (edit : BugEdit) (word : List ℕ) (old new : Files) (told : Id) (step : BugGrows env edit word old new told) (now : HasBug env.folder new word) : Type 0 where
+-- the bug after the step of an edit, read anew, says what its operations of before say with the edit's behind them, which stands under the id that was told, is by the user and has the clock of an edit
+pub record EndsWithTheEdit (env : Env) (growth : Growth) (old new : Files) (told : Id) (step : BugGrows env growth old new told) (now : Entity BugOp) : Type 0 where
   pub place : Place
   pub is_told : place.id ≡ told
   pub by_user : place.author ≡ step.user
   pub clock : place.edit ≡ edit_time_of (clock_at old env.folder file.BugsEdit) step.bug.entity.edit
-  pub says : bug_says now.entity ≡ snapshot_of (ops_in bug_kind step.bug.entity.packs ++ bug_kind.placed place step.op ∷ [])
+  pub says : bug_says now ≡ snapshot_of (ops_in bug_kind step.bug.entity.packs ++ bug_kind.placed place step.op ∷ [])
 
 -- a comment of an author, under the id of the operation that makes it
 abbrev pub made_comment : Env → Id → Id → List ℕ → Comment

@@ -15,7 +15,6 @@ use Rattle.identity.specs.Extending.{IsLonger}
 use Rattle.identity.specs.Version.{written_version}
 use Rattle.identity.specs.declared.version.Version.{Version}
 use Rattle.lamport.specs.Clock.{edit_time_of, root_time_of, seen_by}
-use Rattle.bug_edits.specs.EditTable.{edit_op}
 use Rattle.bug_edits.specs.NewOps.{nonce_from}
 use Rattle.bug_edits.specs.NewOps.{create_op, op_id}
 use Rattle.bug_ops.specs.Kind.{bug_kind}
@@ -31,10 +30,9 @@ use Rattle.repo_state.specs.Users.{UserFound, BadUser, NoUser, User, user_at, us
 use Rattle.repo_state.specs.declared.clocks.ClockFile.TheVariants as file
 use Rattle.repo_steps.specs.declared.env.Env.{Env}
 use Rattle.repo_state.specs.declared.side.Side.TheVariants as side
-use Rattle.repo_steps.specs.BugDoings.{HasBug, addition_head, bug_says, later_addition, root_addition}
+use Rattle.repo_steps.specs.BugDoings.{Growth, HasFound, addition_head, bug_says, comment_growth, edit_growth, later_addition, root_addition}
 use Rattle.repo_steps.specs.PeopleDoings.{HasUser, new_made}
 use Rattle.repo_steps.specs.declared.plan.Addition.{Addition}
-use Rattle.bug_edits.specs.declared.edit.BugEdit.{BugEdit}
 use Rattle.words.specs.declared.edit.Edit.{Edit}
 use Rattle.words.specs.declared.edit.Edit.TheVariants as edit
 
@@ -108,14 +106,14 @@ pub record BugBegins (env : Env) (op : BugOp) (old new : Files) (told : Id) : Ty
   pub create_clock : clock_at new env.folder file.BugsCreate ≡ root_time_of (clock_at old env.folder file.BugsCreate)
   pub only : OnlyChanges env.folder (ref_place side.Bugs told ∷ clock_place file.BugsCreate ∷ clock_place file.BugsEdit ∷ []) old new
 
--- The bug that the word names has one operation more, by the user, which the edit adds to what the bug says, in a commit over
--- its head, behind all others; the clock has seen it. The operation's id is told.
-pub record BugGrows (env : Env) (edit : BugEdit) (word : List ℕ) (old new : Files) (told : Id) : Type 0 where
+-- The bug that is found has one operation more, by the user, which is added by what the bug says, in a commit over its head,
+-- behind all others; the clock has seen it. The operation's id is told.
+pub record BugGrows (env : Env) (growth : Growth) (old new : Files) (told : Id) : Type 0 where
   pub user : Id
   pub is_user : user_at old env.folder ≡ User user
-  pub bug : HasBug env.folder old word
+  pub bug : HasFound env.folder old (growth.finder old)
   pub op : BugOp
-  pub is_op : edit_op env.moment edit (bug_says bug.entity) ≡ Ok op
+  pub is_op : growth.adds (bug_says bug.entity) ≡ Ok op
   pub is_told : told ≡ op_id op
   pub head : head_at new env.folder side.Bugs bug.bug.id ≡ Head (addition_head env.moment.now (later_addition env.folder old op user bug.bug bug.entity.edit))
   pub is : IsBug new env.folder (record { id = bug.bug.id; name = addition_head env.moment.now (later_addition env.folder old op user bug.bug bug.entity.edit) })
@@ -129,4 +127,5 @@ Steps env (edit.UserNew name email) old new told = UserNewSteps env name email o
 Steps env (edit.UserEdit name email) old new told = UserEditSteps env name email old new told
 Steps env (edit.UserSet word) old new told = UserSetSteps env word old new told
 Steps env (edit.New title message) old new told = BugBegins env (create_op env.moment title message) old new told
-Steps env (edit.OfBug bug e) old new told = BugGrows env e bug old new told
+Steps env (edit.OfBug word e) old new told = BugGrows env (edit_growth env e word) old new told
+Steps env (edit.OfComment word message) old new told = (comment : Id) × BugGrows env (comment_growth env message word comment) old new told

@@ -21,7 +21,7 @@ ghost use Rattle.repo_steps.specs.declared.env.Env.{Env as EnvValue};
 ghost use Rattle.repo_steps.specs.declared.refusal.Refusal.TheVariants as refusal;
 ghost use Rattle.repo_steps.specs.declared.refusal.Stop.{Stop as StopValue};
 ghost use Rattle.repo_state.specs.declared.side.Side.TheVariants as side;
-ghost use Rattle.repo_steps.specs.BugDoings.{HasBug, bug_says, longer_bug, new_bug, op_ids};
+ghost use Rattle.repo_steps.specs.BugDoings.{HasBug, HasCommented, bug_says, comment_growth, edit_growth, longer_bug, new_bug, op_ids};
 ghost use Rattle.repo_steps.specs.Checks.{FirstFails};
 ghost use Rattle.repo_steps.specs.Doings.{EditAnswers, Refused, doing_of};
 ghost use Rattle.repo_steps.specs.Picked.{Picked};
@@ -30,9 +30,9 @@ ghost use Rattle.repo_steps.specs.Own.{IsOwn};
 ghost use Rattle.repo_steps.specs.Writes.{IsOldOrSet, IsWriteOf};
 ghost use Rattle.bug_edits.specs.declared.edit.BugEdit.{BugEdit as BugEditValue};
 ghost use Rattle.words.specs.declared.edit.Edit.{Edit as EditValue};
-ghost use Rattle.words.specs.declared.edit.Edit.TheVariants.{New, OfBug, UserEdit, UserNew};
+ghost use Rattle.words.specs.declared.edit.Edit.TheVariants.{New, OfBug, OfComment, UserEdit, UserNew};
 ghost use Rattle.bug_edits.specs.EditTable.{edit_op};
-ghost use Rattle.bug_edits.specs.NewOps.{create_op, op_id};
+ghost use Rattle.bug_edits.specs.NewOps.{create_op, edited_comment_op, op_id};
 ghost use Rattle.gb_text.specs.declared.ruled.Line.{Line};
 ghost use Rattle.gb_text.specs.declared.ruled.Message.{Message};
 ghost use Rattle.gb_text.specs.declared.ruled.Title.{Title};
@@ -57,6 +57,10 @@ pub fn refusals_have_their_causes()
         (id : Id) → Refused env (OfBug word edit) old (refusal.RepeatedOperation id)
         → (bug : HasBug env.folder (files_of old) word)
         × Contains (op_ids (ops_in bug_kind bug.entity.packs)) id }
+    ensures comment { (env : EnvValue) (old : History) (message : Message) (word : List ℕ)
+        (id : Id) → Refused env (OfComment word message) old (refusal.RepeatedOperation id)
+        → (comment : Id) × (bug : HasCommented env.folder (files_of old) word comment)
+        × Contains (op_ids (ops_in bug_kind bug.entity.packs)) id }
     ensures name { (env : EnvValue) (command : EditValue) (picked : Picked) (old : History)
         (name : Name)
         → FirstFails (doing_of env command picked old).checks (refusal.NameTaken name)
@@ -69,8 +73,8 @@ pub fn refusals_have_their_causes()
 
 /// The other way: a command is refused for a cause wherever all checks before it pass. Without a user no
 /// version is added, no bug begins and no bug gets an edit. A new person or a new bug is refused where
-/// one of its objects is too large, or else a ref of its id exists. An edit of a bug that has room is
-/// refused where one of its objects is too large, or else the bug has the operation, or else a name of an
+/// one of its objects is too large, or else a ref of its id exists. An edit of a bug that has room, or of
+/// a comment of one, is refused where one of its objects is too large, or else the bug has the operation, or else a name of an
 /// object is taken.
 pub fn causes_refuse()
     ensures user_for_a_version { (env : EnvValue) (old : History) (name : Title) (email : Line)
@@ -83,6 +87,10 @@ pub fn causes_refuse()
         (word : List ℕ)
         → user_at (files_of old) env.folder ≡ NoUser
         → Refused env (OfBug word edit) old refusal.NoUser }
+    ensures user_for_a_comment { (env : EnvValue) (old : History) (message : Message)
+        (word : List ℕ)
+        → user_at (files_of old) env.folder ≡ NoUser
+        → Refused env (OfComment word message) old refusal.NoUser }
     ensures person { (env : EnvValue) (old : History) (name : Title) (email : Line)
         → (user_at (files_of old) env.folder ≡ BadUser → ⊥)
         → let objects = (new_user env name email old).objects in
@@ -104,7 +112,7 @@ pub fn causes_refuse()
         → (bug : HasBug env.folder (files_of old) word) (op : OpValue)
         → edit_op env.moment edit (bug_says bug.entity) ≡ Ok op
         → (bug.entity.edit ≡ GREATEST_TIME → ⊥) → (MOST_COMMITS ≤ length bug.entity.packs → ⊥)
-        → let objects = (longer_bug env edit word bug.bug op old).objects in
+        → let objects = (longer_bug env (edit_growth env edit word) bug.bug op old).objects in
         let has = Contains (op_ids (ops_in bug_kind bug.entity.packs)) (op_id op) in
         (HasLong objects
         → Refused env (OfBug word edit) old (refusal.TooLarge (MOST_BYTES + 1)))
@@ -113,6 +121,22 @@ pub fn causes_refuse()
         × (All IsShort objects → (has → ⊥) → (name : Name)
         → CannotHave env.folder objects old name
         → Refused env (OfBug word edit) old (refusal.NameTaken name)) }
+    ensures message { (env : EnvValue) (old : History) (message : Message) (word : List ℕ)
+        (user comment : Id)
+        → user_at (files_of old) env.folder ≡ User user
+        → (bug : HasCommented env.folder (files_of old) word comment)
+        → (bug.entity.edit ≡ GREATEST_TIME → ⊥) → (MOST_COMMITS ≤ length bug.entity.packs → ⊥)
+        → let op = edited_comment_op env.moment comment message in
+        let growth = comment_growth env message word comment in
+        let objects = (longer_bug env growth bug.bug op old).objects in
+        let has = Contains (op_ids (ops_in bug_kind bug.entity.packs)) (op_id op) in
+        (HasLong objects
+        → Refused env (OfComment word message) old (refusal.TooLarge (MOST_BYTES + 1)))
+        × (All IsShort objects → has
+        → Refused env (OfComment word message) old (refusal.RepeatedOperation (op_id op)))
+        × (All IsShort objects → (has → ⊥) → (name : Name)
+        → CannotHave env.folder objects old name
+        → Refused env (OfComment word message) old (refusal.NameTaken name)) }
 {}
 
 /// At each moment of a command the ref of each identity, and of each bug, has the head that it had when

@@ -11,10 +11,12 @@ ghost use Rattle.gb_store.specs.declared.store.Change.{Change};
 ghost use Rattle.object_store.specs.Held.{objects_in};
 ghost use Rattle.ref_store.specs.Refs.{Head};
 ghost use Rattle.repo_state.specs.Clocks.{clock_at, clock_write};
+ghost use Rattle.repo_state.specs.Comments.{FindsComment, FindsNoComment};
 ghost use Rattle.repo_state.specs.Finds.{Finds, Many, Nothing};
 ghost use Rattle.repo_state.specs.Sides.{head_at};
 ghost use Rattle.repo_state.specs.Sound.{IsSound};
-ghost use Rattle.repo_steps.specs.Stops.{number_of};
+ghost use Rattle.repo_state.specs.declared.stop.Missed.{Missed as MissedValue};
+ghost use Rattle.repo_steps.specs.Stops.{number_of, of_missed};
 ghost use Rattle.repo_state.specs.Users.{User, user_at};
 ghost use Rattle.repo_state.specs.declared.clocks.ClockFile.{ClockFile as ClockFileValue};
 ghost use Rattle.repo_state.specs.declared.clocks.ClockFile.TheVariants as file;
@@ -33,14 +35,16 @@ ghost use Rattle.repo_steps.specs.Doings.{Done, EditAnswers, MayStep, Refused, d
 ghost use Rattle.repo_steps.specs.Writes.{IsWriteOf};
 ghost use Rattle.repo_writes.specs.Kinds.{IsWrite};
 ghost use Rattle.repo_steps.specs.Steps.{BugBegins, BugGrows, Steps};
-ghost use Rattle.repo_steps.specs.BugDoings.{HasBug, bug_says};
+ghost use Rattle.repo_steps.specs.BugDoings.{HasBug, HasCommented, bug_says, comment_growth, edit_growth};
 ghost use Rattle.repo_steps.specs.Grown.{EndsWithTheEdit, begun_says};
 ghost use Rattle.repo_steps.specs.Picked.{Picked};
 ghost use Rattle.repo_state.specs.Bugs.{IsBug};
+ghost use Rattle.repo_state.specs.declared.comments.CommentEntry.{CommentEntry as CommentEntryValue};
 ghost use Rattle.repo_state.specs.declared.side.HeadEntry.{HeadEntry as HeadEntryValue};
+ghost use Rattle.snapshot.specs.CommentEdits.{AreEdited};
 ghost use Rattle.dag_entity.specs.declared.entity.Entity.{Entity as EntityValue};
 ghost use Rattle.words.specs.declared.edit.Edit.{Edit as EditValue};
-ghost use Rattle.words.specs.declared.edit.Edit.TheVariants.{New, OfBug, UserSet};
+ghost use Rattle.words.specs.declared.edit.Edit.TheVariants.{New, OfBug, OfComment, UserSet};
 ghost use Rattle.bug_edits.specs.EditTable.{edit_op};
 ghost use Rattle.bug_edits.specs.NewOps.{create_op};
 ghost use Rattle.gb_text.specs.declared.ruled.Message.{Message};
@@ -71,8 +75,8 @@ pub fn done_edits_make_their_step()
         → Steps env command (files_of old) (files_of new) id }
 {}
 
-/// A command whose argument finds no bug, or no person, is refused for that, after the checks that
-/// come first; and so it is where the argument finds several, with the two least.
+/// A command whose argument finds no bug, no person or no comment is refused for that, after the checks
+/// that come first; and so it is where the argument finds several, with the two least.
 pub fn words_that_find_not_one_are_refused()
     ensures bugs { (env : EnvValue) (edit : BugEditValue) (word : List ℕ) (old : History)
         (user : Id)
@@ -90,6 +94,11 @@ pub fn words_that_find_not_one_are_refused()
     ensures several_persons { (env : EnvValue) (word : List ℕ) (old : History) (least next : Id)
         → Finds (files_of old) env.folder side.Identities word (Many least next)
         → Refused env (UserSet word) old (refusal.Ambiguous least next) }
+    ensures comments { (env : EnvValue) (message : Message) (word : List ℕ) (old : History)
+        (user : Id) (why : MissedValue)
+        → user_at (files_of old) env.folder ≡ User user
+        → FindsNoComment (files_of old) env.folder word why
+        → Refused env (OfComment word message) old (of_missed why) }
 {}
 
 /// An edit is refused for a full clock only if the head has the last edit clock, and for too many
@@ -118,6 +127,30 @@ pub fn full_bugs_are_refused()
         → edit_at (objects_in (files_of old) env.folder) bug.bug.name ≢ Some GREATEST_TIME
         → MOST_COMMITS ≤ length bug.entity.packs
         → Refused env (OfBug word edit) old (refusal.TooLarge (MOST_COMMITS + 1)) }
+    ensures comment_clock_only { (env : EnvValue) (message : Message) (word : List ℕ)
+        (old : History) (name : Name)
+        → Refused env (OfComment word message) old (refusal.ClockFull name)
+        → (comment : Id) × (bug : HasCommented env.folder (files_of old) word comment)
+        × (name ≡ bug.bug.name)
+        × (edit_at (objects_in (files_of old) env.folder) bug.bug.name ≡ Some GREATEST_TIME) }
+    ensures comment_commits_only { (env : EnvValue) (message : Message) (word : List ℕ)
+        (old : History)
+        → Refused env (OfComment word message) old (refusal.TooLarge (MOST_COMMITS + 1))
+        → (comment : Id) × (bug : HasCommented env.folder (files_of old) word comment)
+        × (MOST_COMMITS ≤ length bug.entity.packs) }
+    ensures comment_clock { (env : EnvValue) (message : Message) (word : List ℕ) (old : History)
+        (user comment : Id)
+        → user_at (files_of old) env.folder ≡ User user
+        → (bug : HasCommented env.folder (files_of old) word comment)
+        → edit_at (objects_in (files_of old) env.folder) bug.bug.name ≡ Some GREATEST_TIME
+        → Refused env (OfComment word message) old (refusal.ClockFull bug.bug.name) }
+    ensures comment_commits { (env : EnvValue) (message : Message) (word : List ℕ) (old : History)
+        (user comment : Id)
+        → user_at (files_of old) env.folder ≡ User user
+        → (bug : HasCommented env.folder (files_of old) word comment)
+        → edit_at (objects_in (files_of old) env.folder) bug.bug.name ≢ Some GREATEST_TIME
+        → MOST_COMMITS ≤ length bug.entity.packs
+        → Refused env (OfComment word message) old (refusal.TooLarge (MOST_COMMITS + 1)) }
 {}
 
 /// The last writes of `new` are the create clock and then the edit clock, each one higher, if neither
@@ -139,8 +172,16 @@ pub fn create_clocks_are_written_first()
 /// others. A new bug says its title, its message and who made it when, and nothing else.
 pub fn written_bugs_are_read_so()
     ensures grown { (env : EnvValue) (edit : BugEditValue) (word : List ℕ) (old new : Files)
-        (told : Id) (step : BugGrows env edit word old new told)
-        (now : HasBug env.folder new word) → EndsWithTheEdit env edit word old new told step now }
+        (told : Id) (step : BugGrows env (edit_growth env edit word) old new told)
+        (now : HasBug env.folder new word)
+        → EndsWithTheEdit env (edit_growth env edit word) old new told step now.entity }
+    ensures edited { (env : EnvValue) (message : Message) (word : List ℕ) (comment : Id)
+        (old new : Files) (told : Id)
+        (step : BugGrows env (comment_growth env message word comment) old new told)
+        (bug : HeadEntryValue) (entity : EntityValue OpValue) → bug.id ≡ step.bug.bug.id
+        → head_at new env.folder side.Bugs bug.id ≡ Head bug.name
+        → IsBug new env.folder bug entity
+        → EndsWithTheEdit env (comment_growth env message word comment) old new told step entity }
     ensures begun { (env : EnvValue) (title : Title) (message : Message) (old new : Files)
         (told : Id)
         (step : BugBegins env (create_op env.moment title message) old new told) (bug : HeadEntryValue)
@@ -148,6 +189,19 @@ pub fn written_bugs_are_read_so()
         → head_at new env.folder side.Bugs told ≡ Head bug.name
         → IsBug new env.folder bug entity
         → bug_says entity ≡ begun_says env old title message step.user told }
+{}
+
+/// Read back after another message was given to a comment, the comment that the argument found has the
+/// message, and each other comment of the bug is as it was.
+pub fn edited_comments_are_read_so()
+    ensures { (env : EnvValue) (message : Message) (word : List ℕ) (old new : Files) (told : Id)
+        → Steps env (OfComment word message) old new told
+        → (found : CommentEntryValue) × FindsComment old env.folder word found
+        × ((bug : HeadEntryValue) (entity : EntityValue OpValue) → bug.id ≡ found.bug.id
+        → head_at new env.folder side.Bugs bug.id ≡ Head bug.name
+        → IsBug new env.folder bug entity
+        → (before : EntityValue OpValue) × IsBug old env.folder found.bug before
+        × AreEdited found.comment message.text (bug_says before).list (bug_says entity).list) }
 {}
 
 /// A command that may be done has no refusal, and a refused command has one number of refusal. So a

@@ -14,8 +14,8 @@ pub use cause_laws::{
 };
 pub use env::Env;
 pub use laws::{
-    create_clocks_are_written_first, done_edits_make_their_step, edits_write_by_kinds,
-    edits_write_their_own, full_bugs_are_refused, refusals_are_determined,
+    create_clocks_are_written_first, done_edits_make_their_step, edited_comments_are_read_so,
+    edits_write_by_kinds, edits_write_their_own, full_bugs_are_refused, refusals_are_determined,
     refusals_are_told_in_order, sound_folders_are_not_damaged, steps_are_determined,
     words_that_find_not_one_are_refused, written_bugs_are_read_so,
 };
