@@ -4,8 +4,9 @@ pub use Rattle.bug_edits.specs.NewOps.{noop_op, op_id}
 pub use Rattle.identity.specs.declared.making.VersionPlan.{VersionPlan}
 pub use Rattle.object_store.specs.declared.fault.PutFault.{PutFault}
 pub use Rattle.repo_edit.specs.Adding.{AddsHead}
-pub use Rattle.repo_edit.specs.Growing.{GrowingAnswers, GrownPlans, has_id, AuthorAnswers, Grows, EditPlans, SetPlans}
+pub use Rattle.repo_edit.specs.Growing.{GrowingAnswers, GrownPlans, has_id, AuthorAnswers, CommentAnswers, Grows, EditPlans, SetPlans, growing_from}
 pub use Rattle.repo_edit.specs.declared.growing.Growing.{Growing}
+pub use Rattle.repo_edit.specs.declared.growing.GrowingComment.{GrowingComment}
 pub use Rattle.repo_state.specs.Answers.{FindsUser}
 pub use Rattle.repo_state.specs.Bugs.{BugRefused, FindsBug}
 pub use Rattle.repo_state.specs.Finds.{FinderAnswers}

@@ -5,8 +5,8 @@ use Rattle.std.specs.List.{list_any}
 use Rattle.std.specs.Option.{option_map}
 use Rattle.std.specs.declared.alloc.Global.{Global}
 use Rattle.std.proofs.lemmas.List.{append_assoc}
-use Rattle.repo_steps.proofs.Names.{GREATEST_TIME, Id, Files, History, files_of, Change, objects_in, IsShort, CannotHave, HasLong, MayBePut, missing_writes, ref_write, MOST_COMMITS, edit_time_of, root_time_of, bug_kind, BugOp, snapshot_of, ops_in, head_edit, clock_at, see_writes, has_ref, ref_place, of_no_change, BadUser, NoUser, User, user_at, HeadEntry, addition_objects, addition_writes, bug_says, clock_room, commit_room, edit_adds, later_addition, later_by, new_operation, op_ids, root_addition, some_id, edit_op, op_id, AllPass, Check, FirstFails, names, sizes, Picked, BugEdit}
-use Rattle.repo_edit.proofs.Names.{Env, Refusal, Stop, Addition, PutFault, stop_of_edit, stop_of_put, Plans, begun_bug, OpAnswers, noop_op, Plan, AddsHead, no_pick, AuthorAnswers, EditPlans, GrowingAnswers, GrownPlans, Grows, has_id, Growing}
+use Rattle.repo_steps.proofs.Names.{GREATEST_TIME, Id, Files, History, files_of, Change, objects_in, IsShort, CannotHave, HasLong, MayBePut, missing_writes, ref_write, MOST_COMMITS, edit_time_of, root_time_of, bug_kind, BugOp, snapshot_of, ops_in, head_edit, clock_at, see_writes, has_ref, ref_place, of_no_change, BadUser, NoUser, User, user_at, HeadEntry, addition_objects, addition_writes, bug_finder, Finder, Growth, Message, NoChange, bug_says, clock_room, comment_growth, commit_room, adds_op, edit_growth, later_addition, later_by, longer_bug, new_operation, op_ids, root_addition, some_id, op_id, AllPass, Check, FirstFails, names, sizes, BugEdit}
+use Rattle.repo_edit.proofs.Names.{Env, Refusal, Stop, Addition, PutFault, stop_of_edit, stop_of_put, Plans, begun_bug, OpAnswers, noop_op, Plan, AddsHead, no_entry, no_pick, AuthorAnswers, EditPlans, GrowingAnswers, GrownPlans, Grows, has_id, Growing}
 use Rattle.object_store.specs.declared.fault.PutFault.TheVariants as fault
 use Rattle.op_pack.specs.declared.pack.Pack.{Pack}
 use Rattle.bug_ops.specs.declared.snapshot.Snapshot.{Snapshot}
@@ -20,6 +20,7 @@ use Rattle.repo_steps.specs.BugDoings.{one_op_pack}
 use Rattle.bug_edits.specs.declared.edit.EditStop.{EditStop}
 use Rattle.bug_edits.specs.declared.edit.EditStop.TheVariants as unmade
 use Rattle.repo_edit.specs.Growing.{RoomAnswers, grown_checks, grown_objects, growing_checks}
+use Rattle.words.specs.declared.edit.Edit.TheVariants as command
 use Rattle.repo_edit.proofs.RepeatLemmas.{repeats}
 
 -- the first of some checks that fails is the first of more
@@ -78,11 +79,26 @@ module _ (env : Env) (g : Growing) (edit : ℕ) (op : BugOp) (old : History) whe
             sym is,
           )
 
--- ---- an edit of a bug that stands
+-- ---- an operation more
 
-module _ (env : Env) (edit : BugEdit) (word : List ℕ) (old : History) where
+-- the plan of an operation that is added, or why there is none
+abbrev pub LongerPlans : Env → Growth → History → Result Plan Stop → Type 0
+LongerPlans env growth old result = (bug : HeadEntry) × (op : BugOp) × Plans (longer_bug env growth bug op old) result
+
+-- that of an edit of a bug, and of a comment
+pub edit_plans : (env : Env) (e : BugEdit) (word : List ℕ) (old : History) (r : Result Plan Stop) → LongerPlans env (edit_growth env e word) old r → EditPlans env (command.OfBug word e) old r
+edit_plans env e word old r (bug, op, plans) = (record { op = op; bug = bug; comment = bug.id; person = bug.id }, plans)
+
+pub comment_plans : (env : Env) (message : Message) (word : List ℕ) (comment : Id) (old : History) (r : Result Plan Stop) → LongerPlans env (comment_growth env message word comment) old r
+    → EditPlans env (command.OfComment word message) old r
+comment_plans env message word comment old r (bug, op, plans) = (record { op = op; bug = bug; comment = comment; person = bug.id }, plans)
+
+module _ (env : Env) (growth : Growth) (old : History) where
   abbrev files : Files
   files = files_of old
+
+  abbrev finder : Finder HeadEntry
+  finder = growth.finder files
 
   abbrev addition : HeadEntry → BugOp → Option Addition
   addition bug op = option_and_then (later_by env.folder files bug op) (some_id (user_at files env.folder))
@@ -90,62 +106,53 @@ module _ (env : Env) (edit : BugEdit) (word : List ℕ) (old : History) where
   -- what is checked once the bug was read
   abbrev later_checks : HeadEntry → BugOp → List Check
   later_checks bug op =
-      edit_adds env files word edit op ∷
-      clock_room env.folder files word ∷
-      commit_room env.folder files word ∷
+      adds_op env.folder files growth op ∷
+      clock_room env.folder files finder ∷
+      commit_room env.folder files finder ∷
       sizes (addition_objects env.moment.now (addition bug op)) ∷
-      new_operation env.folder files word op ∷
+      new_operation env.folder files finder op ∷
       names env.folder (addition_objects env.moment.now (addition bug op)) old ∷ []
 
   -- there is no user or no bug
-  pub edit_barred : (s : Stop) → GrowingAnswers (files_of old) env.folder word (Err s) → EditPlans env edit word old (Err s)
-  edit_barred stop.Memory h = (no_pick env, tt)
-  edit_barred stop.Disk h = (no_pick env, tt)
-  edit_barred (stop.Refused r) (bug, h) = (
-    record { op = noop_op env.moment; bug = bug; person = bug.id },
-    more_fail (growing_checks files env.folder word bug) (later_checks bug (noop_op env.moment)) r h,
-  )
+  pub longer_barred : (s : Stop) → GrowingAnswers files env.folder finder (Err s) → LongerPlans env growth old (Err s)
+  longer_barred stop.Memory h = (no_entry, noop_op env.moment, tt)
+  longer_barred stop.Disk h = (no_entry, noop_op env.moment, tt)
+  longer_barred (stop.Refused r) (bug, h) = (bug, noop_op env.moment, more_fail (growing_checks files env.folder finder bug) (later_checks bug (noop_op env.moment)) r h)
 
-  module _ (g : Growing) (grows : Grows (files_of old) env.folder word g) where
+  module _ (g : Growing) (grows : Grows files env.folder finder g) where
     not_bad : user_at files env.folder ≡ BadUser → ⊥
     not_bad e = cc (sym grows.is_user ∙ e)
 
     some : user_at files env.folder ≡ NoUser → ⊥
     some e = cc (sym grows.is_user ∙ e)
 
-    -- the bug that was read, and an operation
-    abbrev picked : BugOp → Picked
-    picked op = record { op = op; bug = grows.bug.bug; person = g.author }
-
     -- what is refused once the bug was read
-    refused : (op : BugOp) (r : Refusal) → FirstFails (later_checks grows.bug.bug op) r → EditPlans env edit word old (Err (stop.Refused r))
-    refused op r fails = (picked op, inr (not_bad, inr (some, inr (grows.bug.finds, inr ((grows.bug.entity, grows.bug.is), fails)))))
+    refused : (op : BugOp) (r : Refusal) → FirstFails (later_checks grows.bug.bug op) r → LongerPlans env growth old (Err (stop.Refused r))
+    refused op r fails = (grows.bug.bug, op, inr (not_bad, inr (some, inr (grows.bug.finds, inr ((grows.bug.entity, grows.bug.is), fails)))))
 
     -- what the bug says is what its operations say
     says : (P : Snapshot → Type 0) → P (snapshot_of g.ops) → P (bug_says grows.bug.entity)
     says P = subst (λ (ops : List BugOp). P (snapshot_of ops)) (sym grows.are_ops)
 
-    -- the edit adds nothing
-    pub edit_unmade : (why : EditStop) → OpAnswers env.moment edit (snapshot_of g.ops) (Err why) → EditPlans env edit word old (Err (stop_of_edit why))
-    edit_unmade unmade.Memory h = (no_pick env, tt)
-    edit_unmade (unmade.NoChange why) h =
-        refused (noop_op env.moment) (of_no_change why) (inl (grows.bug, why, says (λ bug. edit_op env.moment edit bug ≡ Err why) h, refl))
+    -- nothing is added
+    pub longer_unmade : (why : NoChange) → growth.adds (snapshot_of g.ops) ≡ Err why → LongerPlans env growth old (Err (stop.Refused (of_no_change why)))
+    longer_unmade why h = refused (noop_op env.moment) (of_no_change why) (inl (grows.bug, why, says (λ bug. growth.adds bug ≡ Err why) h, refl))
 
-    module _ (op : BugOp) (makes : edit_op env.moment edit (snapshot_of g.ops) ≡ Ok op) where
-      adds : (edit_adds env files word edit op).Passes
-      adds = (grows.bug, says (λ bug. edit_op env.moment edit bug ≡ Ok op) makes)
+    module _ (op : BugOp) (makes : growth.adds (snapshot_of g.ops) ≡ Ok op) where
+      adds : (adds_op env.folder files growth op).Passes
+      adds = (grows.bug, says (λ bug. growth.adds bug ≡ Ok op) makes)
 
       -- no clock is left, or there is no room
-      pub edit_full : (s : Stop) → RoomAnswers g.seen g.head.name g.edit g.commits (Err s) → EditPlans env edit word old (Err s)
-      edit_full (stop.Refused (refusal.ClockFull name)) (least, named) =
+      pub longer_full : (s : Stop) → RoomAnswers g.seen g.head.name g.edit g.commits (Err s) → LongerPlans env growth old (Err s)
+      longer_full (stop.Refused (refusal.ClockFull name)) (least, named) =
           let full : grows.bug.entity.edit ≡ GREATEST_TIME = omega (arith, least, grows.is_edit, grows.within) in
           refused op (refusal.ClockFull name) (inr (adds, inl (grows.bug, full, ap refusal.ClockFull (named ∙ ap (λ (head : HeadEntry). head.name) (sym grows.is_head)))))
-      edit_full (stop.Refused (refusal.TooLarge count)) (below, full, counted) =
+      longer_full (stop.Refused (refusal.TooLarge count)) (below, full, counted) =
           let many : MOST_COMMITS ≤ length grows.bug.entity.packs = omega (arith, full, grows.is_count) in
           refused op (refusal.TooLarge count) (inr (adds, inr ((grows.bug, λ e. omega (arith, below, e, grows.is_edit)), inl (grows.bug, many, ap refusal.TooLarge counted))))
-      edit_full (stop.Refused _) h = absurd h
-      edit_full stop.Memory h = absurd h
-      edit_full stop.Disk h = absurd h
+      longer_full (stop.Refused _) h = absurd h
+      longer_full stop.Memory h = absurd h
+      longer_full stop.Disk h = absurd h
 
       module _ (clock : ℕ) (has_room : RoomAnswers g.seen g.head.name g.edit g.commits (Ok clock)) where
         -- what is added
@@ -183,7 +190,7 @@ module _ (env : Env) (edit : BugEdit) (word : List ℕ) (old : History) where
 
         -- what is checked of the commit
         abbrev commit_checks : List Check
-        commit_checks = let objects = addition_objects env.moment.now (addition grows.bug.bug op) in sizes objects ∷ new_operation env.folder files word op ∷ names env.folder objects old ∷ []
+        commit_checks = let objects = addition_objects env.moment.now (addition grows.bug.bug op) in sizes objects ∷ new_operation env.folder files finder op ∷ names env.folder objects old ∷ []
 
         commit_passes : AllPass (grown_checks env g clock op old) → AllPass commit_checks
         commit_passes h = (objects_are (All IsShort) h.0, ((grows.bug, λ stands. h.1.0 (repeats_ops stands)), (objects_are (λ ts. MayBePut env.folder ts old) h.1.1.0, tt)))
@@ -195,13 +202,14 @@ module _ (env : Env) (edit : BugEdit) (word : List ℕ) (old : History) where
             inr (objects_are (All IsShort) short, inr ((grows.bug, λ stands. fresh (repeats_ops stands)), inl (name, objects_are (λ ts. CannotHave env.folder ts old name) cannot, is)))
         commit_refused r (inr (short, inr (fresh, inr none))) = absurd none.1
 
-        -- the plan of the commit is that of the edit
-        pub edit_planned : (r : Result Plan Stop) → GrownPlans env g clock op old r → EditPlans env edit word old r
-        edit_planned (Err stop.Memory) h = (picked op, tt)
-        edit_planned (Err stop.Disk) h = (picked op, tt)
-        edit_planned (Err (stop.Refused r)) h = refused op r (inr (adds, inr ((grows.bug, clock_left), inr ((grows.bug, room_left), commit_refused r h))))
-        edit_planned (Ok plan) h = (
-          picked op,
+        -- the plan of the commit is that of the command
+        pub longer_planned : (r : Result Plan Stop) → GrownPlans env g clock op old r → LongerPlans env growth old r
+        longer_planned (Err stop.Memory) h = (grows.bug.bug, op, tt)
+        longer_planned (Err stop.Disk) h = (grows.bug.bug, op, tt)
+        longer_planned (Err (stop.Refused r)) h = refused op r (inr (adds, inr ((grows.bug, clock_left), inr ((grows.bug, room_left), commit_refused r h))))
+        longer_planned (Ok plan) h = (
+          grows.bug.bug,
+          op,
           (
             (not_bad, (some, (grows.bug.finds, ((grows.bug.entity, grows.bug.is), (adds, ((grows.bug, clock_left), ((grows.bug, room_left), commit_passes h.0))))))),
             h.1
@@ -212,6 +220,12 @@ module _ (env : Env) (edit : BugEdit) (word : List ℕ) (old : History) where
             ap Some h.2,
           ),
         )
+
+-- an edit of a bug adds nothing
+pub edit_unmade : (env : Env) (e : BugEdit) (word : List ℕ) (old : History) (g : Growing) → Grows (files_of old) env.folder (bug_finder (files_of old) env.folder word) g
+    → (why : EditStop) → OpAnswers env.moment e (snapshot_of g.ops) (Err why) → EditPlans env (command.OfBug word e) old (Err (stop_of_edit why))
+edit_unmade env e word old g grows unmade.Memory h = (no_pick env, tt)
+edit_unmade env e word old g grows (unmade.NoChange why) h = edit_plans env e word old (Err (stop.Refused (of_no_change why))) (longer_unmade env (edit_growth env e word) old g grows why h)
 
 -- ---- a new bug
 

@@ -58,7 +58,7 @@ set_not_planned env word old new (stop.Refused r) same h = (no_pick env, (inl h,
 pub set_carried : (env : Env) (word : List ℕ) (plan : Plan) (old mid new : History) (r : Result Id Stop) → mid ≡ old → SetPlans env word old (Ok plan) → Carries plan mid new r
     → EditAnswers env (UserSet word) old new r
 set_carried env word plan old mid new r same plans made =
-    (record { op = noop_op env.moment; bug = no_entry; person = plan.id }, carried (set_user env word plan.id old) plan old mid new r same plans made)
+    (record { op = noop_op env.moment; bug = no_entry; comment = plan.id; person = plan.id }, carried (set_user env word plan.id old) plan old mid new r same plans made)
 
 -- ---- versions
 

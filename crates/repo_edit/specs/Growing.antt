@@ -18,9 +18,11 @@ use Rattle.bug_ops.specs.declared.op.BugOp.{BugOp}
 use Rattle.snapshot.specs.LastMention.{IsBugList}
 use Rattle.dag_entity.specs.Appending.{appended_name, appended_objects}
 use Rattle.dag_entity.specs.Entities.{ops_in}
+use Rattle.dag_entity.specs.declared.entity.Entity.{Entity}
 use Rattle.repo_state.specs.Bugs.{FindsBug, ReadsBelow}
 use Rattle.repo_state.specs.Clocks.{clock_at, see_writes}
-use Rattle.repo_state.specs.Finds.{bug_finder, person_finder}
+use Rattle.repo_state.specs.Comments.{FindsComment, ReadsSought}
+use Rattle.repo_state.specs.Finds.{Finder, person_finder}
 use Rattle.repo_state.specs.Sides.{ref_place}
 use Rattle.repo_state.specs.Users.{BadUser, NoUser, User, user_at, user_place}
 use Rattle.repo_state.specs.declared.clocks.ClockFile.TheVariants as file
@@ -32,16 +34,18 @@ use Rattle.repo_state.specs.declared.side.HeadEntry.{HeadEntry}
 use Rattle.repo_state.specs.declared.side.Side.TheVariants as side
 use Rattle.repo_state.specs.declared.stop.Missed.{Missed}
 use Rattle.repo_steps.specs.Answers.{Plans}
-use Rattle.repo_steps.specs.BugDoings.{HasBug, bug_reads, longer_bug, one_op_pack, op_ids}
+use Rattle.repo_steps.specs.BugDoings.{HasFound, bug_of_comment, bug_reads, one_op_pack, op_ids}
 use Rattle.repo_steps.specs.Checks.{AllPass, Check, FirstFails}
 use Rattle.repo_steps.specs.Doing.{found, names, sizes, some_user, user_file}
 use Rattle.repo_steps.specs.Stops.{of_missed}
 use Rattle.repo_steps.specs.PeopleDoings.{set_user}
 use Rattle.repo_steps.specs.Picked.{Picked}
-use Rattle.bug_edits.specs.declared.edit.BugEdit.{BugEdit}
+use Rattle.repo_steps.specs.Doings.{doing_of}
+use Rattle.words.specs.declared.edit.Edit.{Edit}
 use Rattle.repo_steps.specs.declared.plan.Plan.{Plan}
 use Rattle.repo_edit.specs.declared.growing.Beginning.{Beginning}
 use Rattle.repo_edit.specs.declared.growing.Growing.{Growing}
+use Rattle.repo_edit.specs.declared.growing.GrowingComment.{GrowingComment}
 
 -- the user, or why there is none
 abbrev pub AuthorAnswers : Files → List ℕ → Result Id Stop → Type 0
@@ -71,17 +75,17 @@ RoomAnswers seen name edit commits (Err (stop.Refused (refusal.TooLarge count)))
 RoomAnswers seen name edit commits (Err _) = ⊥
 
 -- what is checked before anything is made
-abbrev pub growing_checks : Files → List ℕ → List ℕ → HeadEntry → List Check
-growing_checks files folder word bug =
+abbrev pub growing_checks : Files → List ℕ → Finder HeadEntry → HeadEntry → List Check
+growing_checks files folder finder bug =
     user_file folder files ∷
     some_user folder files ∷
-    found (bug_finder files folder word) bug ∷
+    found finder bug ∷
     bug_reads folder files bug ∷ []
 
--- the bug that a word finds, and the user, who adds to it
-pub record Grows (files : Files) (folder word : List ℕ) (g : Growing) : Type 0 where
+-- the bug that is found, and the user, who adds to it
+pub record Grows (files : Files) (folder : List ℕ) (finder : Finder HeadEntry) (g : Growing) : Type 0 where
   pub is_user : user_at files folder ≡ User g.author
-  pub bug : HasBug folder files word
+  pub bug : HasFound folder files finder
   pub is_head : bug.bug ≡ g.head
   pub are_ops : ops_in bug_kind bug.entity.packs ≡ g.ops
   pub begins : IsBugList g.ops
@@ -90,18 +94,32 @@ pub record Grows (files : Files) (folder word : List ℕ) (g : Growing) : Type 0
   pub within : bug.entity.edit ≤ GREATEST_TIME
   pub is_count : length bug.entity.packs ≡ g.commits
 
+-- a bug at its head with this entity, that an author adds to where the clock of the folder is this
+abbrev pub growing_from : Id → HeadEntry → Entity BugOp → ℕ → Growing
+growing_from author head entity seen = record { author = author; head = head; ops = ops_in bug_kind entity.packs; seen = seen; edit = entity.edit; commits = entity.commits }
+
 -- these, or why there is no user or no bug
-abbrev pub GrowingAnswers : Files → List ℕ → List ℕ → Result Growing Stop → Type 0
-GrowingAnswers files folder word (Ok g) = Grows files folder word g
-GrowingAnswers files folder word (Err stop.Memory) = ⊤
-GrowingAnswers files folder word (Err stop.Disk) = ⊤
-GrowingAnswers files folder word (Err (stop.Refused r)) = (bug : HeadEntry) × FirstFails (growing_checks files folder word bug) r
+abbrev pub GrowingAnswers : Files → List ℕ → Finder HeadEntry → Result Growing Stop → Type 0
+GrowingAnswers files folder finder (Ok g) = Grows files folder finder g
+GrowingAnswers files folder finder (Err stop.Memory) = ⊤
+GrowingAnswers files folder finder (Err stop.Disk) = ⊤
+GrowingAnswers files folder finder (Err (stop.Refused r)) = (bug : HeadEntry) × FirstFails (growing_checks files folder finder bug) r
+
+-- the comment that a word finds, with its bug and the user, or why there is none
+abbrev pub CommentAnswers : Files → List ℕ → List ℕ → Result GrowingComment Stop → Type 0
+CommentAnswers files folder word (Ok g) = Grows files folder (bug_of_comment files folder word g.comment) g.bug
+CommentAnswers files folder word (Err s) = (comment : Id) × GrowingAnswers files folder (bug_of_comment files folder word comment) (Err s)
 
 -- the objects that were read: those of the bug, or none where it wasn't read
 abbrev pub ReadsGrowing : Files → List ℕ → List ℕ → ℕ → ℕ → Result Growing Stop → Type 0
 ReadsGrowing files folder word before after (Ok g) = FindsBug files folder word g.head × ReadsBelow files folder g.head before after
 ReadsGrowing files folder word before after (Err s) =
     (after ≡ before) ⊎ ((bug : HeadEntry) × FindsBug files folder word bug × ReadsBelow files folder bug before after)
+
+-- those of the bugs that were read to find a comment
+abbrev pub ReadsCommented : Files → List ℕ → List ℕ → ℕ → ℕ → Result GrowingComment Stop → Type 0
+ReadsCommented files folder word before after (Ok g) = FindsComment files folder word (record { bug = g.bug.head; comment = g.comment }) × ReadsSought files folder word before after
+ReadsCommented files folder word before after (Err s) = ReadsSought files folder word before after
 
 -- the objects of the commit that adds an operation to a bug, with an edit clock
 abbrev pub grown_objects : Env → Growing → ℕ → BugOp → List (List ℕ)
@@ -132,9 +150,9 @@ GrownPlans env g edit op old (Err stop.Memory) = ⊤
 GrownPlans env g edit op old (Err stop.Disk) = ⊤
 GrownPlans env g edit op old (Err (stop.Refused r)) = FirstFails (grown_checks env g edit op old) r
 
--- the plan of an edit of a bug that exists, or why there is none
-abbrev pub EditPlans : Env → BugEdit → List ℕ → History → Result Plan Stop → Type 0
-EditPlans env edit word old result = (picked : Picked) × Plans (longer_bug env edit word picked.bug picked.op old) result
+-- the plan of a command, or why there is none
+abbrev pub EditPlans : Env → Edit → History → Result Plan Stop → Type 0
+EditPlans env command old result = (picked : Picked) × Plans (doing_of env command picked old) result
 
 -- the plan that makes the person whom a word finds the user, or why there is none
 abbrev pub SetPlans : Env → List ℕ → History → Result Plan Stop → Type 0

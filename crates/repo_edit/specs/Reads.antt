@@ -7,13 +7,15 @@ use Rattle.commit_walk.specs.declared.below.TheConstants.{MOST_COMMITS}
 use Rattle.bug_edits.specs.declared.edit.BugEdit.{BugEdit}
 use Rattle.identity.specs.Persons.{IsChain}
 use Rattle.repo_state.specs.Bugs.{FindsBug, ReadsBelow}
+use Rattle.repo_state.specs.Comments.{FindsComment, ReadsSought}
 use Rattle.repo_state.specs.Users.{user_entry}
+use Rattle.repo_state.specs.declared.comments.CommentEntry.{CommentEntry}
 use Rattle.repo_state.specs.declared.side.HeadEntry.{HeadEntry}
 use Rattle.repo_steps.specs.Doings.{BugEditAnswers}
 use Rattle.words.specs.declared.edit.Edit.{Edit}
 use Rattle.repo_steps.specs.declared.env.Env.{Env}
 use Rattle.repo_steps.specs.declared.refusal.Stop.{Stop}
-use Rattle.words.specs.declared.edit.Edit.TheVariants.{New, OfBug, UserEdit, UserNew, UserSet}
+use Rattle.words.specs.declared.edit.Edit.TheVariants.{New, OfBug, OfComment, UserEdit, UserNew, UserSet}
 
 -- of a bug that stands: none, or at most three for each of some commits below the head of the bug that a word finds, and at
 -- most the four objects that are to be written
@@ -21,6 +23,12 @@ abbrev pub ReadsEdit : Files → List ℕ → List ℕ → ℕ → ℕ → Type 
 ReadsEdit files folder word before after =
     (after ≡ before)
     ⊎ ((bug : HeadEntry) × FindsBug files folder word bug × (between : ℕ) × ReadsBelow files folder bug before between × (after ≤ between + 4))
+
+-- of a comment: at most three for each of some commits below the heads of the bugs that are read to find it, and at most the four
+-- objects that are to be written where it is found
+abbrev pub ReadsComment : Files → List ℕ → List ℕ → ℕ → ℕ → Type 0
+ReadsComment files folder word before after =
+    (between : ℕ) × ReadsSought files folder word before between × ((after ≡ between) ⊎ ((c : CommentEntry) × FindsComment files folder word c × (after ≤ between + 4)))
 
 -- the call of an edit of a bug: its answer, what was written and what was read
 abbrev pub CallsEdit : Env → BugEdit → List ℕ → History → History → ℕ → ℕ → Result Id Stop → Type 0
@@ -53,3 +61,4 @@ ReadsFor files folder (UserEdit name email) IsDone before after = ReadsVersions 
 ReadsFor files folder (UserSet word) IsDone before after = after ≡ before
 ReadsFor files folder (New title message) IsDone before after = after ≤ before + 4
 ReadsFor files folder (OfBug bug edit) IsDone before after = ReadsEdit files folder bug before after
+ReadsFor files folder (OfComment word message) IsDone before after = ReadsComment files folder word before after

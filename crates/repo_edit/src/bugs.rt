@@ -4,11 +4,12 @@ ghost use Rattle.gb_store.specs.Faults.{KeepsFaults};
 ghost use Rattle.gb_store.specs.Files.{files_of};
 ghost use Rattle.repo_steps.specs.Answers.{DoingAnswers};
 ghost use Rattle.repo_steps.specs.BugDoings.{begun_bug, new_bug};
-ghost use Rattle.repo_steps.specs.Doings.{BugEditAnswers};
-ghost use Rattle.repo_edit.specs.Reads.{ReadsEdit};
+ghost use Rattle.repo_steps.specs.Doings.{BugEditAnswers, EditAnswers};
+ghost use Rattle.words.specs.declared.edit.Edit.TheVariants.{OfComment};
+ghost use Rattle.repo_edit.specs.Reads.{ReadsComment, ReadsEdit};
 
 use crate::carry::carry_out;
-use crate::plan_bug::{plan_begun, plan_edit};
+use crate::plan_bug::{plan_begun, plan_edit, plan_edited_comment};
 use bug_edits::{BugEdit, NewOp, create_op};
 use gb_store::Store;
 use gb_text::{Id, Message, Title};
@@ -62,6 +63,30 @@ pub fn edit_bug<S: Store>(
         disk.old disk.new }
 {
     let plan = plan_edit(alloc, disk, env, bug, edit)?;
+    carry_out(alloc, disk, &plan)
+}
+
+/// Gives the comment that the word finds another message, as an edit of its bug by the user. Answers the id
+/// of that operation. Refuses in this order: a damaged user file, no user file (`NoUser`), a bug that may
+/// have the comment and is damaged (`Damaged`, with the path of its ref), a comment that isn't found
+/// (`NotFound`) or several (`Ambiguous`, with the ids of the two least), and then as `edit_bug`.
+pub fn edit_comment<S: Store>(
+    alloc: Global,
+    disk: &mut S,
+    env: &Env,
+    comment: &str,
+    message: &Message,
+) -> Result<Id, Stop>
+    ensures answers { IsTrue S.tells
+        → EditAnswers env.entry.now (OfComment comment.now message.now) (S.history disk.old)
+        (S.history disk.new) result }
+    ensures reads { IsTrue S.tells
+        → ReadsComment (files_of (S.history disk.old)) env.entry.now.folder comment.now
+        (S.object_reads disk.old) (S.object_reads disk.new) }
+    ensures caused { KeepsFaults S.never_fails S.faults (IsErrOf result Stop.Disk)
+        disk.old disk.new }
+{
+    let plan = plan_edited_comment(alloc, disk, env, comment, message)?;
     carry_out(alloc, disk, &plan)
 }
 

@@ -5,7 +5,7 @@ ghost use Rattle.gb_store.specs.Files.{files_of};
 ghost use Rattle.repo_steps.specs.Doings.{EditAnswers};
 ghost use Rattle.repo_edit.specs.Reads.{ReadsFor};
 
-use crate::bugs::{edit_bug, new_bug};
+use crate::bugs::{edit_bug, edit_comment, new_bug};
 use crate::people::{user_edit, user_new, user_set};
 use gb_store::Store;
 use gb_text::Id;
@@ -34,5 +34,8 @@ pub fn run_edit<S: Store>(
         Edit::UserSet { id } => user_set(alloc, disk, env, id.as_str()),
         Edit::New { title, message } => new_bug(alloc, disk, env, title, message),
         Edit::OfBug { bug, edit } => edit_bug(alloc, disk, env, bug.as_str(), edit),
+        Edit::OfComment { comment, message } => {
+            edit_comment(alloc, disk, env, comment.as_str(), message)
+        }
     }
 }

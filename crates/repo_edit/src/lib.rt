@@ -13,7 +13,7 @@ mod plan_bug;
 mod room;
 mod writes;
 
-pub use bugs::{edit_bug, new_bug};
+pub use bugs::{edit_bug, edit_comment, new_bug};
 pub use calls::{comment, label_add, label_rm, meta, noop, set_status, title};
 pub use command::run_edit;
 pub use laws::commands_read_what_they_need;

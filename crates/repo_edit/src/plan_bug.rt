@@ -5,14 +5,17 @@ ghost use Rattle.gb_store.specs.Files.{files_of};
 ghost use Rattle.repo_steps.specs.Answers.{Plans};
 ghost use Rattle.repo_steps.specs.BugDoings.{begun_bug};
 ghost use Rattle.repo_edit.specs.Growing.{Begins, EditPlans, GrownPlans};
-ghost use Rattle.repo_edit.specs.Reads.{ReadsEdit};
+ghost use Rattle.repo_edit.specs.Reads.{ReadsComment, ReadsEdit};
+ghost use Rattle.words.specs.declared.edit.Edit.TheVariants.{OfBug, OfComment};
 
 use crate::addition::{only_id, plan_commit, with_clock, with_root_clocks};
-use crate::growing::{Beginning, Growing, growing_bug, has_operation, room, root_of};
+use crate::growing::{
+    Beginning, Growing, growing_bug, growing_comment, has_operation, room, root_of,
+};
 use crate::writes::head_writes;
-use bug_edits::{BugEdit, NewOp, edit_op};
+use bug_edits::{BugEdit, NewOp, edit_op, edited_comment_op};
 use gb_store::Store;
-use gb_text::{Id, List};
+use gb_text::{Id, List, Message};
 use lamport::Time;
 use repo_state::{ClockFile, Side, stands};
 use repo_steps::{Env, Plan, Refusal, Stop};
@@ -84,7 +87,7 @@ pub fn plan_edit<S: Store>(
     edit: &BugEdit,
 ) -> Result<Plan, Stop>
     ensures answers { IsTrue S.tells
-        → EditPlans env.entry.now edit.now word.now (S.history disk.old) result }
+        → EditPlans env.entry.now (OfBug word.now edit.now) (S.history disk.old) result }
     ensures unwritten { IsTrue S.tells → S.history disk.new ≡ S.history disk.old }
     ensures reads { IsTrue S.tells
         → ReadsEdit (files_of (S.history disk.old)) env.entry.now.folder word.now
@@ -96,6 +99,29 @@ pub fn plan_edit<S: Store>(
     let new = edit_op(alloc, &env.moment, edit, bug.ops.as_slice())?;
     let clock = room(&bug)?;
     plan_grown(alloc, disk, env, &bug, clock, new)
+}
+
+/// What another message of the comment that a word finds writes.
+pub fn plan_edited_comment<S: Store>(
+    alloc: Global,
+    disk: &mut S,
+    env: &Env,
+    word: &str,
+    message: &Message,
+) -> Result<Plan, Stop>
+    ensures answers { IsTrue S.tells
+        → EditPlans env.entry.now (OfComment word.now message.now) (S.history disk.old) result }
+    ensures unwritten { IsTrue S.tells → S.history disk.new ≡ S.history disk.old }
+    ensures reads { IsTrue S.tells
+        → ReadsComment (files_of (S.history disk.old)) env.entry.now.folder word.now
+        (S.object_reads disk.old) (S.object_reads disk.new) }
+    ensures caused { KeepsFaults S.never_fails S.faults (IsErrOf result Stop.Disk)
+        disk.old disk.new }
+{
+    let found = growing_comment(alloc, disk, &env.folder, word)?;
+    let new = edited_comment_op(alloc, &env.moment, found.comment, message)?;
+    let clock = room(&found.bug)?;
+    plan_grown(alloc, disk, env, &found.bug, clock, new)
 }
 
 // What adds an operation with this edit clock to a bug.
