@@ -5,8 +5,13 @@ use Rattle.gb_text.specs.declared.id.Id.{Id}
 use Rattle.gb_store.specs.Files.{Files, History, files_of}
 use Rattle.gb_store.specs.Moments.{WroteSome}
 use Rattle.gb_store.specs.declared.store.Change.{Change}
+use Rattle.gb_text.specs.declared.ruled.Message.{Message}
+use Rattle.bug_edits.specs.EditTable.{edit_op}
+use Rattle.bug_edits.specs.NewOps.{edited_comment_op}
 use Rattle.bug_edits.specs.declared.edit.BugEdit.{BugEdit}
+use Rattle.bug_edits.specs.declared.edit.NoChange.{NoChange}
 use Rattle.bug_ops.specs.declared.op.BugOp.{BugOp}
+use Rattle.bug_ops.specs.declared.snapshot.Snapshot.{Snapshot}
 use Rattle.repo_state.specs.Bugs.{FindsBug}
 use Rattle.repo_state.specs.Finds.{Finder, Many, Nothing, One, bug_finder, person_finder}
 use Rattle.repo_state.specs.declared.side.HeadEntry.{HeadEntry}
@@ -16,7 +21,7 @@ use Rattle.repo_state.specs.declared.stop.FindStop.TheVariants as find
 use Rattle.repo_state.specs.declared.stop.Missed.{Missed}
 use Rattle.repo_state.specs.declared.stop.Missed.TheVariants as missed
 use Rattle.repo_steps.specs.Answers.{DoingAnswers, IsStopped}
-use Rattle.repo_steps.specs.BugDoings.{HasBug, longer_bug}
+use Rattle.repo_steps.specs.BugDoings.{Growth, HasFound, bug_of_comment, comment_growth, edit_growth, longer_bug}
 use Rattle.repo_steps.specs.Checks.{AllPass, Check, FirstFails}
 use Rattle.repo_steps.specs.Doing.{Doing, found}
 use Rattle.repo_steps.specs.PeopleDoings.{set_user}
@@ -27,7 +32,7 @@ use Rattle.repo_steps.specs.declared.refusal.Stop.TheVariants as stop
 use Rattle.repo_view.specs.Log.{LogAnswers}
 use Rattle.repo_view.specs.Shown.{ShowAnswers}
 use Rattle.words.specs.declared.edit.Edit.TheVariants as edits
-use Rattle.bug_run.specs.Alike.{FindsAlike}
+use Rattle.bug_run.specs.Alike.{FindsAlike, FindsCommentAlike}
 use Rattle.bug_run.specs.Answer.{Answer}
 use Rattle.bug_run.specs.Run.{EditTells, TextFound}
 
@@ -117,29 +122,53 @@ found_follows : {T : Type 0} (one other : Finder T) (value : T) → ((value : T)
     → Follows (found one value) (found other value)
 found_follows one other value finds misses = record { fails = λ r is. (is.0, misses is.0 is.1, is.2); passes = finds value }
 
+-- what adds the same to the bug that it finds is checked alike
+module _ (env : Env) (old : History) (one other : Files → Finder HeadEntry) (adds : Snapshot → Result BugOp NoChange)
+    (found_too : (bug : HeadEntry) → (one (files_of old)).Found bug → (other (files_of old)).Found bug) (missed_too : (why : Missed) → (one (files_of old)).Fails why → (other (files_of old)).Fails why) where
+  abbrev first : Growth
+  first = record { finder = one; adds = adds }
+
+  abbrev second : Growth
+  second = record { finder = other; adds = adds }
+
+  has : HasFound env.folder (files_of old) (one (files_of old)) → HasFound env.folder (files_of old) (other (files_of old))
+  has it = record { bug = it.bug; finds = found_too it.bug it.finds; entity = it.entity; is = it.is }
+
+  bug_follows : (bug : HeadEntry) (op : BugOp) → AllFollow (longer_bug env first bug op old).checks (longer_bug env second bug op old).checks
+  unfolding has
+  bug_follows bug op =
+      (itself _, (itself _, (found_follows (one (files_of old)) (other (files_of old)) bug found_too missed_too, (itself _, (record { fails = λ r is. (has is.0, is.1, is.2, is.3); passes = λ is. (has is.0, is.1) }, (record { fails = λ r is. (has is.0, is.1, is.2); passes = λ is. (has is.0, is.1) }, (record { fails = λ r is. (has is.0, is.1, is.2); passes = λ is. (has is.0, is.1) }, (itself _, (record { fails = λ r is. (has is.0, is.1, is.2); passes = λ is. (has is.0, is.1) }, (itself _, tt))))))))))
+
+  longer_alike : (bug : HeadEntry) (op : BugOp) (new : History) (r : Result Id Stop) → DoingAnswers (longer_bug env first bug op old) old new r → DoingAnswers (longer_bug env second bug op old) old new r
+  longer_alike bug op new r is = doing_alike (longer_bug env first bug op old) (longer_bug env second bug op old) (bug_follows bug op) refl refl old new r is
+
 module _ (env : Env) (word other : List ℕ) (old : History) where
   abbrev files : Files
   files = files_of old
 
   module _ (same : FindsAlike files env.folder side.Bugs word other) where
-    has : HasBug env.folder files word → HasBug env.folder files other
-    has it = record { bug = it.bug; finds = finds files env.folder word other same it.bug it.finds; entity = it.entity; is = it.is }
-
     bug_missed : (why : Missed) → (bug_finder files env.folder word).Fails why → (bug_finder files env.folder other).Fails why
     bug_missed missed.NotFound none = same Nothing none
     bug_missed (missed.Ambiguous least next) many = same (Many least next) many
     bug_missed (missed.Damaged path) (id, is, bad) = (id, same (One id) is, bad)
 
-    bug_follows : (edit : BugEdit) (bug : HeadEntry) (op : BugOp) → AllFollow (longer_bug env edit word bug op old).checks (longer_bug env edit other bug op old).checks
-    unfolding has
-    bug_follows edit bug op =
-        (itself _, (itself _, (found_follows (bug_finder files env.folder word) (bug_finder files env.folder other) bug (finds files env.folder word other same) bug_missed, (itself _, (record { fails = λ r is. (has is.0, is.1, is.2, is.3); passes = λ is. (has is.0, is.1) }, (record { fails = λ r is. (has is.0, is.1, is.2); passes = λ is. (has is.0, is.1) }, (record { fails = λ r is. (has is.0, is.1, is.2); passes = λ is. (has is.0, is.1) }, (itself _, (record { fails = λ r is. (has is.0, is.1, is.2); passes = λ is. (has is.0, is.1) }, (itself _, tt))))))))))
+    each_alike : (edit : BugEdit) (bug : HeadEntry) (op : BugOp) (new : History) (r : Result Id Stop) → DoingAnswers (longer_bug env (edit_growth env edit word) bug op old) old new r
+        → DoingAnswers (longer_bug env (edit_growth env edit other) bug op old) old new r
+    each_alike edit = longer_alike env old (λ f. bug_finder f env.folder word) (λ f. bug_finder f env.folder other) (edit_op env.moment edit) (finds files env.folder word other same) bug_missed
 
     pub edit_alike : (edit : BugEdit) (new : History) (result : Result Answer Stop) → EditTells env (edits.OfBug word edit) old new result → EditTells env (edits.OfBug other edit) old new result
-    edit_alike edit new (Ok answer) (id, (picked, is), told) =
-        (id, (picked, doing_alike (longer_bug env edit word picked.bug picked.op old) (longer_bug env edit other picked.bug picked.op old) (bug_follows edit picked.bug picked.op) refl refl old new (Ok id) is), told)
-    edit_alike edit new (Err s) (picked, is) =
-        (picked, doing_alike (longer_bug env edit word picked.bug picked.op old) (longer_bug env edit other picked.bug picked.op old) (bug_follows edit picked.bug picked.op) refl refl old new (Err s) is)
+    edit_alike edit new (Ok answer) (id, (picked, is), told) = (id, (picked, each_alike edit picked.bug picked.op new (Ok id) is), told)
+    edit_alike edit new (Err s) (picked, is) = (picked, each_alike edit picked.bug picked.op new (Err s) is)
+
+  module _ (same : FindsCommentAlike files env.folder word other) where
+    comment_each_alike : (message : Message) (comment : Id) (bug : HeadEntry) (op : BugOp) (new : History) (r : Result Id Stop) → DoingAnswers (longer_bug env (comment_growth env message word comment) bug op old) old new r
+        → DoingAnswers (longer_bug env (comment_growth env message other comment) bug op old) old new r
+    comment_each_alike message comment = longer_alike env old (λ f. bug_of_comment f env.folder word comment) (λ f. bug_of_comment f env.folder other comment)
+        (λ bug. Ok (edited_comment_op env.moment comment message)) (λ bug is. same.found (record { bug = bug; comment = comment }) is) same.missed
+
+    pub comment_alike : (message : Message) (new : History) (result : Result Answer Stop) → EditTells env (edits.OfComment word message) old new result → EditTells env (edits.OfComment other message) old new result
+    comment_alike message new (Ok answer) (id, (picked, is), told) = (id, (picked, comment_each_alike message picked.comment picked.bug picked.op new (Ok id) is), told)
+    comment_alike message new (Err s) (picked, is) = (picked, comment_each_alike message picked.comment picked.bug picked.op new (Err s) is)
 
   module _ (same : FindsAlike files env.folder side.Identities word other) where
     person_missed : (why : Missed) → (person_finder files env.folder word).Fails why → (person_finder files env.folder other).Fails why

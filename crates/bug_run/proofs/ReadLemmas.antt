@@ -4,7 +4,7 @@ use Rattle.gb_store.specs.Files.{Files}
 use Rattle.repo_steps.specs.declared.refusal.Stop.{Stop}
 use Rattle.repo_steps.specs.declared.refusal.Stop.TheVariants as stop
 use Rattle.words.specs.declared.edit.Edit.{Edit as Edits}
-use Rattle.words.specs.declared.edit.Edit.TheVariants.{New, OfBug, UserEdit, UserNew, UserSet}
+use Rattle.words.specs.declared.edit.Edit.TheVariants.{New, OfBug, OfComment, UserEdit, UserNew, UserSet}
 use Rattle.repo_edit.specs.Reads.{ReadsFor}
 use Rattle.bug_run.specs.Printed.{Printed}
 use Rattle.bug_run.specs.Reads.{ReadsCommand}
@@ -35,6 +35,7 @@ edit_narrower files folder (UserEdit name email) P Q before after less reads = r
 edit_narrower files folder (UserSet word) P Q before after less reads = reads
 edit_narrower files folder (New title message) P Q before after less reads = reads
 edit_narrower files folder (OfBug bug edit) P Q before after less reads = reads
+edit_narrower files folder (OfComment comment message) P Q before after less reads = reads
 
 pub command_narrower : (files : Files) (folder : List ℕ) (command : Command) (P Q : Type 0) (before after : ℕ) → (Q → P)
     → ReadsCommand files folder command P before after → ReadsCommand files folder command Q before after

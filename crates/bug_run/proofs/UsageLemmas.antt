@@ -1,9 +1,11 @@
 -- What commands read, and what is printed where the output fails.
-use Rattle.std.proofs.Common.{◌≡◌, ◌≤◌, ◌<◌, ◌+◌, ◌*◌, ◌^◌, ◌⊎◌, inl, inr, ◌++◌, refl, sym, subst, ℕ, List, [], ◌∷◌, length, take, Contains, Some, Result, arith}
+use Rattle.std.proofs.Common.{◌≡◌, ◌≤◌, ◌<◌, ◌+◌, ◌*◌, ◌^◌, ◌⊎◌, inl, inr, ◌++◌, refl, sym, subst, ℕ, List, [], ◌∷◌, length, length-append, take, Contains, Some, Result, arith}
 use Rattle.std.specs.Prelude.{IsTrue}
+use Rattle.std.specs.List.{flat_map}
 use Rattle.gb_text.specs.declared.id.Id.{Id}
 use Rattle.gb_text.specs.declared.id.Name.{Name}
 use Rattle.gb_text.specs.declared.ruled.Line.{Line}
+use Rattle.gb_text.specs.declared.ruled.Message.{Message}
 use Rattle.gb_text.specs.declared.ruled.Title.{Title}
 use Rattle.gb_store.specs.Files.{Files, History}
 use Rattle.object_store.specs.Held.{objects_in}
@@ -11,6 +13,7 @@ use Rattle.commit_walk.specs.Below.{IsBelow}
 use Rattle.commit_walk.specs.Distinct.{AreDistinct}
 use Rattle.identity.specs.Persons.{IsChain}
 use Rattle.repo_state.specs.Bugs.{FindsBug}
+use Rattle.repo_state.specs.Comments.{AreSought, ReadsEachBug}
 use Rattle.repo_state.specs.Sides.{AreIds}
 use Rattle.repo_state.specs.Users.{user_entry}
 use Rattle.repo_steps.specs.declared.refusal.Stop.{Stop}
@@ -19,7 +22,7 @@ use Rattle.repo_state.specs.declared.side.Side.TheVariants as side
 use Rattle.bug_edits.specs.declared.edit.BugEdit.{BugEdit}
 use Rattle.words.specs.declared.edit.Edit.TheVariants as edits
 use Rattle.bug_run.specs.Printed.{Printed, PrintedFront}
-use Rattle.bug_run.specs.Reads.{ReadsCommand}
+use Rattle.bug_run.specs.Reads.{AreBelowEach, ReadsCommand}
 use Rattle.bug_run.specs.Refusals.{refusal_line, usage_text}
 use Rattle.bug_run.specs.Run.{AskedAnswers, Call, RequestAnswers, RunAnswers, status_of, text_of}
 use Rattle.bug_run.specs.Answer.{Answer}
@@ -67,6 +70,23 @@ pub edit_reads : (files : Files) (folder word : List ℕ) (of_bug : BugEdit) (be
 edit_reads files folder word of_bug before after (inl same) = inl same
 edit_reads files folder word of_bug before after (inr (found, finds, between, below, few)) =
     inr (found, below.names, finds, below.once, below.each, omega (arith, below.few, few))
+
+-- what is read of some bugs, one after the other
+each_reads : (files : Files) (folder : List ℕ) (bugs : List HeadEntry) (before after : ℕ) → ReadsEachBug files folder bugs before after
+    → (commits : List (List Name)) × AreBelowEach files folder bugs commits × (after ≤ before + 3 * length (flat_map (λ (names : List Name). names) commits))
+each_reads files folder [] before after same = ([], tt, omega (arith, same))
+each_reads files folder (bug ∷ bugs) before after (mid, below, rest) =
+    let more = each_reads files folder bugs mid after rest in
+    let counted : length (below.names ++ flat_map (λ (names : List Name). names) more.0) ≡ length below.names + length (flat_map (λ (names : List Name). names) more.0) = length-append below.names (flat_map (λ (names : List Name). names) more.0) in
+    (below.names ∷ more.0, (below.once, below.each, more.1), omega (arith, below.few, more.2, counted))
+
+pub comment_reads : (files : Files) (folder word : List ℕ) (message : Message) (before after : ℕ) → ReadsCommand files folder (ask.Edit (edits.OfComment word message)) ⊥ before after
+    → (bugs : List HeadEntry) × (commits : List (List Name)) × AreSought files folder word bugs × AreBelowEach files folder bugs commits
+    × (after ≤ before + 3 * length (flat_map (λ (names : List Name). names) commits) + 4)
+comment_reads files folder word message before after (between, (bugs, are, reads), inl same) =
+    let each = each_reads files folder bugs before between reads in (bugs, each.0, are, each.1, omega (arith, each.2, same))
+comment_reads files folder word message before after (between, (bugs, are, reads), inr (comment, finds, few)) =
+    let each = each_reads files folder bugs before between reads in (bugs, each.0, are, each.1, omega (arith, each.2, few))
 
 pub version_reads : (files : Files) (folder : List ℕ) (name : Title) (email : Line) (before after : ℕ) → ReadsCommand files folder (ask.Edit (edits.UserEdit name email)) ⊥ before after → after ≤ before + 3 * 2 ^ 16
 version_reads files folder name email before after h = h.most

@@ -1,7 +1,12 @@
 -- How many objects a run reads.
-use Rattle.std.specs.Prelude.{◌≡◌, ◌⊎◌, ℕ, List}
+use Rattle.std.specs.Prelude.{◌≡◌, ◌⊎◌, ⊤, ℕ, List, [], ◌∷◌, Contains}
+use Rattle.gb_text.specs.declared.id.Name.{Name}
 use Rattle.gb_store.specs.Files.{Files}
+use Rattle.object_store.specs.Held.{objects_in}
+use Rattle.commit_walk.specs.Below.{IsBelow}
+use Rattle.commit_walk.specs.Distinct.{AreDistinct}
 use Rattle.repo_state.specs.Answers.{ReadsPeople}
+use Rattle.repo_state.specs.declared.side.HeadEntry.{HeadEntry}
 use Rattle.repo_edit.specs.Reads.{ReadsFor}
 use Rattle.repo_view.specs.Log.{ReadsLog}
 use Rattle.repo_view.specs.Shown.{ReadsShow}
@@ -21,3 +26,10 @@ ReadsCommand files folder (Edit edit) IsDone before after = ReadsFor files folde
 abbrev pub ReadsAsked : Asked → Files → Type 0 → ℕ → ℕ → Type 0
 ReadsAsked asked files IsDone before after =
     (after ≡ before) ⊎ ((at : Folders) × (asks : AsksIn asked at) × ReadsCommand files (written_in asks.request.command at) asks.request.command IsDone before after)
+
+-- for each of these bugs commits below its head, each once
+abbrev pub AreBelowEach : Files → List ℕ → List HeadEntry → List (List Name) → Type 0
+AreBelowEach files folder [] [] = ⊤
+AreBelowEach files folder (bug ∷ bugs) (commits ∷ more) =
+    AreDistinct commits × ((name : Name) → Contains commits name → IsBelow (objects_in files folder) (bug.name ∷ []) name) × AreBelowEach files folder bugs more
+AreBelowEach files folder _ _ = ⊥

@@ -17,7 +17,7 @@ ghost use Rattle.repo_steps.specs.declared.env.Env.{Env};
 ghost use Rattle.repo_steps.specs.declared.refusal.Refusal.{Refusal};
 ghost use Rattle.repo_steps.specs.declared.refusal.Stop.{Stop};
 ghost use Rattle.repo_steps.specs.declared.refusal.Stop.TheVariants as stop;
-ghost use Rattle.bug_run.specs.Alike.{FindsAlike};
+ghost use Rattle.bug_run.specs.Alike.{FindsAlike, FindsCommentAlike};
 ghost use Rattle.bug_run.specs.Printed.{IsTold};
 ghost use Rattle.bug_run.specs.Reads.{ReadsCommand};
 ghost use Rattle.bug_run.specs.Run.{Call, CommandAnswers, RunAnswers, env_at};
@@ -95,8 +95,8 @@ pub fn answers_are_determined()
         → CommandAnswers env command elder two (Err (stop.Refused second)) → first ≡ second }
 {}
 
-/// The answer to a command depends on a word for a bug or an identity only by what that finds. Two words
-/// that find the same give the same answers, and the same writes.
+/// The answer to a command depends on an argument for a bug, an identity or a comment only by what that
+/// finds. Two arguments that find the same give the same answers, and the same writes.
 pub fn answers_depend_on_what_words_find()
     ensures show { (env : Env) (old new : History) (word other : List ℕ)
         (result : Result Answer Stop) → FindsAlike (files_of old) env.folder side.Bugs word other
@@ -110,6 +110,10 @@ pub fn answers_depend_on_what_words_find()
         (result : Result Answer Stop) → FindsAlike (files_of old) env.folder side.Bugs word other
         → CommandAnswers env (ask.Edit (edits.OfBug word edit)) old new result
         → CommandAnswers env (ask.Edit (edits.OfBug other edit)) old new result }
+    ensures comment { (env : Env) (old new : History) (word other : List ℕ) (message : Message)
+        (result : Result Answer Stop) → FindsCommentAlike (files_of old) env.folder word other
+        → CommandAnswers env (ask.Edit (edits.OfComment word message)) old new result
+        → CommandAnswers env (ask.Edit (edits.OfComment other message)) old new result }
     ensures user { (env : Env) (old new : History) (word other : List ℕ)
         (result : Result Answer Stop)
         → FindsAlike (files_of old) env.folder side.Identities word other

@@ -1,6 +1,7 @@
 //! Laws of what each command reads, and of what is printed where the output fails. No call of them does
 //! anything.
 ghost use Rattle.std.specs.Prelude.{◌≡◌, ◌≤◌, ◌<◌, ◌+◌, ◌*◌, ◌^◌, ◌⊎◌, ◌++◌, ℕ, List, [], ◌∷◌, length, take, Contains, IsTrue, Some, Result};
+ghost use Rattle.std.specs.List.{flat_map};
 ghost use Rattle.gb_text.specs.declared.id.Id.{Id};
 ghost use Rattle.gb_text.specs.declared.id.Name.{Name};
 ghost use Rattle.gb_store.specs.Files.{Files, History};
@@ -9,6 +10,7 @@ ghost use Rattle.commit_walk.specs.Below.{IsBelow};
 ghost use Rattle.commit_walk.specs.Distinct.{AreDistinct};
 ghost use Rattle.identity.specs.Persons.{IsChain};
 ghost use Rattle.repo_state.specs.Bugs.{FindsBug};
+ghost use Rattle.repo_state.specs.Comments.{AreSought};
 ghost use Rattle.repo_state.specs.Sides.{AreIds};
 ghost use Rattle.repo_state.specs.Users.{user_entry};
 ghost use Rattle.repo_steps.specs.declared.refusal.Stop.{Stop};
@@ -16,7 +18,7 @@ ghost use Rattle.repo_state.specs.declared.side.HeadEntry.{HeadEntry as HeadEntr
 ghost use Rattle.repo_state.specs.declared.side.Side.TheVariants as side;
 ghost use Rattle.bug_edits.specs.declared.edit.BugEdit.{BugEdit as BugEdits};
 ghost use Rattle.words.specs.declared.edit.Edit.TheVariants as edits;
-ghost use Rattle.bug_run.specs.Reads.{ReadsCommand};
+ghost use Rattle.bug_run.specs.Reads.{AreBelowEach, ReadsCommand};
 ghost use Rattle.bug_run.specs.Refusals.{usage_text};
 ghost use Rattle.bug_run.specs.Run.{Call, RequestAnswers, RunAnswers, text_of};
 ghost use Rattle.bug_run.specs.Answer.{Answer};
@@ -24,6 +26,7 @@ ghost use Rattle.bug_run.specs.declared.status.Status.TheVariants as status;
 ghost use Rattle.words.specs.declared.words.Command.TheVariants as ask;
 ghost use Rattle.words.specs.declared.words.Request.{Request};
 ghost use Rattle.gb_text.specs.declared.ruled.Line.{Line};
+ghost use Rattle.gb_text.specs.declared.ruled.Message.{Message};
 ghost use Rattle.gb_text.specs.declared.ruled.Title.{Title};
 ghost use Rattle.bug_run.specs.Refusals.{refusal_line};
 ghost use Rattle.bug_run.specs.declared.status.Refused.TheVariants.{ByWords};
@@ -32,8 +35,9 @@ ghost use Rattle.words.specs.declared.words.BadWord.{BadWord as BadWordValue};
 
 /// How many objects the commands read that look at persons, at a bug or at the user's chain, by their
 /// factors: three for each person, three for each commit below the head of a bug, and four more for
-/// what an edit of it writes; and three for each version of the user and for the new one. Even where
-/// no new version is made, no more than 3 * 2^16 are read for it.
+/// what an edit of it writes; the same for each bug that an argument for a comment fits; and three for
+/// each version of the user and for the new one. Even where no new version is made, no more than 3 * 2^16
+/// are read for it.
 pub fn reads_are_bounded_by_factors()
     ensures users { (files : Files) (folder : List ℕ) (before after : ℕ)
         → ReadsCommand files folder ask.Users ⊥ before after
@@ -61,6 +65,12 @@ pub fn reads_are_bounded_by_factors()
         × ((name : Name) → Contains commits name
         → IsBelow (objects_in files folder) (found.name ∷ []) name)
         × (after ≤ before + 3 * length commits + 4)) }
+    ensures comment { (files : Files) (folder word : List ℕ) (message : Message)
+        (before after : ℕ)
+        → ReadsCommand files folder (ask.Edit (edits.OfComment word message)) ⊥ before after
+        → (bugs : List HeadEntryValue) × (commits : List (List Name))
+        × AreSought files folder word bugs × AreBelowEach files folder bugs commits
+        × (after ≤ before + 3 * length (flat_map (λ names. names) commits) + 4) }
     ensures version { (files : Files) (folder : List ℕ) (name : Title) (email : Line)
         (before after : ℕ)
         → ReadsCommand files folder (ask.Edit (edits.UserEdit name email)) ⊥ before after
