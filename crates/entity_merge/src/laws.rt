@@ -1,24 +1,27 @@
 //! Laws of joins, each the contract of a function that does nothing.
-ghost use Rattle.std.specs.Prelude.{◌≡◌, ◌<◌, ◌^◌, ℕ, List, [], ◌∷◌, ◌⊎◌, Option, Some, Ok, Contains, All};
+ghost use Rattle.std.specs.Prelude.{◌≡◌, ◌<◌, ◌+◌, ◌^◌, ℕ, max, List, [], ◌∷◌, ◌⊎◌, Option, Some, Ok, Err, Contains, All};
 ghost use Rattle.gb_text.specs.Digits.{IsId, IsName};
 ghost use Rattle.object_store.specs.Texts.{IsShort};
 ghost use Rattle.gb_text.specs.declared.id.Id.{Id as IdValue};
 ghost use Rattle.gb_text.specs.declared.id.Name.{Name as NameValue};
-ghost use Rattle.object_store.specs.Held.{Objects};
+ghost use Rattle.gb_store.specs.Files.{History};
+ghost use Rattle.object_store.specs.Held.{Objects, objects_after};
 ghost use Rattle.commit_walk.specs.Below.{IsBelow};
 ghost use Rattle.dag_entity.specs.Agreeing.{SameNeeded};
 ghost use Rattle.dag_entity.specs.Entities.{IsEntity, IsOperationList};
 ghost use Rattle.dag_entity.specs.Extending.{extended};
 ghost use Rattle.dag_entity.specs.Faults.{AreApart, EntityFaultHolds, IsValid};
 ghost use Rattle.dag_entity.specs.Joining.{IsMergeTime, at_head, merge_name, merge_node, merge_objects};
-ghost use Rattle.dag_entity.specs.Nodes.{IsNode};
+ghost use Rattle.dag_entity.specs.Nodes.{IsNode, edit_at};
 ghost use Rattle.dag_entity.specs.declared.entity.Entity.{Entity as EntityValue};
 ghost use Rattle.dag_entity.specs.declared.fault.EntityFault.{EntityFault as FaultValue};
 ghost use Rattle.entity_merge.specs.Joins.{AreUnion, HasWord, HaveSame, IsKnown, Joins, PlanAnswers, both_heads, head_of, heads_in};
 ghost use Rattle.entity_merge.specs.declared.plan.MergePlan.{MergePlan as Plan};
+ghost use Rattle.entity_merge.specs.Merging.{MergeAnswers};
 ghost use Rattle.entity_merge.specs.Unions.{SameWord};
+ghost use Rattle.entity_merge.specs.declared.fault.MergeFault.TheVariants as stop;
 ghost use Rattle.entity_merge.specs.declared.word.Merged.{Merged as Word};
-ghost use Rattle.entity_merge.specs.declared.word.Merged.TheVariants.{Forward, Nothing};
+ghost use Rattle.entity_merge.specs.declared.word.Merged.TheVariants.{Forward, Joined, Nothing};
 
 use op_kind::OpKind;
 
@@ -168,4 +171,39 @@ pub fn faulty_joins_are_refused<K: OpKind>()
         (plan : Plan) → PlanAnswers K.meaning objects id local remote author authors clock now
         (Ok plan) → IsKnown objects local remote
         ⊎ IsValid K.meaning objects id (both_heads local remote) authors }
+{}
+
+/// A merge commit has the edit clock of a merge: one more than the greatest of those of both heads and of
+/// the folder. This holds of one that is planned and of one that a join leaves.
+pub fn merge_commits_have_the_clock_of_a_merge<K: OpKind>()
+    ensures planned { (objects : Objects) (id : IdValue) (local remote head : NameValue)
+        (author : IdValue) (authors : List IdValue) (clock now : ℕ) (plan : Plan)
+        → PlanAnswers K.meaning objects id (Some local) remote author authors clock now (Ok plan)
+        → plan.merged ≡ Joined head → IsMergeTime objects local remote clock plan.edit }
+    ensures left { (before after : Objects) (local remote head : NameValue) (author : IdValue)
+        (clock now : ℕ)
+        → Joins K.meaning before after (Some local) remote author clock now (Joined head)
+        → (edit : ℕ) × IsMergeTime before local remote clock edit
+        × (head ≡ merge_name K.meaning local remote author edit now) }
+    ensures time { (objects : Objects) (local remote : NameValue) (clock edit one two : ℕ)
+        → edit_at objects local ≡ Some one → edit_at objects remote ≡ Some two
+        → IsMergeTime objects local remote clock edit → edit ≡ max clock (max one two) + 1 }
+{}
+
+/// A join is refused as invalid only if the remote head is not known and the reported fault is one of both
+/// heads together. Then nothing was written.
+pub fn known_heads_are_not_refused<K: OpKind>()
+    ensures planned { (objects : Objects) (id : IdValue) (local : Option NameValue)
+        (remote : NameValue) (author : IdValue) (authors : List IdValue) (clock now : ℕ)
+        (fault : FaultValue)
+        → PlanAnswers K.meaning objects id local remote author authors clock now
+        (Err (stop.Invalid fault)) → (IsKnown objects local remote → ⊥)
+        × EntityFaultHolds K.meaning objects id (both_heads local remote) authors fault }
+    ensures merged { (folder : List ℕ) (id : IdValue) (local : Option NameValue)
+        (remote : NameValue) (author : IdValue) (authors : List IdValue) (clock now : ℕ)
+        (old new : History) (fault : FaultValue)
+        → MergeAnswers K.meaning folder id local remote author authors clock now old new
+        (Err (stop.Invalid fault)) → (IsKnown (objects_after old folder) local remote → ⊥)
+        × EntityFaultHolds K.meaning (objects_after old folder) id (both_heads local remote) authors
+        fault × (new ≡ old) }
 {}
