@@ -9,7 +9,11 @@ mod calls;
 #[cfg(test)]
 mod changes;
 #[cfg(test)]
+mod comments;
+#[cfg(test)]
 mod damage;
+#[cfg(test)]
+mod dashes;
 #[cfg(test)]
 mod people;
 #[cfg(test)]

@@ -71,6 +71,12 @@ pub fn find(disk: &mut Disk, side: &Side, word: &str) -> Result<Id, FindStop> {
     repo_state::find(disk.alloc, &mut disk.store, &disk.folder, side, word)
 }
 
+/// The operation that made the comment that an argument finds.
+pub fn find_comment(disk: &mut Disk, word: &str) -> Result<Id, FindStop> {
+    let found = repo_state::find_comment(disk.alloc, &mut disk.store, &disk.folder, word)?;
+    Ok(found.entry.comment)
+}
+
 pub fn stands(disk: &mut Disk, side: &Side, id: &Id) -> Result<bool, StoreFault> {
     repo_state::stands(disk.alloc, &mut disk.store, &disk.folder, side, id)
 }

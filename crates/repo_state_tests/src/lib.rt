@@ -6,6 +6,8 @@ mod calls;
 #[cfg(test)]
 mod clocks;
 #[cfg(test)]
+mod comments;
+#[cfg(test)]
 mod finding;
 #[cfg(test)]
 mod people;
