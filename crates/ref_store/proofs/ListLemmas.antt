@@ -1,13 +1,16 @@
 -- The entries of a listing's names are the refs of the ids.
-use Rattle.std.proofs.Common.{◌≡◌, ◌↔◌, ℕ, zero, suc, ◌+◌, ◌<◌, ◌==◌, true, false, List, [], ◌∷◌, ◌++◌, length, map, take, get_or, Option, Some, None, option_and_then, refl, sym, ◌∙◌, ap, subst, append_assoc, arith}
+use Rattle.std.proofs.Common.{◌≡◌, ◌≢◌, ◌↔◌, ℕ, zero, suc, ◌+◌, ◌<◌, ◌==◌, true, false, List, [], ◌∷◌, ◌++◌, length, map, take, get_or, Option, Some, None, option_and_then, refl, sym, ◌∙◌, ap, subst, append_assoc, arith}
 use Rattle.std.specs.Prelude.{Contains, IsSome}
 use Rattle.std.proofs.lemmas.Bool.Decides.{nat_tests}
 use Rattle.std.proofs.lemmas.List.Elements.{filter_map-append}
-use Rattle.std.proofs.lemmas.List.{take_more}
+use Rattle.std.proofs.lemmas.List.{get_or-map, length-map, take_more}
+use Rattle.std.proofs.lemmas.Map.Keys.{Less-from_sorted}
+use Rattle.std.proofs.lemmas.Map.Text.{is_eq-slice_cmp}
+use Rattle.std.proofs.lemmas.Slice.Eq.{bytes_eq-Decides}
 use Rattle.std.specs.Cmp.Lexicographic.{slice_cmp}
-use Rattle.std.specs.List.{AllByRecursion, cons_option, filter_map, list_all, list_any}
+use Rattle.std.specs.List.{AllByRecursion, AllPairs, cons_option, filter_map, list_all, list_any}
 use Rattle.std.specs.List.Sorted.{IsStrictlySortedBy}
-use Rattle.std.specs.Ordering.{nat_cmp}
+use Rattle.std.specs.Ordering.{is_eq, nat_cmp}
 use Rattle.std.specs.declared.cmp.Ordering.TheVariants.{Less}
 use Rattle.hex.specs.Hex.{encode_lower, is_hex_digit}
 use Rattle.gb_text.specs.Digits.{IsId, id_of, name_of}
@@ -222,3 +225,19 @@ pub bad_found : (found : RefFound) (ref : Ref) → found_of ref ≡ Some found �
 bad_found found Absent e = absurd cc
 bad_found found (Head other) e = (λ is. cc, λ is. cc)
 bad_found found Bad e = (λ is. cc, λ is. cc)
+
+-- ---- ids in their order
+
+-- no text stands before itself
+not_before_itself : (x y : List ℕ) → x ≡ y → slice_cmp nat_cmp x y ≡ Less → ⊥
+not_before_itself x y e less = (let t = (bytes_eq-Decides x y).1 e in let f = sym (is_eq-slice_cmp x y) ∙ ap is_eq less in absurd cc)
+
+-- ids in ascending order differ
+pub ids_differ : (ids : List Id) → IsStrictlySortedBy (slice_cmp nat_cmp) (map (λ (id : Id). id.bytes) ids) → AllPairs (λ (one other : Id). one ≢ other) ids
+ids_differ ids rising i j d lt within =
+    let bytes = map (λ (id : Id). id.bytes) ids in
+    let size : length bytes ≡ length ids = length-map ids (λ (id : Id). id.bytes) in
+    let first : get_or bytes i [] ≡ (get_or ids i d).bytes = get_or-map (λ (id : Id). id.bytes) ids i d [] (omega arith) in
+    let second : get_or bytes j [] ≡ (get_or ids j d).bytes = get_or-map (λ (id : Id). id.bytes) ids j d [] within in
+    λ same. not_before_itself (get_or bytes i []) (get_or bytes j []) (first ∙ ap (λ (id : Id). id.bytes) same ∙ sym second)
+    (Less-from_sorted (slice_cmp nat_cmp) bytes i j [] rising lt (omega arith))

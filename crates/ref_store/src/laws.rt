@@ -1,6 +1,7 @@
 //! Laws of refs, each the contract of a function that does nothing.
 ghost use Rattle.std.specs.Prelude.{◌≡◌, ◌≢◌, ◌↔◌, ◌++◌, ℕ, List, Option, Contains, IsSome, codes, false, map, IsTrue};
 ghost use Rattle.std.specs.Cmp.Lexicographic.{slice_cmp};
+ghost use Rattle.std.specs.List.{AllPairs};
 ghost use Rattle.std.specs.List.Sorted.{IsStrictlySortedBy};
 ghost use Rattle.std.specs.Ordering.{nat_cmp};
 ghost use Rattle.gb_text.specs.Digits.{IsId, IsName};
@@ -11,7 +12,7 @@ ghost use Rattle.gb_text.specs.declared.id.Name.{Name};
 ghost use Rattle.gb_store.specs.Files.{Files, written};
 ghost use Rattle.gb_store.specs.ObjectPath.{is_object_path, object_place};
 ghost use Rattle.gb_store.specs.declared.store.Change.{Change};
-ghost use Rattle.ref_store.specs.Listing.{IsRefList, id_place};
+ghost use Rattle.ref_store.specs.Listing.{IsIdList, IsRefList, id_place};
 ghost use Rattle.ref_store.specs.Refs.{Bad, Head, ref_at};
 ghost use Rattle.ref_store.specs.Setting.{ref_write};
 ghost use Rattle.ref_store.specs.declared.listing.RefEntry.{RefEntry};
@@ -91,4 +92,19 @@ pub fn listings_have_each_ref_file()
     ensures ascending { (files : Files) (folder dir : List ℕ) (entries : List RefEntry)
         → IsRefList files folder dir entries → IsStrictlySortedBy (slice_cmp nat_cmp)
         (map (λ (entry : RefEntry). entry.id.bytes) entries) }
+{}
+
+/// A list of ids has an id if and only if the id has a file, also one that is not a ref text. Each
+/// id of a list is valid and stands there once. Ids are in ascending order.
+pub fn id_listings_have_each_ref_file()
+    ensures every { (files : Files) (folder dir : List ℕ) (ids : List Id) (id : Id)
+        → IsIdList files folder dir ids → IsId id
+        → IsSome (files (joined folder (id_place dir id))) ↔ Contains ids id }
+    ensures valid { (files : Files) (folder dir : List ℕ) (ids : List Id) (id : Id)
+        → IsIdList files folder dir ids → Contains ids id → IsId id }
+    ensures once { (files : Files) (folder dir : List ℕ) (ids : List Id)
+        → IsIdList files folder dir ids → AllPairs (λ (one other : Id). one ≢ other) ids }
+    ensures ascending { (files : Files) (folder dir : List ℕ) (ids : List Id)
+        → IsIdList files folder dir ids → IsStrictlySortedBy (slice_cmp nat_cmp)
+        (map (λ (id : Id). id.bytes) ids) }
 {}
