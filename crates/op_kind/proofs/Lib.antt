@@ -12,3 +12,4 @@ pub mod TableLaws
 pub mod WrittenLemmas
 pub mod NonceLengths
 pub mod EmptyMembers
+pub mod NeededMembers

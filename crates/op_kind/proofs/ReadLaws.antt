@@ -129,13 +129,13 @@ value_or_absent : {A : Type 0} (absent : A) (read : List ℕ → Option A) (P : 
 value_or_absent absent read P none each [] a h = let e : absent ≡ a = cc (h) in subst P e none
 value_or_absent absent read P none each (v ∷ vs) a h = the_value read P each (v ∷ vs) a h
 
-record AllFour (a b : Option ℕ) (c : Option (List ℕ)) (d : Option (List Pair)) (x : Parts) : Type 0 where
-  kind : a ≡ Some x.kind
-  time : b ≡ Some x.time
-  nonce : c ≡ Some x.nonce
-  metadata : d ≡ Some x.metadata
+pub record AllFour (a b : Option ℕ) (c : Option (List ℕ)) (d : Option (List Pair)) (x : Parts) : Type 0 where
+  pub kind : a ≡ Some x.kind
+  pub time : b ≡ Some x.time
+  pub nonce : c ≡ Some x.nonce
+  pub metadata : d ≡ Some x.metadata
 
-four_are : (a b : Option ℕ) (c : Option (List ℕ)) (d : Option (List Pair)) (x : Parts) → all_four a b c d ≡ Some x → AllFour a b c d x
+pub four_are : (a b : Option ℕ) (c : Option (List ℕ)) (d : Option (List Pair)) (x : Parts) → all_four a b c d ≡ Some x → AllFour a b c d x
 four_are None b c d x h = absurd (cc (h))
 four_are (Some k) None c d x h = absurd (cc (h))
 four_are (Some k) (Some t) None d x h = absurd (cc (h))

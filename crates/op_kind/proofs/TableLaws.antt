@@ -75,7 +75,7 @@ metadata_back : (m : List Pair) (c : Common) → IsWithinBounds c → c.metadata
 metadata_back [] c within h = refl
 metadata_back (p ∷ ps) c within h = metadata_reads (p ∷ ps) (subst AreInKeyOrder h within.order) (subst EachPairUtf8 h within.texts)
 
-four_back : (a b : Option ℕ) (c : Option (List ℕ)) (d : Option (List Pair)) (x : Parts) → a ≡ Some x.kind → b ≡ Some x.time → c ≡ Some x.nonce → d ≡ Some x.metadata → all_four a b c d ≡ Some x
+pub four_back : (a b : Option ℕ) (c : Option (List ℕ)) (d : Option (List Pair)) (x : Parts) → a ≡ Some x.kind → b ≡ Some x.time → c ≡ Some x.nonce → d ≡ Some x.metadata → all_four a b c d ≡ Some x
 four_back a b c d x ha hb hc hd =
     ap (λ o. all_four o b c d) ha ∙ ap (λ o. all_four (Some x.kind) o c d) hb
     ∙ ap (λ o. all_four (Some x.kind) (Some x.time) o d) hc ∙ ap (all_four (Some x.kind) (Some x.time) (Some x.nonce)) hd

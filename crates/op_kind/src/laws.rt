@@ -1,5 +1,5 @@
 //! Laws of the definitions that the contracts cite. No call of them does anything.
-ghost use Rattle.std.specs.Prelude.{◌≡◌, ◌≢◌, ◌≤◌, ◌<◌, ◌-◌, ◌^◌, ◌++◌, ℕ, List, [], length, codes, Option, Some, None, decimal};
+ghost use Rattle.std.specs.Prelude.{◌≡◌, ◌≢◌, ◌≤◌, ◌<◌, ◌-◌, ◌^◌, ◌++◌, ℕ, List, [], ◌∷◌, length, codes, Option, Some, None, decimal};
 ghost use Rattle.std.specs.List.{Contains};
 ghost use Rattle.std.specs.List.Sorted.{IsPermutation};
 ghost use Rattle.std.specs.Str.{IsUtf8};
@@ -13,7 +13,7 @@ ghost use Rattle.json.specs.Print.{quoted};
 ghost use Rattle.json_span.specs.Grammar.{IsValueText};
 ghost use Rattle.json_span.specs.Parts.{members_of};
 ghost use Rattle.op_kind.specs.Bounds.{IsWithinBounds};
-ghost use Rattle.op_kind.specs.Common.{common_at, time_at, nonce_in, metadata_at, metadata_of, CommonFault};
+ghost use Rattle.op_kind.specs.Common.{common_at, common_of, time_at, nonce_in, metadata_at, metadata_of, CommonFault};
 ghost use Rattle.op_kind.specs.Fold.{state_from, row_from};
 ghost use Rattle.op_kind.specs.Forms.{id_at, texts_at, FaultOfOne, FaultOfOptional};
 ghost use Rattle.op_kind.specs.Members.{Fields, text_at, fields_at, values_of, only_value, value_or};
@@ -60,6 +60,40 @@ pub fn member_value_or_fault<A>()
     ensures optional { (absent : A) (number : ℕ) (read : List ℕ → Option A)
         (values : List (List ℕ)) → value_or absent read values ≡ None
         → FaultOfOptional number read values (BadMember number) }
+{}
+
+/// An operation has a type, a time and a nonce: the members `type`, `timestamp` and `nonce`, as git-bug's
+/// data model names them. Members of which one of them is absent give no common part, and nothing
+/// stands for it. What is read of each is what stands under its name, and stands there just once.
+/// Members that have all three so, and metadata, give the common part of what is read of them.
+pub fn operations_need_their_members()
+    ensures no_kind { (place : PlaceValue) (fields : Fields) → values_of (codes "type") fields ≡ []
+        → common_of place fields ≡ None }
+    ensures no_time { (place : PlaceValue) (fields : Fields)
+        → values_of (codes "timestamp") fields ≡ [] → common_of place fields ≡ None }
+    ensures no_nonce { (place : PlaceValue) (fields : Fields)
+        → values_of (codes "nonce") fields ≡ [] → common_of place fields ≡ None }
+    ensures kinds { (place : PlaceValue) (fields : Fields) (common : CommonValue)
+        → common_of place fields ≡ Some common
+        → (value : List ℕ) × (values_of (codes "type") fields ≡ value ∷ [])
+        × (decimal_of value ≡ Some common.kind) }
+    ensures times { (place : PlaceValue) (fields : Fields) (common : CommonValue)
+        → common_of place fields ≡ Some common
+        → (value : List ℕ) × (values_of (codes "timestamp") fields ≡ value ∷ [])
+        × (time_at value ≡ Some common.time) }
+    ensures nonces { (place : PlaceValue) (fields : Fields) (common : CommonValue)
+        → common_of place fields ≡ Some common
+        → (value : List ℕ) × (values_of (codes "nonce") fields ≡ value ∷ [])
+        × (nonce_in value ≡ Some common.nonce) }
+    ensures all { (place : PlaceValue) (fields : Fields) (kind time nonce : List ℕ)
+        (common : CommonValue) → values_of (codes "type") fields ≡ kind ∷ []
+        → values_of (codes "timestamp") fields ≡ time ∷ []
+        → values_of (codes "nonce") fields ≡ nonce ∷ [] → decimal_of kind ≡ Some common.kind
+        → time_at time ≡ Some common.time → nonce_in nonce ≡ Some common.nonce
+        → metadata_of fields ≡ Some common.metadata
+        → common_of place fields ≡ Some (record common { place = place }) }
+    ensures text { (place : PlaceValue) (text : List ℕ) (fields : Fields)
+        → fields_at text ≡ Some fields → common_at place text ≡ common_of place fields }
 {}
 
 /// A written value reads back as the value.

@@ -20,9 +20,9 @@ pub use forms::{decimal_in, id_in, optional_text_in, pairs_in, read_texts, text_
 pub use kind::OpKind;
 pub use laws::{
     common_part_or_fault, folds_append, kinds_read_what_they_write, member_value_or_fault,
-    nonces_have_20_to_64_bytes, null_and_absent_members_are_empty, pairs_are_in_key_order,
-    read_values_are_within_bounds, written_members_read_back, written_values_are_values,
-    written_values_read_back,
+    nonces_have_20_to_64_bytes, null_and_absent_members_are_empty, operations_need_their_members,
+    pairs_are_in_key_order, read_values_are_within_bounds, written_members_read_back,
+    written_values_are_values, written_values_read_back,
 };
 pub use members::{Field, find, read_fields, read_text};
 pub use metadata::read_pairs;
