@@ -31,6 +31,14 @@ impl RemoteName {
         Ok(Some(RemoteName { text }))
     }
 
+    /// The same name once more. Its text is not read again.
+    pub fn copied(&self, alloc: Global) -> Result<RemoteName, Memory>
+        ensures { IfOk result (λ copied. copied ≡ self.now) }
+    {
+        let text = Text::from_str(alloc, self.text.as_str())?;
+        Ok(RemoteName { text })
+    }
+
     /// Its text.
     pub fn as_str(&self) -> &str
         ensures { result.now ≡ self.now.text }
