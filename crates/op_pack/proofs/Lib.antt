@@ -9,3 +9,5 @@ pub mod RuleLaws
 pub mod BackLaws
 pub mod Examples
 pub mod ReportLemmas
+pub mod KnownFaults
+pub mod PlaceLaws

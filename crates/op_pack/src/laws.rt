@@ -1,17 +1,19 @@
 //! Laws of the definitions that the contracts cite. No call of them does anything.
-ghost use Rattle.std.specs.Prelude.{◌≡◌, ◌≢◌, ◌≤◌, ◌↔◌, ◌⊎◌, ◌++◌, ◌-◌, ◌^◌, ℕ, List, [], ◌∷◌, Contains, codes, Some, None, map, length};
+ghost use Rattle.std.specs.Prelude.{◌≡◌, ◌≢◌, ◌≤◌, ◌<◌, ◌↔◌, ◌⊎◌, ◌++◌, ◌-◌, ◌^◌, ℕ, List, [], ◌∷◌, Contains, codes, Some, None, map, length, slice_get};
 ghost use Rattle.std.specs.List.{AllByRecursion};
+ghost use Rattle.sha2.specs.Sha256.{sha256};
 ghost use Rattle.gb_text.specs.Decimal.{decimal_of};
 ghost use Rattle.gb_text.specs.Digits.{IsId};
 ghost use Rattle.gb_text.specs.declared.id.Id.{Id as IdValue};
 ghost use Rattle.git_object.specs.declared.entry.Entry.{Entry as EntryValue};
 ghost use Rattle.git_object.specs.declared.tree.Tree.{Tree as TreeValue};
+ghost use Rattle.op_kind.specs.declared.fault.OpFault.{OpFault as OpFaultValue};
 ghost use Rattle.op_kind.specs.declared.fault.OpFault.TheVariants as operation;
 ghost use Rattle.op_pack.specs.Heads.{head_of, versions, HeadFault, IsHeadInRange};
 ghost use Rattle.op_pack.specs.Texts.{IsPackText, IsPack, parts_at};
-ghost use Rattle.op_pack.specs.Packs.{place_of, pack_at, IsPackOf, version_in, PackTextFault, pack_text, MayStand, written_pack};
+ghost use Rattle.op_pack.specs.Packs.{place_of, pack_at, IsPackOf, version_in, PackTextFault, pack_text, MayStand, written_pack, written_ids};
 ghost use Rattle.op_pack.specs.declared.fault.PackFault.{PackFault as FaultValue};
-ghost use Rattle.op_pack.specs.declared.fault.PackFault.TheVariants.{Memory, BadOperation, UnknownVersion};
+ghost use Rattle.op_pack.specs.declared.fault.PackFault.TheVariants.{Memory, BadPack, BadOperation, TooLarge, UnknownVersion};
 ghost use Rattle.op_pack.specs.declared.head.TreeHead.{TreeHead as HeadValue};
 ghost use Rattle.op_pack.specs.declared.pack.Pack.{Pack as PackValue};
 
@@ -85,6 +87,24 @@ pub fn pack_or_fault<K: OpKind>()
         → PackTextFault K.meaning version text (BadOperation i operation.Memory) → ⊥ }
 {}
 
+/// Operations are counted from 0 in what is reported: the one at an index has a fault if and only if its
+/// text has it. `BadPack` holds if and only if the text has no parts. More than 4,096 operations are too
+/// many, and then 4,097 is reported, no matter how many there are.
+pub fn pack_faults_are_known<K: OpKind>()
+    ensures text { (version : ℕ) (text : List ℕ) → PackTextFault K.meaning version text BadPack
+        ↔ (parts_at text ≡ None) }
+    ensures operation { (version : ℕ) (text : List ℕ) (author : IdValue)
+        (slices : List (List ℕ)) (i : ℕ) (fault : OpFaultValue)
+        → parts_at text ≡ Some (author, slices)
+        → PackTextFault K.meaning version text (BadOperation i fault)
+        ↔ ((slice : List ℕ) × (slice_get slices i ≡ Some slice)
+        × K.meaning.HasFault version slice fault) }
+    ensures large { (version : ℕ) (text : List ℕ) (author : IdValue) (slices : List (List ℕ))
+        (n : ℕ) → parts_at text ≡ Some (author, slices)
+        → PackTextFault K.meaning version text (TooLarge n)
+        ↔ ((4096 < length slices) × (n ≡ 4097)) }
+{}
+
 /// `pack_at` gives exactly the pack that a text is.
 pub fn packs_are_exact<K: OpKind>()
     ensures found { (head : HeadValue) (text : List ℕ) (pack : PackValue K)
@@ -102,6 +122,27 @@ pub fn operations_keep_rules<K: OpKind>()
         (pack : PackValue K) → IsPackOf K.meaning head text slices pack
         → map (λ o. (K.meaning.common_of o).place) pack.ops
         ≡ map (place_of head pack.author) slices }
+{}
+
+/// The id of an operation is the SHA-256 (FIPS 180-4) of its text, and the id of a pack that of the whole
+/// text. An operation has the author and the clocks of its pack, and a pack has the version and the
+/// clocks of its tree.
+pub fn operations_stand_where_their_pack_does<K: OpKind>()
+    ensures place { (head : HeadValue) (author : IdValue) (slice : List ℕ)
+        → place_of head author slice ≡ record {
+          id = record { bytes = sha256 slice };
+          author = author;
+          edit = head.edit;
+          create = head.create;
+        } }
+    ensures id { (head : HeadValue) (text : List ℕ) (slices : List (List ℕ)) (pack : PackValue K)
+        → IsPackOf K.meaning head text slices pack → pack.id.bytes ≡ sha256 text }
+    ensures head { (head : HeadValue) (text : List ℕ) (slices : List (List ℕ))
+        (pack : PackValue K) → IsPackOf K.meaning head text slices pack
+        → (pack.version ≡ head.version) × (pack.edit ≡ head.edit)
+        × (pack.create ≡ head.create) }
+    ensures ids { (ops : List K) → map (λ (id : IdValue). id.bytes) (written_ids K.meaning ops)
+        ≡ map (λ op. sha256 (K.meaning.written op)) ops }
 {}
 
 /// Operations that satisfy the rules of their kind are written as a pack text that contains their

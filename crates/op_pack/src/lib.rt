@@ -10,7 +10,8 @@ mod parts;
 pub use fault::PackFault;
 pub use head::{TreeHead, read_head, tree_for};
 pub use laws::{
-    clocks_are_within_bounds, head_or_fault, operations_keep_rules, pack_or_fault,
+    clocks_are_within_bounds, head_or_fault, operations_keep_rules,
+    operations_stand_where_their_pack_does, pack_faults_are_known, pack_or_fault,
     packs_are_determined, packs_are_exact, parts_are_exact, unknown_versions_are_reported,
     written_packs_read_back,
 };
