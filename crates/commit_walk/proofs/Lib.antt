@@ -7,6 +7,7 @@ pub mod ChainStepLemmas
 pub mod DistinctLemmas
 pub mod FaultLemmas
 pub mod FrontierLemmas
+pub mod ParentLemmas
 pub mod PassingLemmas
 pub mod QueueLemmas
 pub mod ReachLemmas

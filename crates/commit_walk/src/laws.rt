@@ -38,6 +38,28 @@ pub fn below_is_transitive()
         → IsBelow objects others name → IsBelow objects heads name }
 {}
 
+/// Heads lie below themselves, and the parents of a commit that lies below lie below too, with all
+/// that lies below those. Nothing else does: below one head lie the head and, if it holds a commit,
+/// what lies below that commit's parents.
+pub fn parents_lie_below()
+    ensures head { (objects : Objects) (heads : List Name) (name : Name) → Contains heads name
+        → IsBelow objects heads name }
+    ensures parent { (objects : Objects) (heads : List Name) (high low : Name) (commit : Commit)
+        → IsBelow objects heads high → commit_at objects high ≡ Some commit
+        → Contains commit.parents low → IsBelow objects heads low }
+    ensures below_parent { (objects : Objects) (heads : List Name) (high low name : Name)
+        (commit : Commit) → IsBelow objects heads high → commit_at objects high ≡ Some commit
+        → Contains commit.parents low → IsBelow objects (low ∷ []) name
+        → IsBelow objects heads name }
+    ensures one { (objects : Objects) (top name : Name) → IsBelow objects (top ∷ []) name
+        ↔ ((name ≡ top) ⊎ ((commit : Commit) × (commit_at objects top ≡ Some commit)
+        × IsBelow objects commit.parents name)) }
+    ensures only { (objects : Objects) (heads : List Name) (name : Name)
+        → IsBelow objects heads name → Contains heads name
+        ⊎ ((high : Name) × IsBelow objects heads high × ((commit : Commit)
+        × (commit_at objects high ≡ Some commit) × Contains commit.parents name)) }
+{}
+
 /// What lies below two heads lies below one of them, and the other way round.
 pub fn what_lies_below_two_lies_below_one()
     ensures { (objects : Objects) (one two name : Name)

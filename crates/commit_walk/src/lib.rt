@@ -21,7 +21,7 @@ pub use chain_laws::{
 pub use fault::{ChainStop, WalkFault, WalkStop};
 pub use laws::{
     a_walk_has_at_most_65536_commits, a_whole_walk_has_no_fault, below_is_transitive,
-    walk_faults_are_exact, walks_have_the_same_commits, walks_read_each_commit_at_most_once,
-    what_lies_below_stays, what_lies_below_two_lies_below_one,
+    parents_lie_below, walk_faults_are_exact, walks_have_the_same_commits,
+    walks_read_each_commit_at_most_once, what_lies_below_stays, what_lies_below_two_lies_below_one,
 };
 pub use passing::passes;
