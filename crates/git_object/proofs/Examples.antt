@@ -119,6 +119,19 @@ tree_repeated : tree_of (entry_text (codes "100644 a") ++ entry_text (codes "400
 unfolding git_object_on_literals
 tree_repeated = refl
 
+-- names are distinct where other entries stand between them, also in git's order
+tree_repeated_apart : tree_of (entry_text (codes "100644 a") ++ entry_text (codes "100644 b") ++ entry_text (codes "100644 a")) ≡ None
+unfolding git_object_on_literals
+tree_repeated_apart = refl
+
+tree_repeated_around : tree_of (entry_text (codes "100644 a") ++ entry_text (codes "100644 a.b") ++ entry_text (codes "40000 a")) ≡ None
+unfolding git_object_on_literals
+tree_repeated_around = refl
+
+tree_three_names : tree_of (entry_text (codes "100644 a") ++ entry_text (codes "100644 a.b") ++ entry_text (codes "40000 ab")) ≡ Some (record { entries = record { mode = Plain; name = codes "a"; object = empty_blob } ∷ record { mode = Plain; name = codes "a.b"; object = empty_blob } ∷ record { mode = Folder; name = codes "ab"; object = empty_blob } ∷ [] })
+unfolding git_object_on_literals
+tree_three_names = refl
+
 tree_mode_of_six : tree_of (entry_text (codes "040000 a")) ≡ None
 unfolding git_object_on_literals
 tree_mode_of_six = refl
