@@ -1,0 +1,3 @@
+mod PushLemmas
+mod StepLemmas
+mod TurnLemmas

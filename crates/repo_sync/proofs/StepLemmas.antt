@@ -1,0 +1,104 @@
+-- Turns that memory or the disk ends, and what is so where an own ref is no ref text.
+use Rattle.std.proofs.Common.{◌≡◌, inl, inr, refl, sym, subst, Bool, true, false, List, ℕ, Option, Some, None, Ok, Err}
+use Rattle.gb_text.specs.declared.id.Id.{Id}
+use Rattle.gb_text.specs.declared.id.Name.{Name}
+use Rattle.gb_store.specs.Files.{History, files_of}
+use Rattle.gb_store.specs.Moments.{MaybeWrote}
+use Rattle.gb_store.specs.declared.fault.StoreFault.{StoreFault}
+use Rattle.gb_store.specs.declared.fault.StoreFault.TheVariants as store
+use Rattle.gb_store.specs.declared.store.Change.{Change}
+use Rattle.gb_store.proofs.MomentLemmas.{Wrote-none}
+use Rattle.object_store.specs.Held.{Objects, objects_after}
+use Rattle.ref_store.specs.Refs.{Ref}
+use Rattle.remote_copy.specs.Writes.{PutsCopy}
+use Rattle.repo_state.specs.Answers.{IsHeadAt, PutAnswers, Reads, WholeAnswers}
+use Rattle.repo_state.specs.Sides.{IsBadRef}
+use Rattle.repo_state.specs.declared.refs.EntityRef.{EntityRef}
+use Rattle.repo_state.specs.declared.side.HeadEntry.{HeadEntry}
+use Rattle.repo_state.specs.declared.side.Side.{Side}
+use Rattle.repo_state.specs.declared.stop.ReadStop.{ReadStop}
+use Rattle.repo_state.specs.declared.stop.ReadStop.TheVariants as stop
+use Rattle.sync_steps.specs.Carrying.{IsCutOff}
+use Rattle.sync_steps.specs.Fetching.{FetchCutOff, FetchOutcome, FetchStops, IsBadTracking}
+use Rattle.sync_steps.specs.Pushing.{ForwardAnswers, IsBadLocal, IsForward, PushCutOff, PushOfRef, PushOutcome, PushStops, Pushes}
+use Rattle.sync_steps.specs.declared.line.Outcome.{Outcome}
+use Rattle.sync_steps.specs.declared.line.Outcome.TheVariants as outcome
+
+-- a ref that was not set, or was perhaps
+pub set_ended : (change : Change) (old new : History) (fault : StoreFault) → PutAnswers change old new (Err fault) → MaybeWrote change old new
+set_ended change old new store.Memory same = inl same
+set_ended change old new store.Failed may = may
+
+-- nothing was written yet
+pub cut_before : (closed : Bool) (source target : List ℕ) (to : Side) (head : HeadEntry) (old new : History) → new ≡ old → IsCutOff closed source target to head old new
+cut_before closed source target to head old new same = record {
+  mid = old;
+  put = Wrote-none (PutsCopy closed source target (objects_after old target) head.name) old old refl;
+  set = inl same;
+}
+
+-- ---- fetches
+
+module _ (own peer : List ℕ) (to : Side) where
+  -- a tracking ref that is not read ends the turn
+  pub tracking_ends : (entity : EntityRef) (name : Name) (old new : History) (why : ReadStop) → entity.head ≡ Some name
+      → Reads (IsHeadAt (files_of old) own to entity.id) (IsBadRef (files_of old) own to entity.id) (Err why) → new ≡ old → FetchStops own peer to why entity old new
+  tracking_ends entity name old new stop.Memory is told same =
+      subst (λ (h : Option Name). FetchCutOff own peer to entity.id h old new) (sym is) (cut_before true peer own to (record { id = entity.id; name = name }) old new same)
+  tracking_ends entity name old new stop.Disk is told same =
+      subst (λ (h : Option Name). FetchCutOff own peer to entity.id h old new) (sym is) (cut_before true peer own to (record { id = entity.id; name = name }) old new same)
+  tracking_ends entity name old new (stop.Damaged path) is told same = subst (λ (h : Option Name). IsBadTracking own peer to entity.id h path old new) (sym is) (told, same)
+
+  -- memory may run out behind a turn
+  pub fetched_then_ended : (id : Id) (head : Option Name) (out : Outcome) (old new : History) → FetchOutcome own peer to id head out old new → FetchCutOff own peer to id head old new
+  fetched_then_ended id None outcome.BadRef old new same = same
+  fetched_then_ended id None outcome.Fetched old new none = absurd none
+  fetched_then_ended id None outcome.Pushed old new none = absurd none
+  fetched_then_ended id None outcome.Same old new none = absurd none
+  fetched_then_ended id None (outcome.DamagedCopy why) old new none = absurd none
+  fetched_then_ended id None (outcome.NotForward other) old new none = absurd none
+  fetched_then_ended id None outcome.Held old new none = absurd none
+  fetched_then_ended id (Some name) outcome.Same old new (at, same) = cut_before true peer own to (record { id = id; name = name }) old new same
+  fetched_then_ended id (Some name) outcome.Fetched old new (other, carried) = record { mid = carried.mid; put = carried.put; set = inr carried.set }
+  fetched_then_ended id (Some name) (outcome.DamagedCopy why) old new (other, refused) = record { mid = new; put = refused.put; set = inl refl }
+  fetched_then_ended id (Some name) outcome.BadRef old new none = absurd none
+  fetched_then_ended id (Some name) outcome.Pushed old new none = absurd none
+  fetched_then_ended id (Some name) (outcome.NotForward other) old new none = absurd none
+  fetched_then_ended id (Some name) outcome.Held old new none = absurd none
+
+-- ---- pushes
+
+-- nothing is settled where a head goes forward
+pub goes_forward : (objects : Objects) (ref : Ref) (name : Name) (settled : Option Outcome) → ((out : Outcome) → settled ≡ Some out → ⊥) → ForwardAnswers objects ref name (Ok settled) → IsForward objects ref name
+goes_forward objects ref name None none forward = forward
+goes_forward objects ref name (Some out) none told = absurd (none out refl)
+
+module _ (own peer : List ℕ) (of : Side) where
+  -- a local ref that is no ref text ends the turn
+  pub local_ends : (held : Bool) (entity : EntityRef) (old new : History) (why : ReadStop) → held ≡ false → WholeAnswers own of entity (Err why) → new ≡ old → PushStops own peer of held why entity old new
+  local_ends true entity old new why is told same = absurd cc
+  local_ends false entity old new stop.Memory is told same = by entity.head
+    where
+      by : (head : Option Name) → PushCutOff own peer of false entity.id head old new
+      by None = same
+      by (Some name) = cut_before false own peer of (record { id = entity.id; name = name }) old new same
+  local_ends false entity old new stop.Disk is told same = absurd told
+  local_ends false entity old new (stop.Damaged path) is told same = subst (λ (h : Option Name). IsBadLocal own peer of false entity.id h path old new) (sym told.0) (told.1, same)
+
+  pushed_then_ended : (id : Id) (name : Name) (out : Outcome) (old new : History) → PushOutcome own peer of id name out old new → IsCutOff false own peer of (record { id = id; name = name }) old new
+  pushed_then_ended id name outcome.Same old new (at, same) = cut_before false own peer of (record { id = id; name = name }) old new same
+  pushed_then_ended id name outcome.BadRef old new (at, same) = cut_before false own peer of (record { id = id; name = name }) old new same
+  pushed_then_ended id name (outcome.NotForward other) old new told = cut_before false own peer of (record { id = id; name = name }) old new told.3
+  pushed_then_ended id name outcome.Pushed old new (forward, carried) = record { mid = carried.mid; put = carried.put; set = inr carried.set }
+  pushed_then_ended id name (outcome.DamagedCopy why) old new (forward, refused) = record { mid = new; put = refused.put; set = inl refl }
+  pushed_then_ended id name outcome.Fetched old new none = absurd none
+  pushed_then_ended id name outcome.Held old new none = absurd none
+
+  -- memory may run out behind a turn
+  pub turn_then_ended : (held : Bool) (entity : EntityRef) (out : Outcome) (old new : History) → Pushes own peer of held (record { entity = entity; outcome = out }) old new → PushCutOff own peer of held entity.id entity.head old new
+  turn_then_ended true entity out old new step = step.1
+  turn_then_ended false entity out old new step = by entity.head step
+    where
+      by : (head : Option Name) → PushOfRef own peer of entity.id head out old new → PushCutOff own peer of false entity.id head old new
+      by None none = absurd none
+      by (Some name) step = pushed_then_ended entity.id name out old new step

@@ -1,0 +1,14 @@
+use Rattle.std.proofs.Common.{rules, ◌≡◌, Err, sym, subst}
+use Rattle.sync_steps.specs.Fetching.{OneFetched}
+use Rattle.repo_sync.proofs.StepLemmas.{tracking_ends}
+use Rattle.repo_sync.proofs.fetching.fetch_one.Goals as goal
+
+pub returns-in_err-head-clause-answers : goal.returns-in_err-head-clause-answers
+returns-in_err-head-clause-answers g c = λ tells.
+    let history = g.S.Store.history in
+    let a = c.args in
+    let why = c.in_err-head.field-0.0 in
+    let is : c.from_residual.result ≡ Err why = search rules in
+    subst (OneFetched a.pair.now.own a.pair.now.peer a.to.now a.entity.now (history a.disk.now) (history c.head.new.disk)) (sym is)
+    (tracking_ends a.pair.now.own a.pair.now.peer a.to.now a.entity.now c.in-Some.name (history a.disk.now) (history c.head.new.disk) why c.in-Some.is
+    (c.in_err-head.ensures.answers tells) (c.in_err-head.ensures.unwritten tells))

@@ -1,0 +1,111 @@
+//! Refs and objects that are damaged.
+use crate::folders::{
+    exchange, first, head_of, local, object_path, rests, tells, tracked, with_a_bug,
+};
+use fixtures::Disk;
+use gb_text::{Id, Name};
+use repo_state::ReadStop;
+use repo_sync::Exchange::{Fetch, Push};
+use std::alloc::Global;
+use std::test::Fail;
+
+fn digits(alloc: Global, bytes: &[u8]) -> Result<String, Fail> {
+    Ok(String::from_utf8_lossy(alloc, bytes)?)
+}
+
+// Lines of a verb for the identity and the bug of `a`.
+fn lines(disk: &mut Disk, verb: &str, people: &str, bugs: &str) -> Result<String, Fail> {
+    let alloc = disk.alloc;
+    let person = digits(alloc, &first(disk, "a", &local("identity"))?.text())?;
+    let bug = digits(alloc, &first(disk, "a", &local("bug"))?.text())?;
+    Ok(format!(in alloc; "{verb} identity {person} {people}\n{verb} bug {bug} {bugs}\n")?)
+}
+
+// The path of a ref of a folder.
+fn ref_path(disk: &Disk, folder: &str, word: &str, id: &Id) -> Result<String, Fail> {
+    let dir = if word == "bug" { "bugs" } else { "identities" };
+    let id = digits(disk.alloc, &id.text())?;
+    Ok(format!(in disk.alloc; "{folder}/refs/{dir}/{id}")?)
+}
+
+fn head(disk: &mut Disk, word: &str) -> Result<Name, Fail> {
+    let id = first(disk, "a", &local(word))?;
+    Ok(head_of(disk, "a", &local(word), &id)?.ok_or("a head")?)
+}
+
+#[test]
+fn a_bad_ref_of_a_peer_has_its_line(rt: HostRuntime) -> Result<(), Fail> {
+    let mut disk = with_a_bug(rt.alloc())?;
+    let bug = first(&mut disk, "a", &local("bug"))?;
+    let path = ref_path(&disk, "hub", "bug", &bug)?;
+    disk.put(path.as_str(), b"no ref")?;
+    let told = lines(&mut disk, "push", "pushed", "damaged ref")?;
+    tells(&mut disk, Push, "a", "hub", &told)?;
+    let told = lines(&mut disk, "fetch", "fetched", "damaged ref")?;
+    tells(&mut disk, Fetch, "b", "hub", &told)?;
+    let told = lines(&mut disk, "fetch", "same", "damaged ref")?;
+    rests(&mut disk, Fetch, "b", "hub", &told)
+}
+
+#[test]
+fn bugs_are_held_where_an_identity_is_damaged(rt: HostRuntime) -> Result<(), Fail> {
+    let mut disk = with_a_bug(rt.alloc())?;
+    let person = first(&mut disk, "a", &local("identity"))?;
+    let path = ref_path(&disk, "hub", "identity", &person)?;
+    disk.put(path.as_str(), b"no ref")?;
+    let told = lines(&mut disk, "push", "damaged ref", "held")?;
+    rests(&mut disk, Push, "a", "hub", &told)
+}
+
+#[test]
+fn other_bytes_in_the_target_are_kept(rt: HostRuntime) -> Result<(), Fail> {
+    let alloc = rt.alloc();
+    let mut disk = with_a_bug(alloc)?;
+    let name = head(&mut disk, "identity")?;
+    let path = object_path(&disk, "hub", &name)?;
+    disk.put(path.as_str(), b"x")?;
+    let name = digits(alloc, &name.text())?;
+    let taken = format!(in alloc; "damaged taken {name}")?;
+    let told = lines(&mut disk, "push", taken.as_str(), "held")?;
+    tells(&mut disk, Push, "a", "hub", &told)
+}
+
+#[test]
+fn what_is_missing_in_a_peer_is_told(rt: HostRuntime) -> Result<(), Fail> {
+    let alloc = rt.alloc();
+    let mut disk = with_a_bug(alloc)?;
+    let name = head(&mut disk, "bug")?;
+    let path = object_path(&disk, "a", &name)?;
+    fixtures::remove_object(&mut disk, &name)?;
+    let digits = digits(alloc, &name.text())?;
+    let missing = format!(in alloc; "damaged missing {digits}")?;
+    let told = lines(&mut disk, "fetch", "fetched", missing.as_str())?;
+    tells(&mut disk, Fetch, "b", "a", &told)?;
+    disk.put(path.as_str(), b"y")?;
+    let damaged = format!(in alloc; "damaged bytes {digits}")?;
+    let told = lines(&mut disk, "fetch", "same", damaged.as_str())?;
+    tells(&mut disk, Fetch, "b", "a", &told)?;
+    let bug = first(&mut disk, "a", &local("bug"))?;
+    let side = tracked(alloc, "bug")?;
+    if head_of(&mut disk, "b", &side, &bug)?.is_none() {
+        return Ok(());
+    }
+    Err(Fail::new(format_args!("a ref whose commit is not held")))
+}
+
+#[test]
+fn a_bad_ref_of_the_own_folder_ends_the_call(rt: HostRuntime) -> Result<(), Fail> {
+    let mut disk = with_a_bug(rt.alloc())?;
+    let bug = first(&mut disk, "a", &local("bug"))?;
+    let path = ref_path(&disk, "a", "bug", &bug)?;
+    disk.put(path.as_str(), b"no ref")?;
+    match exchange(&mut disk, Push, "a", "hub")? {
+        Err(ReadStop::Damaged(found)) if found.as_str() == path.as_str() => {}
+        _ => return Err(Fail::new(format_args!("another answer to a bad ref"))),
+    }
+    let person = first(&mut disk, "a", &local("identity"))?;
+    if head_of(&mut disk, "hub", &local("identity"), &person)?.is_some() {
+        return Ok(());
+    }
+    Err(Fail::new(format_args!("an identity before the bad ref was not pushed")))
+}

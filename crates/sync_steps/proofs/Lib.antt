@@ -1,0 +1,2 @@
+mod FetchedLemmas
+mod ToldLemmas

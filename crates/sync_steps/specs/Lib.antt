@@ -1,0 +1,7 @@
+pub mod Carrying
+pub mod Fetching
+pub mod Lines
+pub mod Places
+pub mod Pushing
+pub mod Told
+pub mod Turns

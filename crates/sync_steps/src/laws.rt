@@ -1,0 +1,45 @@
+//! Laws of exchanges, each the contract of a function that does nothing.
+ghost use Rattle.std.specs.Prelude.{◌≡◌, ◌⊎◌, ◌+◌, ◌++◌, ℕ, List, Contains, Ok};
+ghost use Rattle.gb_text.specs.declared.id.Name.{Name};
+ghost use Rattle.gb_store.specs.Files.{History, files_of};
+ghost use Rattle.ref_store.specs.Refs.{Head};
+ghost use Rattle.repo_state.specs.Sides.{head_at};
+ghost use Rattle.repo_state.specs.declared.remote.RemoteName.{RemoteName};
+ghost use Rattle.sync_steps.specs.Fetching.{FetchAnswers};
+ghost use Rattle.sync_steps.specs.Lines.{lines_text_of, refused_in};
+ghost use Rattle.sync_steps.specs.Places.{local_side, tracking_side};
+ghost use Rattle.sync_steps.specs.Pushing.{PushAnswers};
+ghost use Rattle.sync_steps.specs.Told.{HasLineOfEach};
+ghost use Rattle.sync_steps.specs.declared.line.Exchange.TheVariants as verb;
+ghost use Rattle.sync_steps.specs.declared.line.Outcome.TheVariants as outcome;
+ghost use Rattle.sync_steps.specs.declared.line.Line.{Line as LineValue};
+
+/// The text of lines is that of the first and then that of the others, and as many are refused as of both.
+pub fn lines_are_told_one_after_another()
+    ensures text { (lines others : List LineValue)
+        → lines_text_of (lines ++ others) ≡ lines_text_of lines ++ lines_text_of others }
+    ensures refused { (lines others : List LineValue)
+        → refused_in (lines ++ others) ≡ refused_in lines + refused_in others }
+{}
+
+/// When a fetch is done, the tracking ref of each line that was fetched, or that was the same, has the head
+/// that the peer's ref had before.
+pub fn fetched_refs_have_the_peers_heads()
+    ensures { (own peer : List ℕ) (remote : RemoteName) (old new : History)
+        (lines : List LineValue) (line : LineValue)
+        → FetchAnswers own peer remote old new (Ok lines) → Contains lines line
+        → (line.outcome ≡ outcome.Fetched) ⊎ (line.outcome ≡ outcome.Same)
+        → (head : Name)
+        × (head_at (files_of old) peer (local_side line.word) line.id ≡ Head head)
+        × (head_at (files_of new) own (tracking_side remote line.word) line.id ≡ Head head) }
+{}
+
+/// An exchange has a line for each identity whose ref stands in the folder that it takes from, and then
+/// one for each bug, also where the ref is no ref text. They are in the order of ids, and each id has one.
+pub fn each_ref_has_its_line()
+    ensures fetch { (own peer : List ℕ) (remote : RemoteName) (old new : History)
+        (lines : List LineValue) → FetchAnswers own peer remote old new (Ok lines)
+        → HasLineOfEach verb.Fetch peer old lines }
+    ensures push { (own peer : List ℕ) (old new : History) (lines : List LineValue)
+        → PushAnswers own peer old new (Ok lines) → HasLineOfEach verb.Push own old lines }
+{}
