@@ -29,11 +29,13 @@ pub fn carry<S: Store>(
     ensures caused { KeepsFaults S.never_fails S.faults (IsErrOf result StoreFault.Failed)
         disk.old disk.new }
 {
-    if let Err(fault) = copy(alloc, disk, source, target, &head.name, closed) {
-        return Ok(Some(cause_of(fault)?));
+    match copy(alloc, disk, source, target, &head.name, closed) {
+        Ok(_) => {
+            set_head(alloc, disk, target, to, &head.id, &head.name)?;
+            Ok(None)
+        }
+        Err(fault) => Ok(Some(cause_of(fault)?)),
     }
-    set_head(alloc, disk, target, to, &head.id, &head.name)?;
-    Ok(None)
 }
 
 // The refusal of a copy, which memory and the disk are not.

@@ -1,2 +1,6 @@
+mod FetchWriteLemmas
 mod FetchedLemmas
+mod PushWriteLemmas
+mod SetLemmas
 mod ToldLemmas
+mod WriteLemmas

@@ -1,7 +1,7 @@
 -- How a head comes into another folder: the objects of its closure, and then the ref.
-use Rattle.std.specs.Prelude.{◌≡◌, Bool, List, ◌∷◌, ℕ, Option, Some, None, Result, Ok, Err}
+use Rattle.std.specs.Prelude.{◌≡◌, ◌⊎◌, Bool, List, ◌∷◌, ℕ, Option, Some, None, Result, Ok, Err}
 use Rattle.gb_store.specs.Files.{History}
-use Rattle.gb_store.specs.Moments.{MaybeWrote, Wrote}
+use Rattle.gb_store.specs.Moments.{Wrote}
 use Rattle.gb_store.specs.declared.fault.StoreFault.{StoreFault}
 use Rattle.gb_store.specs.declared.fault.StoreFault.TheVariants as store
 use Rattle.gb_store.specs.declared.store.Change.{Change}
@@ -48,11 +48,9 @@ pub record IsRefused (closed : Bool) (source target : List ℕ) (head : HeadEntr
   pub put : PutObjects closed source target head old new
   pub cause : CauseHolds closed (objects_after old source) (objects_after old target) head.name (fault_of why)
 
--- memory ran out, or the disk failed: objects of the copy were put, and behind them perhaps the ref
-pub record IsCutOff (closed : Bool) (source target : List ℕ) (to : Side) (head : HeadEntry) (old new : History) : Type 0 where
-  pub mid : History
-  pub put : PutObjects closed source target head old mid
-  pub set : MaybeWrote (head_write target to head) mid new
+-- memory ran out, or the disk failed: objects of the copy were put and no ref was set, or all was done
+abbrev pub IsCutOff : Bool → List ℕ → List ℕ → Side → HeadEntry → History → History → Type 0
+IsCutOff closed source target to head old new = PutObjects closed source target head old new ⊎ IsCarried closed source target to head old new
 
 -- The answer to carrying a head: none, or what keeps it from being carried.
 abbrev pub CarryAnswers : Bool → List ℕ → List ℕ → Side → HeadEntry → History → History → Result (Option CopyCause) StoreFault → Type 0

@@ -5,3 +5,4 @@ pub mod Places
 pub mod Pushing
 pub mod Told
 pub mod Turns
+pub mod Writes

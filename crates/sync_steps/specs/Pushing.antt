@@ -1,5 +1,5 @@
 -- What a push does with an entity of the own folder.
-use Rattle.std.specs.Prelude.{◌≡◌, ◌≢◌, ⊤, ℕ, Bool, true, false, List, [], ◌∷◌, Option, Some, None, Result, Ok, Err}
+use Rattle.std.specs.Prelude.{◌≡◌, ◌≢◌, ◌⊎◌, ⊤, ℕ, Bool, true, false, List, [], ◌∷◌, Option, Some, None, Result, Ok, Err}
 use Rattle.gb_text.specs.Folder.{joined}
 use Rattle.gb_text.specs.declared.id.Id.{Id}
 use Rattle.gb_text.specs.declared.id.Name.{Name}
@@ -14,7 +14,7 @@ use Rattle.repo_state.specs.declared.side.HeadEntry.{HeadEntry}
 use Rattle.repo_state.specs.declared.side.Side.{Side}
 use Rattle.repo_state.specs.declared.stop.ReadStop.{ReadStop}
 use Rattle.repo_state.specs.declared.stop.ReadStop.TheVariants as stop
-use Rattle.sync_steps.specs.Carrying.{IsCarried, IsCutOff, IsRefused}
+use Rattle.sync_steps.specs.Carrying.{IsCarried, IsRefused, PutObjects}
 use Rattle.sync_steps.specs.Places.{local_side}
 use Rattle.sync_steps.specs.Turns.{ExchangeAnswers, Turn}
 use Rattle.sync_steps.specs.declared.line.Exchange.TheVariants as verb
@@ -61,11 +61,16 @@ module _ (own peer : List ℕ) (of : Side) where
   Pushes true turn old new = (turn.outcome ≡ outcome.Held) × (new ≡ old)
   Pushes false turn old new = PushOfRef turn.entity.id turn.entity.head turn.outcome old new
 
-  -- what was written where memory ran out, or the disk failed
+  -- memory ran out, or the disk failed: objects of the copy were put and no ref was set, or all was done of a head that goes forward
+  abbrev pub IsPushCut : HeadEntry → History → History → Type 0
+  IsPushCut head old new =
+      PutObjects false own peer head old new ⊎ (IsForward (objects_after old own) (head_at (files_of old) peer of head.id) head.name × IsCarried false own peer of head old new)
+
+  -- what was written there
   abbrev pub PushCutOff : Bool → Id → Option Name → History → History → Type 0
   PushCutOff true id head old new = new ≡ old
   PushCutOff false id None old new = new ≡ old
-  PushCutOff false id (Some name) old new = IsCutOff false own peer of (record { id = id; name = name }) old new
+  PushCutOff false id (Some name) old new = IsPushCut (record { id = id; name = name }) old new
 
   -- the local ref, at this path, is no ref text
   abbrev pub IsBadLocal : Bool → Id → Option Name → List ℕ → History → History → Type 0
@@ -87,7 +92,7 @@ module _ (own peer : List ℕ) (of : Side) where
   -- the answer to the push of a head
   abbrev pub HeadPushed : HeadEntry → History → History → Result Outcome StoreFault → Type 0
   HeadPushed head old new (Ok outcome) = PushOutcome head.id head.name outcome old new
-  HeadPushed head old new (Err fault) = IsCutOff false own peer of head old new
+  HeadPushed head old new (Err fault) = IsPushCut head old new
 
 -- The answer to a push, over all refs of the own folder.
 abbrev pub PushAnswers : List ℕ → List ℕ → History → History → Result (List Line) ReadStop → Type 0

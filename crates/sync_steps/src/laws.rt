@@ -1,15 +1,19 @@
 //! Laws of exchanges, each the contract of a function that does nothing.
-ghost use Rattle.std.specs.Prelude.{◌≡◌, ◌⊎◌, ◌+◌, ◌++◌, ℕ, List, Contains, Ok};
+ghost use Rattle.std.specs.Prelude.{◌≡◌, ◌⊎◌, ◌+◌, ◌++◌, ℕ, List, Contains, Result, Ok};
+ghost use Rattle.gb_text.specs.Overlap.{Overlap};
 ghost use Rattle.gb_text.specs.declared.id.Name.{Name};
 ghost use Rattle.gb_store.specs.Files.{History, files_of};
+ghost use Rattle.gb_store.specs.Moments.{Wrote};
 ghost use Rattle.ref_store.specs.Refs.{Head};
 ghost use Rattle.repo_state.specs.Sides.{head_at};
 ghost use Rattle.repo_state.specs.declared.remote.RemoteName.{RemoteName};
+ghost use Rattle.repo_state.specs.declared.stop.ReadStop.{ReadStop as ReadStopValue};
 ghost use Rattle.sync_steps.specs.Fetching.{FetchAnswers};
 ghost use Rattle.sync_steps.specs.Lines.{lines_text_of, refused_in};
 ghost use Rattle.sync_steps.specs.Places.{local_side, tracking_side};
 ghost use Rattle.sync_steps.specs.Pushing.{PushAnswers};
 ghost use Rattle.sync_steps.specs.Told.{HasLineOfEach};
+ghost use Rattle.sync_steps.specs.Writes.{MayFetch, MayPush};
 ghost use Rattle.sync_steps.specs.declared.line.Exchange.TheVariants as verb;
 ghost use Rattle.sync_steps.specs.declared.line.Outcome.TheVariants as outcome;
 ghost use Rattle.sync_steps.specs.declared.line.Line.{Line as LineValue};
@@ -32,6 +36,30 @@ pub fn fetched_refs_have_the_peers_heads()
         → (head : Name)
         × (head_at (files_of old) peer (local_side line.word) line.id ≡ Head head)
         × (head_at (files_of new) own (tracking_side remote line.word) line.id ≡ Head head) }
+{}
+
+/// When a push is done, the peer's ref of each line that was pushed, or that was the same, has the head that
+/// the local ref had before.
+pub fn pushed_refs_have_the_local_heads()
+    ensures { (own peer : List ℕ) (old new : History) (lines : List LineValue) (line : LineValue)
+        → PushAnswers own peer old new (Ok lines) → Contains lines line
+        → (line.outcome ≡ outcome.Pushed) ⊎ (line.outcome ≡ outcome.Same)
+        → (head : Name)
+        × (head_at (files_of old) own (local_side line.word) line.id ≡ Head head)
+        × (head_at (files_of new) peer (local_side line.word) line.id ≡ Head head) }
+{}
+
+/// What an exchange writes, whatever it answers. A fetch writes below its own folder alone: objects, each
+/// after all that it names, and tracking refs, each to the head that the peer's ref has, a commit that is
+/// held. A push writes below the peer alone: objects, and refs, each to the head of the local ref, over the
+/// head that the peer had, where all that it leads to stands as in the own folder.
+pub fn exchanges_write_these()
+    ensures fetch { (own peer : List ℕ) (remote : RemoteName) (old new : History)
+        (result : Result (List LineValue) ReadStopValue) → (Overlap own peer → ⊥)
+        → FetchAnswers own peer remote old new result → Wrote (MayFetch own peer remote) old new }
+    ensures push { (own peer : List ℕ) (old new : History)
+        (result : Result (List LineValue) ReadStopValue) → (Overlap own peer → ⊥)
+        → PushAnswers own peer old new result → Wrote (MayPush own peer) old new }
 {}
 
 /// An exchange has a line for each identity whose ref stands in the folder that it takes from, and then

@@ -56,5 +56,5 @@ loop-entity-preserved g c =
           (history a.disk.now) (history c.loop-entity.disk) (history c.push_or_hold.new.disk) c.loop-entity-test.true (was.went tells) (c.in_ok-outcome.ensures.answers tells) c.in_ok-push.ensures.items;
       adds = AddsLines-next a.lines.now.items c.loop-entity.lines.items c.push.new.self.items (line_of verb.Push a.word (record { entity = entity; outcome = out }))
           (reads a.disk.now) (reads c.loop-entity.disk) (reads c.push_or_hold.new.disk) was.adds c.in_ok-outcome.ensures.unread c.in_ok-push.ensures.items;
-      caused = KeepsFaults_then g.S.Store.never_fails g.S.Store.faults _ ⊥ a.disk.now c.loop-entity.disk c.push_or_hold.new.disk was.caused c.in_ok-outcome.ensures.caused (λ never. absurd never) (λ fails. absurd (cc));
+      caused = KeepsFaults_then g.S.Store.never_fails g.S.Store.faults _ ⊥ a.disk.now c.loop-entity.disk c.push_or_hold.new.disk was.caused c.in_ok-outcome.ensures.caused (λ never. absurd never) (λ fails. absurd {A = ⊥} (cc));
     }
