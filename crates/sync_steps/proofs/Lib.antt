@@ -1,5 +1,7 @@
+mod Examples
 mod FetchWriteLemmas
 mod FetchedLemmas
+mod HeldLemmas
 mod PushWriteLemmas
 mod SetLemmas
 mod ToldLemmas

@@ -1,20 +1,23 @@
 //! Laws of exchanges, each the contract of a function that does nothing.
-ghost use Rattle.std.specs.Prelude.{◌≡◌, ◌⊎◌, ◌+◌, ◌++◌, ℕ, List, Contains, Result, Ok};
+ghost use Rattle.std.specs.Prelude.{◌≡◌, ◌↔◌, ◌⊎◌, ◌+◌, ◌++◌, ℕ, true, false, List, Contains, Result, Ok};
 ghost use Rattle.gb_text.specs.Overlap.{Overlap};
 ghost use Rattle.gb_text.specs.declared.id.Name.{Name};
 ghost use Rattle.gb_store.specs.Files.{History, files_of};
 ghost use Rattle.gb_store.specs.Moments.{Wrote};
-ghost use Rattle.ref_store.specs.Refs.{Head};
+ghost use Rattle.ref_store.specs.Refs.{Bad, Head};
 ghost use Rattle.repo_state.specs.Sides.{head_at};
 ghost use Rattle.repo_state.specs.declared.remote.RemoteName.{RemoteName};
 ghost use Rattle.repo_state.specs.declared.stop.ReadStop.{ReadStop as ReadStopValue};
 ghost use Rattle.sync_steps.specs.Fetching.{FetchAnswers};
-ghost use Rattle.sync_steps.specs.Lines.{lines_text_of, refused_in};
+ghost use Rattle.sync_steps.specs.Lines.{is_quiet, is_refused, lines_text_of, refused_in};
 ghost use Rattle.sync_steps.specs.Places.{local_side, tracking_side};
 ghost use Rattle.sync_steps.specs.Pushing.{PushAnswers};
 ghost use Rattle.sync_steps.specs.Told.{HasLineOfEach};
 ghost use Rattle.sync_steps.specs.Writes.{MayFetch, MayPush};
+ghost use Rattle.sync_steps.specs.declared.line.CopyCause.{CopyCause as CauseValue};
+ghost use Rattle.sync_steps.specs.declared.line.EntityWord.TheVariants as word;
 ghost use Rattle.sync_steps.specs.declared.line.Exchange.TheVariants as verb;
+ghost use Rattle.sync_steps.specs.declared.line.Outcome.{Outcome as OutcomeValue};
 ghost use Rattle.sync_steps.specs.declared.line.Outcome.TheVariants as outcome;
 ghost use Rattle.sync_steps.specs.declared.line.Line.{Line as LineValue};
 
@@ -70,4 +73,33 @@ pub fn each_ref_has_its_line()
         → HasLineOfEach verb.Fetch peer old lines }
     ensures push { (own peer : List ℕ) (old new : History) (lines : List LineValue)
         → PushAnswers own peer old new (Ok lines) → HasLineOfEach verb.Push own old lines }
+{}
+
+/// An entity is refused unless it was fetched or pushed, or was the same. It is told by refs alone if it
+/// was the same or is held, or if the peer's ref is no ref text.
+pub fn refusals_are_known()
+    ensures refused { (out : OutcomeValue) → (is_refused out ≡ false)
+        ↔ ((out ≡ outcome.Fetched) ⊎ (out ≡ outcome.Pushed) ⊎ (out ≡ outcome.Same)) }
+    ensures quiet { (out : OutcomeValue) → (is_quiet out ≡ true)
+        ↔ ((out ≡ outcome.Same) ⊎ (out ≡ outcome.BadRef) ⊎ (out ≡ outcome.Held)) }
+{}
+
+/// When a push is done, an entity is held exactly where it is a bug, and a line of an identity says that
+/// the peer's ref is no ref text or that the copy was refused. No other outcome of an identity holds a bug.
+pub fn bugs_are_held_for_damaged_identities()
+    ensures { (own peer : List ℕ) (old new : History) (lines : List LineValue) (line : LineValue)
+        → PushAnswers own peer old new (Ok lines) → Contains lines line
+        → (line.outcome ≡ outcome.Held)
+        ↔ ((line.word ≡ word.Bug) × ((other : LineValue) × Contains lines other
+        × (other.word ≡ word.Identity) × ((other.outcome ≡ outcome.BadRef)
+        ⊎ ((why : CauseValue) × (other.outcome ≡ outcome.DamagedCopy why))))) }
+{}
+
+/// When a fetch is done, the line of an entity says a bad ref exactly where the peer's ref is no ref text.
+pub fn bad_refs_are_told()
+    ensures { (own peer : List ℕ) (remote : RemoteName) (old new : History)
+        (lines : List LineValue) (line : LineValue)
+        → FetchAnswers own peer remote old new (Ok lines) → Contains lines line
+        → (line.outcome ≡ outcome.BadRef)
+        ↔ (head_at (files_of old) peer (local_side line.word) line.id ≡ Bad) }
 {}

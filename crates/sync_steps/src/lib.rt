@@ -6,8 +6,9 @@ mod line;
 mod text;
 
 pub use laws::{
-    each_ref_has_its_line, exchanges_write_these, fetched_refs_have_the_peers_heads,
-    lines_are_told_one_after_another, pushed_refs_have_the_local_heads,
+    bad_refs_are_told, bugs_are_held_for_damaged_identities, each_ref_has_its_line,
+    exchanges_write_these, fetched_refs_have_the_peers_heads, lines_are_told_one_after_another,
+    pushed_refs_have_the_local_heads, refusals_are_known,
 };
 pub use line::{CopyCause, EntityWord, Exchange, Line, Outcome};
 pub use text::lines_text;
