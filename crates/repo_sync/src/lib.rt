@@ -1,4 +1,4 @@
-//! Exchanges with another folder, entity by entity.
+//! Exchanges with another folder, entity by entity. No command calls them yet: `fetch` and `push` will.
 #![tactic(auto)]
 
 mod carry;
