@@ -5,12 +5,10 @@ use Rattle.gb_text.specs.declared.id.Name.{Name}
 use Rattle.gb_store.specs.Files.{History, files_of}
 use Rattle.gb_store.specs.declared.fault.StoreFault.{StoreFault}
 use Rattle.gb_store.specs.declared.fault.StoreFault.TheVariants as store
-use Rattle.gb_store.proofs.MomentLemmas.{Wrote-none}
 use Rattle.object_store.specs.Held.{Objects, objects_after}
 use Rattle.ref_store.specs.Refs.{Ref}
-use Rattle.remote_copy.specs.Writes.{PutsCopy}
 use Rattle.repo_state.specs.Answers.{IsHeadAt, PutAnswers, Reads, WholeAnswers}
-use Rattle.repo_state.specs.Sides.{IsBadRef, head_at}
+use Rattle.repo_state.specs.Sides.{IsBadRef}
 use Rattle.repo_state.specs.declared.refs.EntityRef.{EntityRef}
 use Rattle.repo_state.specs.declared.side.HeadEntry.{HeadEntry}
 use Rattle.repo_state.specs.declared.side.Side.{Side}
@@ -31,10 +29,6 @@ set_ended closed source target to head old mid new store.Memory put none copied 
 set_ended closed source target to head old mid new store.Failed put none copied (inl same) = inl (subst (PutObjects closed source target head old) (sym same) put)
 set_ended closed source target to head old mid new store.Failed put none copied (inr made) = inr (record { mid = mid; put = put; no_cause = none; copied = copied; set = made })
 
--- nothing was written yet
-pub cut_before : (closed : Bool) (source target : List ℕ) (to : Side) (head : HeadEntry) (old new : History) → new ≡ old → IsCutOff closed source target to head old new
-cut_before closed source target to head old new same = inl (Wrote-none (PutsCopy closed source target (objects_after old target) head.name) old new same)
-
 -- ---- fetches
 
 module _ (own peer : List ℕ) (to : Side) where
@@ -42,9 +36,9 @@ module _ (own peer : List ℕ) (to : Side) where
   pub tracking_ends : (entity : EntityRef) (name : Name) (old new : History) (why : ReadStop) → entity.head ≡ Some name
       → Reads (IsHeadAt (files_of old) own to entity.id) (IsBadRef (files_of old) own to entity.id) (Err why) → new ≡ old → FetchStops own peer to why entity old new
   tracking_ends entity name old new stop.Memory is told same =
-      subst (λ (h : Option Name). FetchCutOff own peer to entity.id h old new) (sym is) (cut_before true peer own to (record { id = entity.id; name = name }) old new same)
+      subst (λ (h : Option Name). FetchCutOff own peer to entity.id h old new) (sym is) (inl same)
   tracking_ends entity name old new stop.Disk is told same =
-      subst (λ (h : Option Name). FetchCutOff own peer to entity.id h old new) (sym is) (cut_before true peer own to (record { id = entity.id; name = name }) old new same)
+      subst (λ (h : Option Name). FetchCutOff own peer to entity.id h old new) (sym is) (inl same)
   tracking_ends entity name old new (stop.Damaged path) is told same = subst (λ (h : Option Name). IsBadTracking own peer to entity.id h path old new) (sym is) (told, same)
 
   -- memory may run out behind a turn
@@ -56,9 +50,9 @@ module _ (own peer : List ℕ) (to : Side) where
   fetched_then_ended id None (outcome.DamagedCopy why) old new none = absurd none
   fetched_then_ended id None (outcome.NotForward other) old new none = absurd none
   fetched_then_ended id None outcome.Held old new none = absurd none
-  fetched_then_ended id (Some name) outcome.Same old new (at, same) = cut_before true peer own to (record { id = id; name = name }) old new same
-  fetched_then_ended id (Some name) outcome.Fetched old new (other, carried) = inr carried
-  fetched_then_ended id (Some name) (outcome.DamagedCopy why) old new (other, refused) = inl refused.put
+  fetched_then_ended id (Some name) outcome.Same old new (at, same) = inl same
+  fetched_then_ended id (Some name) outcome.Fetched old new (other, carried) = inr (other, inr carried)
+  fetched_then_ended id (Some name) (outcome.DamagedCopy why) old new (other, refused) = inr (other, inl refused.put)
   fetched_then_ended id (Some name) outcome.BadRef old new none = absurd none
   fetched_then_ended id (Some name) outcome.Pushed old new none = absurd none
   fetched_then_ended id (Some name) (outcome.NotForward other) old new none = absurd none
@@ -72,15 +66,6 @@ goes_forward objects ref name None none forward = forward
 goes_forward objects ref name (Some out) none told = absurd (none out refl)
 
 module _ (own peer : List ℕ) (of : Side) where
-  -- nothing was written yet
-  pub push_before : (head : HeadEntry) (old new : History) → new ≡ old → IsPushCut own peer of head old new
-  push_before head old new same = inl (Wrote-none (PutsCopy false own peer (objects_after old peer) head.name) old new same)
-
-  -- a head that goes forward was cut off
-  pub push_cut : (head : HeadEntry) (old new : History) → IsForward (objects_after old own) (head_at (files_of old) peer of head.id) head.name → IsCutOff false own peer of head old new → IsPushCut own peer of head old new
-  push_cut head old new forward (inl put) = inl put
-  push_cut head old new forward (inr is) = inr (forward, is)
-
   -- a local ref that is no ref text ends the turn
   pub local_ends : (held : Bool) (entity : EntityRef) (old new : History) (why : ReadStop) → held ≡ false → WholeAnswers own of entity (Err why) → new ≡ old → PushStops own peer of held why entity old new
   local_ends true entity old new why is told same = absurd cc
@@ -88,16 +73,16 @@ module _ (own peer : List ℕ) (of : Side) where
     where
       by : (head : Option Name) → PushCutOff own peer of false entity.id head old new
       by None = same
-      by (Some name) = push_before (record { id = entity.id; name = name }) old new same
+      by (Some name) = inl same
   local_ends false entity old new stop.Disk is told same = absurd told
   local_ends false entity old new (stop.Damaged path) is told same = subst (λ (h : Option Name). IsBadLocal own peer of false entity.id h path old new) (sym told.0) (told.1, same)
 
   pushed_then_ended : (id : Id) (name : Name) (out : Outcome) (old new : History) → PushOutcome own peer of id name out old new → IsPushCut own peer of (record { id = id; name = name }) old new
-  pushed_then_ended id name outcome.Same old new (at, same) = push_before (record { id = id; name = name }) old new same
-  pushed_then_ended id name outcome.BadRef old new (at, same) = push_before (record { id = id; name = name }) old new same
-  pushed_then_ended id name (outcome.NotForward other) old new told = push_before (record { id = id; name = name }) old new told.3
-  pushed_then_ended id name outcome.Pushed old new (forward, carried) = inr (forward, carried)
-  pushed_then_ended id name (outcome.DamagedCopy why) old new (forward, refused) = inl refused.put
+  pushed_then_ended id name outcome.Same old new (at, same) = inl same
+  pushed_then_ended id name outcome.BadRef old new (at, same) = inl same
+  pushed_then_ended id name (outcome.NotForward other) old new told = inl told.3
+  pushed_then_ended id name outcome.Pushed old new (forward, carried) = inr (forward, inr carried)
+  pushed_then_ended id name (outcome.DamagedCopy why) old new (forward, refused) = inr (forward, inl refused.put)
   pushed_then_ended id name outcome.Fetched old new none = absurd none
   pushed_then_ended id name outcome.Held old new none = absurd none
 

@@ -97,7 +97,8 @@ module _ (own peer : List ℕ) (remote : RemoteName) (apart : Overlap own peer �
   cut_wrote : (word : EntityWord) (id : Id) (listing : Option Name) (old new : History) → IsListed entry peer word (record { id = id; head = listing }) → Wrote May entry old
       → FetchCutOff own peer (tracking_side remote word) id listing old new → Wrote May old new
   cut_wrote word id None old new listed before same = Wrote-none May old new same
-  cut_wrote word id (Some name) old new listed before is = cut word id name old new listed before is
+  cut_wrote word id (Some name) old new listed before (inl same) = Wrote-none May old new same
+  cut_wrote word id (Some name) old new listed before (inr (other, is)) = cut word id name old new listed before is
 
   bad_wrote : (word : EntityWord) (id : Id) (listing : Option Name) (path : List ℕ) (old new : History) → IsBadTracking own peer (tracking_side remote word) id listing path old new → Wrote May old new
   bad_wrote word id None path old new none = absurd none

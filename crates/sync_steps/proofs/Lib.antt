@@ -4,5 +4,6 @@ mod FetchedLemmas
 mod HeldLemmas
 mod PushWriteLemmas
 mod SetLemmas
+mod StepLaws
 mod ToldLemmas
 mod WriteLemmas

@@ -64,8 +64,9 @@ module _ (own peer : List ℕ) (apart : Overlap own peer → ⊥) (entry : Histo
         (Wrote-one May change is.mid new (inr (record { word = word; id = id; is_id = listed.0; head = name; is_local = here; forward = forward_mid; alike = alike_mid; write = refl })) (inr is.set))
 
     cut : IsPushCut own peer (local_side word) head old new → Wrote May old new
-    cut (inl put) = objects new put
-    cut (inr (forward, is)) = carried forward is
+    cut (inl same) = Wrote-none May old new same
+    cut (inr (forward, inl put)) = objects new put
+    cut (inr (forward, inr is)) = carried forward is
 
   turn_wrote : (word : EntityWord) (id : Id) (name : Name) (out : Outcome) (old new : History) → IsListed entry own word (record { id = id; head = Some name }) → Wrote May entry old
       → PushOutcome own peer (local_side word) id name out old new → Wrote May old new

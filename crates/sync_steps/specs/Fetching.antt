@@ -1,5 +1,5 @@
 -- What a fetch does with an entity of the peer.
-use Rattle.std.specs.Prelude.{◌≡◌, ◌≢◌, ⊤, ℕ, true, List, Option, Some, None, Result, Ok, Err}
+use Rattle.std.specs.Prelude.{◌≡◌, ◌≢◌, ◌⊎◌, ⊤, ℕ, true, List, Option, Some, None, Result, Ok, Err}
 use Rattle.gb_text.specs.declared.id.Id.{Id}
 use Rattle.gb_text.specs.declared.id.Name.{Name}
 use Rattle.gb_store.specs.Files.{History, files_of}
@@ -39,10 +39,11 @@ module _ (own peer : List ℕ) (to : Side) where
   abbrev pub Fetches : Turn → History → History → Type 0
   Fetches turn old new = FetchOutcome turn.entity.id turn.entity.head turn.outcome old new
 
-  -- what was written where memory ran out, or the disk failed
+  -- what was written where memory ran out, or the disk failed: nothing where the tracking ref has the head
   abbrev pub FetchCutOff : Id → Option Name → History → History → Type 0
   FetchCutOff id None old new = new ≡ old
-  FetchCutOff id (Some name) old new = IsCutOff true peer own to (record { id = id; name = name }) old new
+  FetchCutOff id (Some name) old new =
+      (new ≡ old) ⊎ (IsOther (head_at (files_of old) own to id) name × IsCutOff true peer own to (record { id = id; name = name }) old new)
 
   -- the tracking ref, at this path, is no ref text, where the peer's is one
   abbrev pub IsBadTracking : Id → Option Name → List ℕ → History → History → Type 0

@@ -14,7 +14,7 @@ use Rattle.repo_state.specs.declared.side.HeadEntry.{HeadEntry}
 use Rattle.repo_state.specs.declared.side.Side.{Side}
 use Rattle.repo_state.specs.declared.stop.ReadStop.{ReadStop}
 use Rattle.repo_state.specs.declared.stop.ReadStop.TheVariants as stop
-use Rattle.sync_steps.specs.Carrying.{IsCarried, IsRefused, PutObjects}
+use Rattle.sync_steps.specs.Carrying.{IsCarried, IsCutOff, IsRefused}
 use Rattle.sync_steps.specs.Places.{local_side}
 use Rattle.sync_steps.specs.Turns.{ExchangeAnswers, Turn}
 use Rattle.sync_steps.specs.declared.line.Exchange.TheVariants as verb
@@ -61,12 +61,12 @@ module _ (own peer : List ℕ) (of : Side) where
   Pushes true turn old new = (turn.outcome ≡ outcome.Held) × (new ≡ old)
   Pushes false turn old new = PushOfRef turn.entity.id turn.entity.head turn.outcome old new
 
-  -- memory ran out, or the disk failed: objects of the copy were put and no ref was set, or all was done of a head that goes forward
+  -- what was written of a head where memory ran out, or the disk failed: nothing where it does not go forward in the peer
   abbrev pub IsPushCut : HeadEntry → History → History → Type 0
   IsPushCut head old new =
-      PutObjects false own peer head old new ⊎ (IsForward (objects_after old own) (head_at (files_of old) peer of head.id) head.name × IsCarried false own peer of head old new)
+      (new ≡ old) ⊎ (IsForward (objects_after old own) (head_at (files_of old) peer of head.id) head.name × IsCutOff false own peer of head old new)
 
-  -- what was written there
+  -- the same of an entity
   abbrev pub PushCutOff : Bool → Id → Option Name → History → History → Type 0
   PushCutOff true id head old new = new ≡ old
   PushCutOff false id None old new = new ≡ old

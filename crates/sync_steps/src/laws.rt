@@ -1,18 +1,26 @@
 //! Laws of exchanges, each the contract of a function that does nothing.
-ghost use Rattle.std.specs.Prelude.{◌≡◌, ◌↔◌, ◌⊎◌, ◌+◌, ◌++◌, ℕ, true, false, List, Contains, Result, Ok};
+ghost use Rattle.std.specs.Prelude.{◌≡◌, ◌≢◌, ◌↔◌, ◌⊎◌, ◌+◌, ◌++◌, ◌∷◌, [], ℕ, Bool, true, false, List, Contains, Result, Ok, Some, codes};
 ghost use Rattle.gb_text.specs.Overlap.{Overlap};
 ghost use Rattle.gb_text.specs.declared.id.Name.{Name};
 ghost use Rattle.gb_store.specs.Files.{History, files_of};
 ghost use Rattle.gb_store.specs.Moments.{Wrote};
-ghost use Rattle.ref_store.specs.Refs.{Bad, Head};
-ghost use Rattle.repo_state.specs.Sides.{head_at};
+ghost use Rattle.commit_walk.specs.Below.{IsBelow};
+ghost use Rattle.object_store.specs.Held.{objects_after};
+ghost use Rattle.ref_store.specs.Refs.{Absent, Bad, Head};
+ghost use Rattle.ref_store.specs.Setting.{ref_write};
+ghost use Rattle.remote_copy.specs.Copies.{HasNoCause, IsCopied};
+ghost use Rattle.repo_state.specs.Sides.{dir_of, head_at, ref_place};
 ghost use Rattle.repo_state.specs.declared.remote.RemoteName.{RemoteName};
+ghost use Rattle.repo_state.specs.declared.side.HeadEntry.{HeadEntry};
+ghost use Rattle.repo_state.specs.declared.side.Side.{Side};
 ghost use Rattle.repo_state.specs.declared.stop.ReadStop.{ReadStop as ReadStopValue};
-ghost use Rattle.sync_steps.specs.Fetching.{FetchAnswers};
+ghost use Rattle.sync_steps.specs.Carrying.{IsCarried, IsCutOff, PutObjects};
+ghost use Rattle.sync_steps.specs.Fetching.{FetchAnswers, Fetches};
 ghost use Rattle.sync_steps.specs.Lines.{is_quiet, is_refused, lines_text_of, refused_in};
 ghost use Rattle.sync_steps.specs.Places.{local_side, tracking_side};
-ghost use Rattle.sync_steps.specs.Pushing.{PushAnswers};
+ghost use Rattle.sync_steps.specs.Pushing.{PushAnswers, Pushes};
 ghost use Rattle.sync_steps.specs.Told.{HasLineOfEach};
+ghost use Rattle.sync_steps.specs.Turns.{Turn};
 ghost use Rattle.sync_steps.specs.Writes.{MayFetch, MayPush};
 ghost use Rattle.sync_steps.specs.declared.line.CopyCause.{CopyCause as CauseValue};
 ghost use Rattle.sync_steps.specs.declared.line.EntityWord.TheVariants as word;
@@ -102,4 +110,55 @@ pub fn bad_refs_are_told()
         → FetchAnswers own peer remote old new (Ok lines) → Contains lines line
         → (line.outcome ≡ outcome.BadRef)
         ↔ (head_at (files_of old) peer (local_side line.word) line.id ≡ Bad) }
+{}
+
+/// Nothing is written for an entity that is told by refs alone, or whose head in the peer is not below.
+pub fn turns_that_carry_nothing_write_nothing()
+    ensures fetch { (own peer : List ℕ) (to : Side) (turn : Turn) (old new : History)
+        → Fetches own peer to turn old new → is_quiet turn.outcome ≡ true → new ≡ old }
+    ensures push { (own peer : List ℕ) (of : Side) (held : Bool) (turn : Turn) (old new : History)
+        → Pushes own peer of held turn old new → (is_quiet turn.outcome ≡ true)
+        ⊎ ((other : Name) × (turn.outcome ≡ outcome.NotForward other)) → new ≡ old }
+{}
+
+/// A fetch sets no tracking ref that is no ref text, and gives no outcome where one is. A push sets a ref
+/// of the peer only where none stood, or where its head was another that lies below the local one.
+pub fn refs_are_set_over_older_heads()
+    ensures tracking { (own peer : List ℕ) (to : Side) (turn : Turn) (name : Name)
+        (old new : History) → Fetches own peer to turn old new → turn.entity.head ≡ Some name
+        → head_at (files_of old) own to turn.entity.id ≡ Bad → ⊥ }
+    ensures pushed { (own peer : List ℕ) (of : Side) (held : Bool) (turn : Turn) (name : Name)
+        (old new : History) → Pushes own peer of held turn old new
+        → turn.outcome ≡ outcome.Pushed → turn.entity.head ≡ Some name
+        → (head_at (files_of old) peer of turn.entity.id ≡ Absent)
+        ⊎ ((other : Name) × (head_at (files_of old) peer of turn.entity.id ≡ Head other)
+        × (other ≢ name) × IsBelow (objects_after old own) (name ∷ []) other) }
+{}
+
+/// Where the tracking refs of a remote stand, below the own folder.
+pub fn tracking_refs_stand_by_their_kind()
+    ensures identity { (remote : RemoteName) → dir_of (tracking_side remote word.Identity)
+        ≡ codes "refs/remotes/" ++ remote.text ++ codes "/identities" }
+    ensures bug { (remote : RemoteName) → dir_of (tracking_side remote word.Bug)
+        ≡ codes "refs/remotes/" ++ remote.text ++ codes "/bugs" }
+{}
+
+/// A ref is set as the last write, behind the objects of its head's copy, when nothing kept that from being
+/// made and all of it stands. Where memory runs out or the disk fails, it may be unset; if it is set, the
+/// same holds.
+pub fn refs_are_set_behind_whole_copies()
+    ensures carried { (closed : Bool) (source target : List ℕ) (to : Side) (head : HeadEntry)
+        (old new : History) → IsCarried closed source target to head old new
+        → (mid : History) × PutObjects closed source target head old mid
+        × (new ≡ ref_write target (ref_place to head.id) head.name ∷ mid)
+        × HasNoCause closed (objects_after old source) (objects_after old target) head.name
+        × IsCopied closed (objects_after old source) (objects_after old target)
+        (objects_after mid target) head.name }
+    ensures cut_off { (closed : Bool) (source target : List ℕ) (to : Side) (head : HeadEntry)
+        (old new : History) → IsCutOff closed source target to head old new
+        → (mid : History) × PutObjects closed source target head old mid
+        × ((new ≡ mid) ⊎ ((new ≡ ref_write target (ref_place to head.id) head.name ∷ mid)
+        × HasNoCause closed (objects_after old source) (objects_after old target) head.name
+        × IsCopied closed (objects_after old source) (objects_after old target)
+        (objects_after mid target) head.name)) }
 {}

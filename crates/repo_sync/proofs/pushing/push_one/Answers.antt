@@ -1,11 +1,11 @@
-use Rattle.std.proofs.Common.{rules, ◌≡◌, Option, Ok, Err, false, sym, subst}
+use Rattle.std.proofs.Common.{inl, inr, rules, ◌≡◌, Option, Ok, Err, false, sym, subst}
 use Rattle.gb_store.specs.Files.{History, files_of}
 use Rattle.object_store.specs.Held.{objects_after}
 use Rattle.repo_state.specs.Sides.{head_at}
 use Rattle.sync_steps.specs.Carrying.{CarryAnswers, IsCarried, IsCutOff}
 use Rattle.sync_steps.specs.Pushing.{HeadPushed}
 use Rattle.sync_steps.specs.declared.line.CopyCause.{CopyCause}
-use Rattle.repo_sync.proofs.StepLemmas.{goes_forward, push_before, push_cut}
+use Rattle.repo_sync.proofs.StepLemmas.{goes_forward}
 use Rattle.repo_sync.proofs.pushing.push_one.Goals as goal
 
 pub returns-in_err-outcome-clause-answers : goal.returns-in_err-outcome-clause-answers
@@ -15,7 +15,7 @@ returns-in_err-outcome-clause-answers g c = λ tells.
     let why = c.in_err-outcome.field-0.0 in
     let is : c.from_residual.result ≡ Err why = search rules in
     subst (HeadPushed a.pair.now.own a.pair.now.peer a.of.now a.head.now (history a.disk.now) (history c.settled.new.disk)) (sym is)
-    (push_before a.pair.now.own a.pair.now.peer a.of.now a.head.now (history a.disk.now) (history c.settled.new.disk) (c.in_err-outcome.ensures.unwritten tells))
+    (inl (c.in_err-outcome.ensures.unwritten tells))
 
 pub returns-in-None-clause-answers : goal.returns-in-None-clause-answers
 returns-in-None-clause-answers g c = λ tells.
@@ -40,4 +40,4 @@ returns-in_err-carry-clause-answers g c = λ tells.
     let is : c.from_residual-in_err-carry.result ≡ Err why = search rules in
     let forward = goes_forward (objects_after (history a.disk.now) own) ref a.head.now.name c.in_ok-outcome.field-0 c.in_default.not-Some (c.in_ok-outcome.ensures.answers tells) in
     let cut = subst (λ (h : History). IsCutOff false own peer a.of.now a.head.now h (history c.carry.new.disk)) (c.in_ok-outcome.ensures.unwritten tells) (c.in_err-carry.ensures.answers tells) in
-    subst (HeadPushed own peer a.of.now a.head.now (history a.disk.now) (history c.carry.new.disk)) (sym is) (push_cut own peer a.of.now a.head.now (history a.disk.now) (history c.carry.new.disk) forward cut)
+    subst (HeadPushed own peer a.of.now a.head.now (history a.disk.now) (history c.carry.new.disk)) (sym is) (inr (forward, cut))
