@@ -3,9 +3,10 @@ use crate::folders::{
     exchange, first, head_of, local, object_path, rests, tells, tracked, with_a_bug,
 };
 use fixtures::Disk;
-use gb_text::{Id, Name};
+use gb_text::{Id, List, Name};
 use repo_state::ReadStop;
 use repo_sync::Exchange::{Fetch, Push};
+use repo_sync::Line;
 use std::alloc::Global;
 use std::test::Fail;
 
@@ -93,15 +94,23 @@ fn what_is_missing_in_a_peer_is_told(rt: HostRuntime) -> Result<(), Fail> {
     Err(Fail::new(format_args!("a ref whose commit is not held")))
 }
 
+// Whether a call was ended by the file at this path.
+fn is_damaged_at(answer: &Result<List<Line>, ReadStop>, path: &str) -> bool {
+    match answer {
+        Err(ReadStop::Damaged(found)) => found.as_str() == path,
+        _ => false,
+    }
+}
+
 #[test]
 fn a_bad_ref_of_the_own_folder_ends_the_call(rt: HostRuntime) -> Result<(), Fail> {
     let mut disk = with_a_bug(rt.alloc())?;
     let bug = first(&mut disk, "a", &local("bug"))?;
     let path = ref_path(&disk, "a", "bug", &bug)?;
     disk.put(path.as_str(), b"no ref")?;
-    match exchange(&mut disk, Push, "a", "hub")? {
-        Err(ReadStop::Damaged(found)) if found.as_str() == path.as_str() => {}
-        _ => return Err(Fail::new(format_args!("another answer to a bad ref"))),
+    let answer = exchange(&mut disk, Push, "a", "hub")?;
+    if !is_damaged_at(&answer, path.as_str()) {
+        return Err(Fail::new(format_args!("another answer to a bad ref")));
     }
     let person = first(&mut disk, "a", &local("identity"))?;
     if head_of(&mut disk, "hub", &local("identity"), &person)?.is_some() {
