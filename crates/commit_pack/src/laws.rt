@@ -47,8 +47,8 @@ pub fn packs_of_commits_stay<K: OpKind>()
         → pack_under K.meaning new tree ≡ Some pack }
 {}
 
-/// The answer to a read of a pack is the pack of the commit, or want of memory, a fault of the disk
-/// or a fault that holds.
+/// Reading a pack returns the pack of the commit, or out of memory, a fault of the disk or a fault
+/// that holds.
 pub fn pack_answers_say_what_is_held<K: OpKind>()
     ensures pack { (objects : Objects) (tree : NameValue) (pack : PackValue K)
         → PackAnswers K.meaning objects tree (Ok pack)

@@ -73,8 +73,8 @@ pub fn exchanges_write_these()
         → PushAnswers own peer old new result → Wrote (MayPush own peer) old new }
 {}
 
-/// An exchange has a line for each identity whose ref stands in the folder that it takes from, and then
-/// one for each bug, also where the ref is no ref text. They are in the order of ids, and each id has one.
+/// An exchange has a line for each identity that has a ref in the folder that it takes from, and then one
+/// for each bug, even if the file is not a ref text. They are in the order of ids, and each id has one.
 pub fn each_ref_has_its_line()
     ensures fetch { (own peer : List ℕ) (remote : RemoteName) (old new : History)
         (lines : List LineValue) → FetchAnswers own peer remote old new (Ok lines)
@@ -92,8 +92,8 @@ pub fn refusals_are_known()
         ↔ ((out ≡ outcome.Same) ⊎ (out ≡ outcome.BadRef) ⊎ (out ≡ outcome.Held)) }
 {}
 
-/// When a push is done, an entity is held exactly where it is a bug, and a line of an identity says that
-/// the peer's ref is no ref text or that the copy was refused. No other outcome of an identity holds a bug.
+/// When a push is done, an entity is held if and only if it is a bug, and a line of an identity says that
+/// the peer's ref is not a ref text or that the copy was refused. No other outcome of an identity holds a bug.
 pub fn bugs_are_held_for_damaged_identities()
     ensures { (own peer : List ℕ) (old new : History) (lines : List LineValue) (line : LineValue)
         → PushAnswers own peer old new (Ok lines) → Contains lines line
@@ -103,7 +103,7 @@ pub fn bugs_are_held_for_damaged_identities()
         ⊎ ((why : CauseValue) × (other.outcome ≡ outcome.DamagedCopy why))))) }
 {}
 
-/// When a fetch is done, the line of an entity says a bad ref exactly where the peer's ref is no ref text.
+/// When a fetch is done, the line of an entity reports a bad ref if and only if the peer's ref is one.
 pub fn bad_refs_are_told()
     ensures { (own peer : List ℕ) (remote : RemoteName) (old new : History)
         (lines : List LineValue) (line : LineValue)
@@ -112,7 +112,7 @@ pub fn bad_refs_are_told()
         ↔ (head_at (files_of old) peer (local_side line.word) line.id ≡ Bad) }
 {}
 
-/// Nothing is written for an entity that is told by refs alone, or whose head in the peer is not below.
+/// Nothing is written for an entity if the refs alone decide, or if its head in the peer is not below.
 pub fn turns_that_carry_nothing_write_nothing()
     ensures fetch { (own peer : List ℕ) (to : Side) (turn : Turn) (old new : History)
         → Fetches own peer to turn old new → is_quiet turn.outcome ≡ true → new ≡ old }
@@ -135,7 +135,7 @@ pub fn refs_are_set_over_older_heads()
         × (other ≢ name) × IsBelow (objects_after old own) (name ∷ []) other) }
 {}
 
-/// Where the tracking refs of a remote stand, below the own folder.
+/// Where the tracking refs of a remote are stored, below the own folder.
 pub fn tracking_refs_stand_by_their_kind()
     ensures identity { (remote : RemoteName) → dir_of (tracking_side remote word.Identity)
         ≡ codes "refs/remotes/" ++ remote.text ++ codes "/identities" }
@@ -143,8 +143,8 @@ pub fn tracking_refs_stand_by_their_kind()
         ≡ codes "refs/remotes/" ++ remote.text ++ codes "/bugs" }
 {}
 
-/// A ref is set as the last write, behind the objects of its head's copy, when nothing kept that from being
-/// made and all of it stands. Where memory runs out or the disk fails, it may be unset; if it is set, the
+/// A ref is set as the last write, after the objects of its head's copy, when nothing kept that from being
+/// made and all of it exists. Where memory runs out or the disk fails, it may be unset; if it is set, the
 /// same holds.
 pub fn refs_are_set_behind_whole_copies()
     ensures carried { (closed : Bool) (source target : List ℕ) (to : Side) (head : HeadEntry)
