@@ -13,7 +13,7 @@ use Rattle.repo_state.specs.Finds.{Finds, Nothing, One}
 use Rattle.repo_state.specs.Sides.{ref_place}
 use Rattle.repo_state.specs.Users.{BadUser, NoUser, User, user_at, user_of, user_write}
 use Rattle.repo_state.specs.declared.clocks.ClockFile.TheVariants as file
-use Rattle.repo_state.specs.declared.remote.RemoteName.{RemoteName}
+use Rattle.remote_name.specs.declared.remote.RemoteName.{RemoteName}
 use Rattle.repo_state.specs.declared.side.Side.TheVariants as side
 use Rattle.repo_state.proofs.FoundLemmas.{finds_no_prefix, finds_no_ref, finds_one}
 

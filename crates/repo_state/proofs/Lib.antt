@@ -19,7 +19,6 @@ pub mod OnceLemmas
 pub mod PeopleLemmas
 pub mod PlaceLemmas
 pub mod PrefixLemmas
-pub mod RemoteLemmas
 pub mod SeekLemmas
 pub mod UndamagedLemmas
 pub mod UserFileLemmas

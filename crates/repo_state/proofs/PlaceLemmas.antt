@@ -18,15 +18,15 @@ use Rattle.git_object.specs.Reading.{cut_at}
 use Rattle.git_object.proofs.CutLaws.{cut_again}
 use Rattle.ref_store.proofs.MapLemmas.{joined-same}
 use Rattle.repo_state.specs.Clocks.{clock_place}
-use Rattle.repo_state.specs.RemoteTexts.{is_remote_byte}
+use Rattle.remote_name.specs.RemoteTexts.{is_remote_byte}
 use Rattle.repo_state.specs.Sides.{dir_of, ref_place}
 use Rattle.repo_state.specs.Users.{user_place}
 use Rattle.repo_state.specs.declared.clocks.ClockFile.{ClockFile}
 use Rattle.repo_state.specs.declared.clocks.ClockFile.TheVariants as clock
-use Rattle.repo_state.specs.declared.remote.RemoteName.{RemoteName}
+use Rattle.remote_name.specs.declared.remote.RemoteName.{RemoteName}
 use Rattle.repo_state.specs.declared.side.Side.{Side}
 use Rattle.repo_state.specs.declared.side.Side.TheVariants as side
-use Rattle.repo_state.proofs.RemoteLemmas.{bytes_of_remote, one_remote}
+use Rattle.remote_name.proofs.RemoteLemmas.{bytes_of_remote, one_remote}
 use Rattle.gb_text.proofs.DigitLemmas.{id_digits-same}
 
 -- two paths are the same or not

@@ -6,8 +6,6 @@ pub mod Finds
 pub mod Listed
 pub mod People
 pub mod Places
-pub mod RemoteTexts
-pub mod Remotes
 pub mod Seeking
 pub mod Sides
 pub mod Sound

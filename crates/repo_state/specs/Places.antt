@@ -1,7 +1,7 @@
 -- Where a folder has the entities of a kind, as a value: bugs are the one kind so far.
 use Rattle.repo_state.specs.declared.clocks.ClockFile.{ClockFile}
 use Rattle.repo_state.specs.declared.clocks.ClockFile.TheVariants as file
-use Rattle.repo_state.specs.declared.remote.RemoteName.{RemoteName}
+use Rattle.remote_name.specs.declared.remote.RemoteName.{RemoteName}
 use Rattle.repo_state.specs.declared.side.Side.{Side}
 use Rattle.repo_state.specs.declared.side.Side.TheVariants as side
 

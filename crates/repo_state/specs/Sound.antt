@@ -23,7 +23,7 @@ use Rattle.repo_state.specs.Bugs.{IsLocal}
 use Rattle.repo_state.specs.Places.{bug_places}
 use Rattle.repo_state.specs.Sides.{head_at}
 use Rattle.repo_state.specs.Users.{BadUser, user_at}
-use Rattle.repo_state.specs.declared.remote.RemoteName.{RemoteName}
+use Rattle.remote_name.specs.declared.remote.RemoteName.{RemoteName}
 use Rattle.repo_state.specs.declared.side.Side.TheVariants as side
 
 -- each file at the path of a name is an object that the name holds, and all that an object names is held, as of

@@ -1,6 +1,5 @@
 //! Laws of a folder's state, each the contract of a function that does nothing.
-ghost use Rattle.std.specs.Prelude.{◌≡◌, ◌≢◌, ◌↔◌, ◌⊎◌, ◌≤◌, ◌++◌, [], ◌∷◌, List, ℕ, IsTrue, Some, None, codes, false, true, map, reverse};
-ghost use Rattle.std.specs.List.{AllByRecursion, repeat};
+ghost use Rattle.std.specs.Prelude.{◌≡◌, ◌≢◌, ◌↔◌, ◌⊎◌, ◌≤◌, ◌++◌, [], ◌∷◌, List, ℕ, IsTrue, Some, None, map, reverse};
 ghost use Rattle.hex.specs.Hex.{encode_lower};
 ghost use Rattle.gb_text.specs.Digits.{IsId, IsName};
 ghost use Rattle.gb_text.specs.Folder.{joined};
@@ -17,13 +16,10 @@ ghost use Rattle.lamport.specs.Clock.{seen_by};
 ghost use Rattle.lamport.specs.declared.clock.TheConstants.{CAP};
 ghost use Rattle.repo_state.specs.Clocks.{clock_at, clock_write, see_writes};
 ghost use Rattle.repo_state.specs.Finds.{Finding, Finds, Fits, IsDetermined, Many, Nothing, One, head_finder, id_finder};
-ghost use Rattle.repo_state.specs.RemoteTexts.{is_remote_name};
-ghost use Rattle.repo_state.specs.Remotes.{remote_of};
 ghost use Rattle.repo_state.specs.Sides.{AllRead, AreHeads, AreIds, IsBefore, has_ref, head_at, ref_place};
 ghost use Rattle.repo_state.specs.Sound.{IsSound};
 ghost use Rattle.repo_state.specs.Users.{BadUser, User, user_at, user_entry, user_write};
 ghost use Rattle.repo_state.specs.declared.clocks.ClockFile.{ClockFile};
-ghost use Rattle.repo_state.specs.declared.remote.RemoteName.{RemoteName as RemoteNameValue};
 ghost use Rattle.repo_state.specs.declared.side.HeadEntry.{HeadEntry};
 ghost use Rattle.repo_state.specs.declared.side.Side.{Side as SideValue};
 ghost use Rattle.repo_state.specs.declared.side.Side.TheVariants as side;
@@ -62,28 +58,6 @@ pub fn users_have_their_heads()
     ensures back { (files : Files) (folder : List ℕ) (id : Id) (head : Name)
         → user_at files folder ≡ User id → head_at files folder side.Identities id ≡ Head head
         → user_entry files folder ≡ Some (record { id = id; name = head }) }
-{}
-
-/// The name of a remote has 1 to 64 bytes. By their edges: letters, digits, `_` and `-` are among these,
-/// and what stands beside them is not, nor are white space, dots, slashes and bytes above 127.
-pub fn remote_names_are_known()
-    ensures longest { is_remote_name (repeat 64 (codes "a")) ≡ true }
-    ensures longer { is_remote_name (repeat 65 (codes "a")) ≡ false }
-    ensures none { is_remote_name [] ≡ false }
-    ensures signs { is_remote_name (codes "Az_-09") ≡ true }
-    ensures dots { is_remote_name (codes "a.b") ≡ false }
-    ensures slashes { is_remote_name (codes "a/b") ≡ false }
-    ensures edges { is_remote_name (codes "09AZaz_-") ≡ true }
-    ensures beside { AllByRecursion (λ c. is_remote_name (c ∷ []) ≡ false)
-        (0 ∷ 10 ∷ 32 ∷ 44 ∷ 46 ∷ 47 ∷ 58 ∷ 64 ∷ 91 ∷ 94 ∷ 96 ∷ 123 ∷ 127 ∷ 128 ∷ 195 ∷ []) }
-{}
-
-/// The name of a remote is what its text is read as, so that no other name has this text; and a text
-/// that is no name is read as none.
-pub fn remote_names_read_back()
-    ensures read { (remote : RemoteNameValue) → remote_of remote.text ≡ Some remote }
-    ensures same { (one other : RemoteNameValue) → one.text ≡ other.text → one ≡ other }
-    ensures none { (text : List ℕ) → is_remote_name text ≡ false → remote_of text ≡ None }
 {}
 
 /// A head that was set reads back and all other state reads as before, except that a user file may

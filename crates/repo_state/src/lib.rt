@@ -12,7 +12,6 @@ mod listing;
 mod operations;
 mod people;
 mod refs;
-mod remote;
 mod seeking;
 mod side;
 mod stop;
@@ -28,8 +27,7 @@ pub use finding::{find, find_head};
 pub use laws::{
     an_empty_folder_is_sound, clocks_read_as_they_were_seen, finders_are_determined,
     heads_and_user_are_a_map, ids_are_those_of_the_heads, longer_words_find_the_same,
-    objects_and_state_are_apart, remote_names_are_known, remote_names_read_back,
-    sound_folders_hold_what_heads_lead_to, users_have_their_heads,
+    objects_and_state_are_apart, sound_folders_hold_what_heads_lead_to, users_have_their_heads,
     words_find_ids_by_their_first_digits,
 };
 pub use listing::{all_refs, identity_refs};
@@ -38,7 +36,6 @@ pub use people::{names, people_among};
 pub use refs::{
     EntityRef, damaged, entity, head, head_change, heads, ids, set_head, stands, whole,
 };
-pub use remote::RemoteName;
 pub use side::{HeadEntry, Side};
 pub use stop::{FindStop, Missed, ReadStop};
 pub use user_file::{set_user, user, user_change, user_head};

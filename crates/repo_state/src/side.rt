@@ -1,6 +1,6 @@
 //! The sides of a folder, each with refs of its own.
-use crate::remote::RemoteName;
 use gb_text::{Id, Name};
+use remote_name::RemoteName;
 
 /// A kind of entity, of the folder itself or as it was last seen at a remote. Ids of bugs and of
 /// identities are apart: one id may have a ref on each side.

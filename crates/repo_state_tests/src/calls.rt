@@ -3,7 +3,8 @@ use fixtures::{Disk, id, name};
 use gb_store::StoreFault;
 use gb_text::{Id, List, Name};
 use identity::Person;
-use repo_state::{ClockFile, EntityRef, FindStop, HeadEntry, ReadStop, RemoteName, Side};
+use remote_name::RemoteName;
+use repo_state::{ClockFile, EntityRef, FindStop, HeadEntry, ReadStop, Side};
 use std::alloc::Global;
 use std::test::Fail;
 

@@ -5,7 +5,8 @@ use crate::calls::{
 };
 use fixtures::{Disk, id};
 use gb_store::Store;
-use repo_state::{EntityRef, HeadEntry, RemoteName, Side};
+use remote_name::RemoteName;
+use repo_state::{EntityRef, HeadEntry, Side};
 use std::test::Fail;
 
 #[test]

@@ -4,3 +4,4 @@ pub mod PartLemmas
 pub mod PlaceLemmas
 pub mod SoundBugLemmas
 pub mod SoundLemmas
+pub mod StayLemmas

@@ -27,7 +27,7 @@ use Rattle.repo_state.specs.Sound.{HasPart, IsAuthoredBug, IsSoundBug, IsSoundId
 use Rattle.repo_state.specs.Sound as parts
 use Rattle.repo_state.specs.declared.clocks.ClockFile.{ClockFile}
 use Rattle.repo_state.specs.declared.clocks.ClockFile.TheVariants as file
-use Rattle.repo_state.specs.declared.remote.RemoteName.{RemoteName}
+use Rattle.remote_name.specs.declared.remote.RemoteName.{RemoteName}
 use Rattle.repo_state.specs.declared.side.HeadEntry.{HeadEntry}
 use Rattle.repo_state.specs.declared.side.Side.TheVariants as side
 use Rattle.repo_state.proofs.KindLemmas.{clock_at-capped, clock_at-object_write, clock_at-other, clock_at-ref_write, clock_at-set, clock_at-user_write}

@@ -15,7 +15,7 @@ use Rattle.repo_state.specs.Sides.{dir_of}
 use Rattle.repo_state.specs.declared.clocks.ClockFile.TheVariants as file
 use Rattle.repo_state.specs.declared.side.Side.{Side}
 use Rattle.repo_state.specs.declared.side.Side.TheVariants as side
-use Rattle.repo_state.proofs.RemoteLemmas.{bytes_of_remote}
+use Rattle.remote_name.proofs.RemoteLemmas.{bytes_of_remote}
 use Rattle.repo_writes.specs.Kinds.{IsPlace, a_clock_place, a_ref_place, an_object_place, is_dotless, the_user_place}
 
 -- where a rule that holds of no dot holds of each character, none is a dot

@@ -27,7 +27,7 @@ ghost use Rattle.repo_state.specs.Sides.{head_at};
 ghost use Rattle.repo_state.specs.Sound.{HasPart};
 ghost use Rattle.repo_state.specs.Sound as part;
 ghost use Rattle.repo_state.specs.declared.clocks.ClockFile.TheVariants as file;
-ghost use Rattle.repo_state.specs.declared.remote.RemoteName.{RemoteName as RemoteNameValue};
+ghost use Rattle.remote_name.specs.declared.remote.RemoteName.{RemoteName as RemoteNameValue};
 ghost use Rattle.repo_state.specs.declared.side.HeadEntry.{HeadEntry as HeadEntryValue};
 ghost use Rattle.repo_state.specs.declared.side.Side.TheVariants as side;
 ghost use Rattle.repo_writes.specs.Kinds.{IsWrite};

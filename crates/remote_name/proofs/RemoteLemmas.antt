@@ -4,9 +4,9 @@ use Rattle.std.proofs.Math.Bool.{Bool-set}
 use Rattle.std.proofs.lemmas.Bool.{and_parts}
 use Rattle.std.proofs.lemmas.Option.{same_Some}
 use Rattle.std.specs.List.{list_all}
-use Rattle.repo_state.specs.RemoteTexts.{is_remote_byte, is_remote_name}
-use Rattle.repo_state.specs.Remotes.{remote_by, remote_of}
-use Rattle.repo_state.specs.declared.remote.RemoteName.{RemoteName}
+use Rattle.remote_name.specs.RemoteTexts.{is_remote_byte, is_remote_name}
+use Rattle.remote_name.specs.Remotes.{remote_by, remote_of}
+use Rattle.remote_name.specs.declared.remote.RemoteName.{RemoteName}
 
 pub the_remote : (remote : RemoteName) → remote_of remote.text ≡ Some remote
 the_remote remote = by (is_remote_name remote.text) refl remote.is_name

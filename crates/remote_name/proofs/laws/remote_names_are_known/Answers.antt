@@ -1,5 +1,5 @@
 use Rattle.std.proofs.Common.{refl}
-use Rattle.repo_state.proofs.laws.remote_names_are_known.Goals as goal
+use Rattle.remote_name.proofs.laws.remote_names_are_known.Goals as goal
 
 pub returns-clause-longest : goal.returns-clause-longest
 returns-clause-longest c = refl

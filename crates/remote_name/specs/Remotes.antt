@@ -1,7 +1,7 @@
 -- The remote's name that a text is.
 use Rattle.std.specs.Prelude.{◌≡◌, refl, ℕ, Bool, true, false, List, Option, Some, None}
-use Rattle.repo_state.specs.RemoteTexts.{is_remote_name}
-use Rattle.repo_state.specs.declared.remote.RemoteName.{RemoteName}
+use Rattle.remote_name.specs.RemoteTexts.{is_remote_name}
+use Rattle.remote_name.specs.declared.remote.RemoteName.{RemoteName}
 
 -- a remote's name, by whether the text is one
 abbrev pub remote_by : (text : List ℕ) (good : Bool) → is_remote_name text ≡ good → Option RemoteName

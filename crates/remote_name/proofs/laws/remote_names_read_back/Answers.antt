@@ -1,5 +1,5 @@
-use Rattle.repo_state.proofs.RemoteLemmas.{no_remote, one_remote, the_remote}
-use Rattle.repo_state.proofs.laws.remote_names_read_back.Goals as goal
+use Rattle.remote_name.proofs.RemoteLemmas.{no_remote, one_remote, the_remote}
+use Rattle.remote_name.proofs.laws.remote_names_read_back.Goals as goal
 
 pub returns-clause-read : goal.returns-clause-read
 returns-clause-read c = the_remote

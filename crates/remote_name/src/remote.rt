@@ -1,7 +1,7 @@
 //! The names of remotes, of a type that keeps the fact that they are names.
 ghost use Rattle.std.specs.Prelude.{◌≡◌, true};
 ghost use Rattle.std.specs.List.{list_all};
-ghost use Rattle.repo_state.specs.RemoteTexts.{is_remote_byte, is_remote_name};
+ghost use Rattle.remote_name.specs.RemoteTexts.{is_remote_byte, is_remote_name};
 
 use gb_text::{Memory, Text};
 use std::alloc::Global;
@@ -15,10 +15,9 @@ pub struct RemoteName {
 
 impl RemoteName {
     ghost use Rattle.std.specs.Prelude.{IfOk, OnErr, IsSome};
-    ghost use Rattle.repo_state.specs.Remotes.{remote_of};
+    ghost use Rattle.remote_name.specs.Remotes.{remote_of};
 
-    /// The remote's name that a text is, if it is one. Takes no memory otherwise. Tests alone call it so
-    /// far: fetch and push will read their words by it.
+    /// The remote's name that a text is, if it is one. Takes no memory otherwise.
     #[tactic(auto, using(crate::proofs::RemoteLemmas::copied_remote, crate::proofs::RemoteLemmas::no_remote, crate::proofs::RemoteLemmas::is_a_remote))]
     pub fn read(alloc: Global, text: &str) -> Result<Option<RemoteName>, Memory>
         ensures read { IfOk result (λ read. read ≡ remote_of text.now) }

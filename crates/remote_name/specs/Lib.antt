@@ -1,0 +1,2 @@
+pub mod RemoteTexts
+pub mod Remotes
