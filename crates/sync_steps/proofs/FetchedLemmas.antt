@@ -9,7 +9,7 @@ use Rattle.ref_store.specs.Refs.{Head}
 use Rattle.ref_store.specs.Setting.{ref_write}
 use Rattle.ref_store.proofs.MapLemmas.{set_ref_reads}
 use Rattle.repo_state.specs.Sides.{head_at, ref_place}
-use Rattle.repo_state.specs.declared.remote.RemoteName.{RemoteName}
+use Rattle.remote_name.specs.declared.remote.RemoteName.{RemoteName}
 use Rattle.repo_state.specs.declared.side.Side.{Side}
 use Rattle.sync_steps.specs.Fetching.{FetchOutcome, FetchStops, Fetches}
 use Rattle.sync_steps.specs.Places.{local_side, tracking_side}
@@ -20,31 +20,37 @@ use Rattle.sync_steps.specs.declared.line.Exchange.TheVariants as verb
 use Rattle.sync_steps.specs.declared.line.Line.{Line}
 use Rattle.sync_steps.specs.declared.line.Outcome.{Outcome}
 use Rattle.sync_steps.specs.declared.line.Outcome.TheVariants as outcome
-use Rattle.sync_steps.proofs.SetLemmas.{id_of, puts_leave, refs_are_same}
+use Rattle.sync_steps.proofs.SetLemmas.{id_of, puts_leave}
+use Rattle.sync_steps.proofs.TurnLemmas.{refs_are_same}
 
 -- ---- fetches
 
 module _ (own peer : List ℕ) (to : Side) where
-  -- a turn of an entity leaves each head but that of its own tracking ref
-  turn_leaves : (of : Side) (id mine : Id) (head : Option Name) (out : Outcome) (old new : History) → ((name : Name) (files : Files) → head_at (written files (ref_write own (ref_place to mine) name)) own of id ≡ head_at files own of id)
+  -- a turn of an entity keeps each head, but where it fetched only those that the write of its tracking ref leaves
+  pub turn_keeps : (of : Side) (id mine : Id) (head : Option Name) (out : Outcome) (old new : History) → (out ≡ outcome.Fetched → (name : Name) (files : Files) → head_at (written files (ref_write own (ref_place to mine) name)) own of id ≡ head_at files own of id)
       → FetchOutcome own peer to mine head out old new → head_at (files_of new) own of id ≡ head_at (files_of old) own of id
-  turn_leaves of id mine None outcome.BadRef old new apart same = ap (λ (h : History). head_at (files_of h) own of id) same
-  turn_leaves of id mine None outcome.Fetched old new apart none = absurd none
-  turn_leaves of id mine None outcome.Pushed old new apart none = absurd none
-  turn_leaves of id mine None outcome.Same old new apart none = absurd none
-  turn_leaves of id mine None (outcome.DamagedCopy why) old new apart none = absurd none
-  turn_leaves of id mine None (outcome.NotForward other) old new apart none = absurd none
-  turn_leaves of id mine None outcome.Held old new apart none = absurd none
-  turn_leaves of id mine (Some name) outcome.Same old new apart (is, same) = ap (λ (h : History). head_at (files_of h) own of id) same
-  turn_leaves of id mine (Some name) outcome.Fetched old new apart (other, carried) =
+  turn_keeps of id mine None outcome.BadRef old new apart same = ap (λ (h : History). head_at (files_of h) own of id) same
+  turn_keeps of id mine None outcome.Fetched old new apart none = absurd none
+  turn_keeps of id mine None outcome.Pushed old new apart none = absurd none
+  turn_keeps of id mine None outcome.Same old new apart none = absurd none
+  turn_keeps of id mine None (outcome.DamagedCopy why) old new apart none = absurd none
+  turn_keeps of id mine None (outcome.NotForward other) old new apart none = absurd none
+  turn_keeps of id mine None outcome.Held old new apart none = absurd none
+  turn_keeps of id mine (Some name) outcome.Same old new apart (is, same) = ap (λ (h : History). head_at (files_of h) own of id) same
+  turn_keeps of id mine (Some name) outcome.Fetched old new apart (other, carried) =
       ap (λ (h : History). head_at (files_of h) own of id) carried.set
-      ∙ apart name (files_of carried.mid)
+      ∙ apart refl name (files_of carried.mid)
       ∙ puts_leave true peer own (objects_after old own) name of id old carried.mid carried.put
-  turn_leaves of id mine (Some name) (outcome.DamagedCopy why) old new apart (other, refused) = puts_leave true peer own (objects_after old own) name of id old new refused.put
-  turn_leaves of id mine (Some name) outcome.BadRef old new apart none = absurd none
-  turn_leaves of id mine (Some name) outcome.Pushed old new apart none = absurd none
-  turn_leaves of id mine (Some name) (outcome.NotForward other) old new apart none = absurd none
-  turn_leaves of id mine (Some name) outcome.Held old new apart none = absurd none
+  turn_keeps of id mine (Some name) (outcome.DamagedCopy why) old new apart (other, refused) = puts_leave true peer own (objects_after old own) name of id old new refused.put
+  turn_keeps of id mine (Some name) outcome.BadRef old new apart none = absurd none
+  turn_keeps of id mine (Some name) outcome.Pushed old new apart none = absurd none
+  turn_keeps of id mine (Some name) (outcome.NotForward other) old new apart none = absurd none
+  turn_keeps of id mine (Some name) outcome.Held old new apart none = absurd none
+
+  -- so it leaves each head but that of its own tracking ref
+  pub turn_leaves : (of : Side) (id mine : Id) (head : Option Name) (out : Outcome) (old new : History) → ((name : Name) (files : Files) → head_at (written files (ref_write own (ref_place to mine) name)) own of id ≡ head_at files own of id)
+      → FetchOutcome own peer to mine head out old new → head_at (files_of new) own of id ≡ head_at (files_of old) own of id
+  turn_leaves of id mine head out old new apart step = turn_keeps of id mine head out old new (λ is. apart) step
 
   -- a turn that fetched, or found both the same: the tracking ref has the head
   turn_sets : (mine : Id) (head : Option Name) (out : Outcome) (old new : History) → ((name : Name) → head ≡ Some name → IsName name) → (out ≡ outcome.Fetched) ⊎ (out ≡ outcome.Same)
@@ -80,31 +86,36 @@ module _ (own peer : List ℕ) (remote : RemoteName) (old new : History) (lines 
 -- ---- pushes
 
 module _ (own peer : List ℕ) (of : Side) where
-  -- a turn of an entity leaves each head of the peer but that of its own ref
-  push_leaves : (on : Side) (id mine : Id) (name : Name) (out : Outcome) (old new : History) → ((name : Name) (files : Files) → head_at (written files (ref_write peer (ref_place of mine) name)) peer on id ≡ head_at files peer on id)
+  -- a turn of an entity keeps each head of the peer, but where it pushed only those that the write of its own ref leaves
+  push_keeps : (on : Side) (id mine : Id) (name : Name) (out : Outcome) (old new : History) → (out ≡ outcome.Pushed → (name : Name) (files : Files) → head_at (written files (ref_write peer (ref_place of mine) name)) peer on id ≡ head_at files peer on id)
       → PushOutcome own peer of mine name out old new → head_at (files_of new) peer on id ≡ head_at (files_of old) peer on id
-  push_leaves on id mine name outcome.Same old new apart (at, same) = ap (λ (h : History). head_at (files_of h) peer on id) same
-  push_leaves on id mine name outcome.BadRef old new apart (at, same) = ap (λ (h : History). head_at (files_of h) peer on id) same
-  push_leaves on id mine name (outcome.NotForward other) old new apart told = ap (λ (h : History). head_at (files_of h) peer on id) told.3
-  push_leaves on id mine name outcome.Pushed old new apart (forward, carried) =
+  push_keeps on id mine name outcome.Same old new apart (at, same) = ap (λ (h : History). head_at (files_of h) peer on id) same
+  push_keeps on id mine name outcome.BadRef old new apart (at, same) = ap (λ (h : History). head_at (files_of h) peer on id) same
+  push_keeps on id mine name (outcome.NotForward other) old new apart told = ap (λ (h : History). head_at (files_of h) peer on id) told.3
+  push_keeps on id mine name outcome.Pushed old new apart (forward, carried) =
       ap (λ (h : History). head_at (files_of h) peer on id) carried.set
-      ∙ apart name (files_of carried.mid)
+      ∙ apart refl name (files_of carried.mid)
       ∙ puts_leave false own peer (objects_after old peer) name on id old carried.mid carried.put
-  push_leaves on id mine name (outcome.DamagedCopy why) old new apart (forward, refused) = puts_leave false own peer (objects_after old peer) name on id old new refused.put
-  push_leaves on id mine name outcome.Fetched old new apart none = absurd none
-  push_leaves on id mine name outcome.Held old new apart none = absurd none
+  push_keeps on id mine name (outcome.DamagedCopy why) old new apart (forward, refused) = puts_leave false own peer (objects_after old peer) name on id old new refused.put
+  push_keeps on id mine name outcome.Fetched old new apart none = absurd none
+  push_keeps on id mine name outcome.Held old new apart none = absurd none
 
-  pushes_leave : (held : Bool) (turn : Turn) (on : Side) (id : Id) (old new : History) → ((name : Name) (files : Files) → head_at (written files (ref_write peer (ref_place of (id_of turn)) name)) peer on id ≡ head_at files peer on id)
+  pub pushes_keep : (held : Bool) (turn : Turn) (on : Side) (id : Id) (old new : History) → (turn.outcome ≡ outcome.Pushed → (name : Name) (files : Files) → head_at (written files (ref_write peer (ref_place of (id_of turn)) name)) peer on id ≡ head_at files peer on id)
       → Pushes own peer of held turn old new → head_at (files_of new) peer on id ≡ head_at (files_of old) peer on id
-  pushes_leave true turn on id old new apart step = ap (λ (h : History). head_at (files_of h) peer on id) step.1
-  pushes_leave false turn on id old new apart step = by turn.entity.head step
+  pushes_keep true turn on id old new apart step = ap (λ (h : History). head_at (files_of h) peer on id) step.1
+  pushes_keep false turn on id old new apart step = by turn.entity.head step
     where
       by : (head : Option Name) → PushOfRef own peer of (id_of turn) head turn.outcome old new → head_at (files_of new) peer on id ≡ head_at (files_of old) peer on id
       by None none = absurd none
-      by (Some name) step = push_leaves on id (id_of turn) name turn.outcome old new apart step
+      by (Some name) step = push_keeps on id (id_of turn) name turn.outcome old new apart step
+
+  -- so it leaves each head of the peer but that of its own ref
+  pub pushes_leave : (held : Bool) (turn : Turn) (on : Side) (id : Id) (old new : History) → ((name : Name) (files : Files) → head_at (written files (ref_write peer (ref_place of (id_of turn)) name)) peer on id ≡ head_at files peer on id)
+      → Pushes own peer of held turn old new → head_at (files_of new) peer on id ≡ head_at (files_of old) peer on id
+  pushes_leave held turn on id old new apart step = pushes_keep held turn on id old new (λ is. apart) step
 
   -- a turn that pushed, or found both the same: the peer's ref has the head
-  push_sets : (mine : Id) (name : Name) (out : Outcome) (old new : History) → IsName name → (out ≡ outcome.Pushed) ⊎ (out ≡ outcome.Same) → PushOutcome own peer of mine name out old new → head_at (files_of new) peer of mine ≡ Head name
+  pub push_sets : (mine : Id) (name : Name) (out : Outcome) (old new : History) → IsName name → (out ≡ outcome.Pushed) ⊎ (out ≡ outcome.Same) → PushOutcome own peer of mine name out old new → head_at (files_of new) peer of mine ≡ Head name
   push_sets mine name outcome.Same old new named is (at, same) = ap (λ (h : History). head_at (files_of h) peer of mine) same ∙ at
   push_sets mine name outcome.Pushed old new named is (forward, carried) =
       ap (λ (h : History). head_at (files_of h) peer of mine) carried.set ∙ set_ref_reads (files_of carried.mid) peer (ref_place of mine) name named

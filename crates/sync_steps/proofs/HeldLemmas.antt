@@ -9,7 +9,7 @@ use Rattle.ref_store.specs.Refs.{Bad}
 use Rattle.repo_state.specs.Listed.{AreRefs, ref_with}
 use Rattle.repo_state.specs.Sides.{head_at}
 use Rattle.repo_state.specs.declared.refs.EntityRef.{EntityRef}
-use Rattle.repo_state.specs.declared.remote.RemoteName.{RemoteName}
+use Rattle.remote_name.specs.declared.remote.RemoteName.{RemoteName}
 use Rattle.repo_state.specs.declared.side.Side.{Side}
 use Rattle.repo_state.specs.declared.side.Side.TheVariants as side
 use Rattle.repo_state.proofs.ListingLemmas.{Contains-from_map, Contains-map}
@@ -81,7 +81,7 @@ held_of (turn ∷ turns) h = by (is_damage turn.outcome) refl h (λ later. held_
     by true at h more = (turn, (0, omega arith, refl), at)
     by false at h more = let later = more h in (later.0, (suc later.1.0, omega (arith, later.1.1), later.1.2), later.2)
 
-held_from : (turns : List Turn) (turn : Turn) → Contains turns turn → is_damage turn.outcome ≡ true → are_held turns ≡ true
+pub held_from : (turns : List Turn) (turn : Turn) → Contains turns turn → is_damage turn.outcome ≡ true → are_held turns ≡ true
 held_from [] turn (k, lt, e) is = absurd (omega arith)
 held_from (first ∷ turns) turn (zero, lt, e) is = ap (λ (b : Bool). b || are_held turns) (ap (λ (t : Turn). is_damage t.outcome) e ∙ is)
 held_from (first ∷ turns) turn (suc k, lt, e) is = by (is_damage first.outcome) (held_from turns turn (k, omega arith, e) is)

@@ -1,9 +1,16 @@
+mod BadRefLemmas
 mod Examples
-mod FetchWriteLemmas
-mod FetchedLemmas
-mod HeldLemmas
-mod PushWriteLemmas
-mod SetLemmas
+mod FetchTurnLemmas
+pub mod FetchWriteLemmas
+pub mod FetchedLemmas
+pub mod HeldLemmas
+mod OtherRefLemmas
+mod PushTurnLemmas
+pub mod PushWriteLemmas
+pub mod QuietLemmas
+pub mod SetLemmas
 mod StepLaws
+mod StopLemmas
 mod ToldLemmas
-mod WriteLemmas
+mod TurnLemmas
+pub mod WriteLemmas

@@ -80,51 +80,72 @@ module _ (May : Files → Change → Type 0) (target other : List ℕ) (apart : 
 abbrev pub IsListed : History → List ℕ → EntityWord → EntityRef → Type 0
 IsListed entry folder word entity = IsId entity.id × (head_at (files_of entry) folder (local_side word) entity.id ≡ ref_with entity.head)
 
+-- where each turn goes on from what went before it, so do all
+module _ (Rel : History → History → Type 0) (none : (old new : History) → new ≡ old → Rel old new) (then : (old mid new : History) → Rel old mid → Rel mid new → Rel old new) where
+  module _ (Step : Turn → History → History → Type 0) (entry : History) (Good : EntityRef → Type 0) (each : (turn : Turn) (old new : History) → Good turn.entity → Rel entry old → Step turn old new → Rel old new) where
+    pub turns_go : (turns : List Turn) → ((turn : Turn) → Contains turns turn → Good turn.entity) → (old new : History) → Rel entry old → InTurn Step turns old new → Rel old new
+    turns_go [] good old new before same = none old new same
+    turns_go (turn ∷ turns) good old new before (mid, step, later) =
+        let first = each turn old mid (good turn (0, omega arith, refl)) before step in
+        then old mid new first (turns_go turns (λ t c. good t (suc c.0, omega (arith, c.1), c.2)) mid new (then entry old mid before first) later)
+
+    -- of refs that were listed
+    pub went_goes : (refs : List EntityRef) → ((entity : EntityRef) → Contains refs entity → Good entity) → (turns : List Turn) (old new : History) → Rel entry old → Went Step refs turns old new → Rel old new
+    went_goes refs good turns old new before went =
+        turns_go turns (λ turn c. good turn.entity (subst (λ (es : List EntityRef). Contains es turn.entity) went.are (Contains-map (λ (t : Turn). t.entity) turns turn c))) old new before went.each
+
+    -- and of those before the one at which the call ended
+    pub ended_goes : (Stops : ReadStop → EntityRef → History → History → Type 0) → ((why : ReadStop) (entity : EntityRef) (old new : History) → Good entity → Rel entry old → Stops why entity old new → Rel old new)
+        → (why : ReadStop) (refs : List EntityRef) → ((entity : EntityRef) → Contains refs entity → Good entity) → (old new : History) → Rel entry old → Ended Step Stops why refs old new → Rel old new
+    ended_goes Stops last why refs good old new before ended =
+        let among : (entity : EntityRef) → Contains (entities_of ended.done ++ ended.at ∷ ended.rest) entity → Good entity = λ entity c. good entity (subst (λ (es : List EntityRef). Contains es entity) (sym ended.are) c) in
+        let first = turns_go ended.done
+        (λ turn c. among turn.entity (Contains-append_left (entities_of ended.done) (ended.at ∷ ended.rest) turn.entity (Contains-map (λ (t : Turn). t.entity) ended.done turn c))) old ended.mid before ended.before in
+        then old ended.mid new first
+        (last why ended.at ended.mid new (among ended.at (Contains-append_right (entities_of ended.done) (ended.at ∷ ended.rest) ended.at (0, omega arith, refl))) (then entry old ended.mid before first) ended.ended)
+
+  -- so does a whole exchange
+  module _ (verb : Exchange) (Step : EntityWord → Bool → Turn → History → History → Type 0) (Stops : EntityWord → Bool → ReadStop → EntityRef → History → History → Type 0) (folder : List ℕ) (entry : History)
+      (each : (word : EntityWord) (held : Bool) (turn : Turn) (old new : History) → IsListed entry folder word turn.entity → Rel entry old → Step word held turn old new → Rel old new)
+      (last : (word : EntityWord) (held : Bool) (why : ReadStop) (entity : EntityRef) (old new : History) → IsListed entry folder word entity → Rel entry old → Stops word held why entity old new → Rel old new) where
+    people_listed : (people bugs : List EntityRef) → AreBoth folder entry people bugs → (entity : EntityRef) → Contains people entity → IsListed entry folder word.Identity entity
+    people_listed people bugs are entity c = (are.are_people.members entity).0 c
+
+    bugs_listed : (people bugs : List EntityRef) → AreBoth folder entry people bugs → (entity : EntityRef) → Contains bugs entity → IsListed entry folder word.Bug entity
+    bugs_listed people bugs are entity c = (are.are_bugs.members entity).0 c
+
+    start : Rel entry entry
+    start = none entry entry refl
+
+    pub exchange_goes : (new : History) (result : Result (List Line) ReadStop) → ExchangeAnswers verb Step Stops folder entry new result → Rel entry new
+    exchange_goes new (Ok lines) done =
+        let people = went_goes (Step word.Identity false) entry (IsListed entry folder word.Identity) (each word.Identity false) done.people (people_listed done.people done.bugs done.are) done.person_turns entry done.mid start done.first in
+        let held = are_held done.person_turns in
+        then entry done.mid new people
+        (went_goes (Step word.Bug held) entry (IsListed entry folder word.Bug) (each word.Bug held) done.bugs (bugs_listed done.people done.bugs done.are) done.bug_turns done.mid new people done.then)
+    exchange_goes new (Err why) (inl same) = none entry new same.1
+    exchange_goes new (Err why) (inr (inl at)) =
+        ended_goes (Step word.Identity false) entry (IsListed entry folder word.Identity) (each word.Identity false) (Stops word.Identity false) (last word.Identity false) why at.people (people_listed at.people at.bugs at.are) entry new start at.ended
+    exchange_goes new (Err why) (inr (inr at)) =
+        let people = went_goes (Step word.Identity false) entry (IsListed entry folder word.Identity) (each word.Identity false) at.people (people_listed at.people at.bugs at.are) at.person_turns entry at.mid start at.first in
+        let held = are_held at.person_turns in
+        then entry at.mid new people
+        (ended_goes (Step word.Bug held) entry (IsListed entry folder word.Bug) (each word.Bug held) (Stops word.Bug held) (last word.Bug held) why at.bugs (bugs_listed at.people at.bugs at.are) at.mid new people at.ended)
+
 -- where each turn keeps to a rule, with what was written before it, so do all
-module _ (May : Files → Change → Type 0) (Step : Turn → History → History → Type 0) (entry : History) (Good : EntityRef → Type 0)
-    (each : (turn : Turn) (old new : History) → Good turn.entity → Wrote May entry old → Step turn old new → Wrote May old new) where
-  pub turns_wrote : (turns : List Turn) → ((turn : Turn) → Contains turns turn → Good turn.entity) → (old new : History) → Wrote May entry old → InTurn Step turns old new → Wrote May entry new
-  turns_wrote [] good old new before same = subst (Wrote May entry) (sym same) before
-  turns_wrote (turn ∷ turns) good old new before (mid, step, later) =
-      turns_wrote turns (λ t c. good t (suc c.0, omega (arith, c.1), c.2)) mid new (Wrote-then May entry old mid before (each turn old mid (good turn (0, omega arith, refl)) before step)) later
+module _ (May : Files → Change → Type 0) where
+  module _ (Step : Turn → History → History → Type 0) (entry : History) (Good : EntityRef → Type 0) (each : (turn : Turn) (old new : History) → Good turn.entity → Wrote May entry old → Step turn old new → Wrote May old new) where
+    pub went_wrote : (refs : List EntityRef) → ((entity : EntityRef) → Contains refs entity → Good entity) → (turns : List Turn) (old new : History) → Wrote May entry old → Went Step refs turns old new → Wrote May entry new
+    went_wrote refs good turns old new before went =
+        Wrote-then May entry old new before (went_goes (Wrote May) (Wrote-none May) (Wrote-then May) Step entry Good each refs good turns old new before went)
 
-  -- of refs that were listed
-  pub went_wrote : (refs : List EntityRef) → ((entity : EntityRef) → Contains refs entity → Good entity) → (turns : List Turn) (old new : History) → Wrote May entry old → Went Step refs turns old new → Wrote May entry new
-  went_wrote refs good turns old new before went =
-      turns_wrote turns (λ turn c. good turn.entity (subst (λ (es : List EntityRef). Contains es turn.entity) went.are (Contains-map (λ (t : Turn). t.entity) turns turn c))) old new before went.each
+    pub ended_wrote : (Stops : ReadStop → EntityRef → History → History → Type 0) → ((why : ReadStop) (entity : EntityRef) (old new : History) → Good entity → Wrote May entry old → Stops why entity old new → Wrote May old new)
+        → (why : ReadStop) (refs : List EntityRef) → ((entity : EntityRef) → Contains refs entity → Good entity) → (old new : History) → Wrote May entry old → Ended Step Stops why refs old new → Wrote May entry new
+    ended_wrote Stops last why refs good old new before ended =
+        Wrote-then May entry old new before (ended_goes (Wrote May) (Wrote-none May) (Wrote-then May) Step entry Good each Stops last why refs good old new before ended)
 
-  -- and of those before the one at which the call ended
-  pub ended_wrote : (Stops : ReadStop → EntityRef → History → History → Type 0) → ((why : ReadStop) (entity : EntityRef) (old new : History) → Good entity → Wrote May entry old → Stops why entity old new → Wrote May old new)
-      → (why : ReadStop) (refs : List EntityRef) → ((entity : EntityRef) → Contains refs entity → Good entity) → (old new : History) → Wrote May entry old → Ended Step Stops why refs old new → Wrote May entry new
-  ended_wrote Stops last why refs good old new before ended =
-      let among : (entity : EntityRef) → Contains (entities_of ended.done ++ ended.at ∷ ended.rest) entity → Good entity = λ entity c. good entity (subst (λ (es : List EntityRef). Contains es entity) (sym ended.are) c) in
-      let first = turns_wrote ended.done
-      (λ turn c. among turn.entity (Contains-append_left (entities_of ended.done) (ended.at ∷ ended.rest) turn.entity (Contains-map (λ (t : Turn). t.entity) ended.done turn c))) old ended.mid before ended.before in
-      Wrote-then May entry ended.mid new first
-      (last why ended.at ended.mid new (among ended.at (Contains-append_right (entities_of ended.done) (ended.at ∷ ended.rest) ended.at (0, omega arith, refl))) first ended.ended)
-
--- so does a whole exchange
-module _ (May : Files → Change → Type 0) (verb : Exchange) (Step : EntityWord → Bool → Turn → History → History → Type 0) (Stops : EntityWord → Bool → ReadStop → EntityRef → History → History → Type 0) (folder : List ℕ) (entry : History)
-    (each : (word : EntityWord) (held : Bool) (turn : Turn) (old new : History) → IsListed entry folder word turn.entity → Wrote May entry old → Step word held turn old new → Wrote May old new)
-    (last : (word : EntityWord) (held : Bool) (why : ReadStop) (entity : EntityRef) (old new : History) → IsListed entry folder word entity → Wrote May entry old → Stops word held why entity old new → Wrote May old new) where
-  people_listed : (people bugs : List EntityRef) → AreBoth folder entry people bugs → (entity : EntityRef) → Contains people entity → IsListed entry folder word.Identity entity
-  people_listed people bugs are entity c = (are.are_people.members entity).0 c
-
-  bugs_listed : (people bugs : List EntityRef) → AreBoth folder entry people bugs → (entity : EntityRef) → Contains bugs entity → IsListed entry folder word.Bug entity
-  bugs_listed people bugs are entity c = (are.are_bugs.members entity).0 c
-
-  start : Wrote May entry entry
-  start = Wrote-none May entry entry refl
-
-  pub exchange_wrote : (new : History) (result : Result (List Line) ReadStop) → ExchangeAnswers verb Step Stops folder entry new result → Wrote May entry new
-  exchange_wrote new (Ok lines) done =
-      let people = went_wrote May (Step word.Identity false) entry (IsListed entry folder word.Identity) (each word.Identity false) done.people (people_listed done.people done.bugs done.are) done.person_turns entry done.mid start done.first in
-      let held = are_held done.person_turns in
-      went_wrote May (Step word.Bug held) entry (IsListed entry folder word.Bug) (each word.Bug held) done.bugs (bugs_listed done.people done.bugs done.are) done.bug_turns done.mid new people done.then
-  exchange_wrote new (Err why) (inl none) = Wrote-none May entry new none.1
-  exchange_wrote new (Err why) (inr (inl at)) =
-      ended_wrote May (Step word.Identity false) entry (IsListed entry folder word.Identity) (each word.Identity false) (Stops word.Identity false) (last word.Identity false) why at.people (people_listed at.people at.bugs at.are) entry new start at.ended
-  exchange_wrote new (Err why) (inr (inr at)) =
-      let people = went_wrote May (Step word.Identity false) entry (IsListed entry folder word.Identity) (each word.Identity false) at.people (people_listed at.people at.bugs at.are) at.person_turns entry at.mid start at.first in
-      let held = are_held at.person_turns in
-      ended_wrote May (Step word.Bug held) entry (IsListed entry folder word.Bug) (each word.Bug held) (Stops word.Bug held) (last word.Bug held) why at.bugs (bugs_listed at.people at.bugs at.are) at.mid new people at.ended
+  module _ (verb : Exchange) (Step : EntityWord → Bool → Turn → History → History → Type 0) (Stops : EntityWord → Bool → ReadStop → EntityRef → History → History → Type 0) (folder : List ℕ) (entry : History)
+      (each : (word : EntityWord) (held : Bool) (turn : Turn) (old new : History) → IsListed entry folder word turn.entity → Wrote May entry old → Step word held turn old new → Wrote May old new)
+      (last : (word : EntityWord) (held : Bool) (why : ReadStop) (entity : EntityRef) (old new : History) → IsListed entry folder word entity → Wrote May entry old → Stops word held why entity old new → Wrote May old new) where
+    pub exchange_wrote : (new : History) (result : Result (List Line) ReadStop) → ExchangeAnswers verb Step Stops folder entry new result → Wrote May entry new
+    exchange_wrote new result answers = exchange_goes (Wrote May) (Wrote-none May) (Wrote-then May) verb Step Stops folder entry each last new result answers

@@ -6,7 +6,7 @@ use Rattle.gb_store.specs.Files.{History, files_of}
 use Rattle.ref_store.specs.Refs.{Ref, Absent, Head, Bad}
 use Rattle.repo_state.specs.Sides.{IsBadRef, head_at}
 use Rattle.repo_state.specs.declared.refs.EntityRef.{EntityRef}
-use Rattle.repo_state.specs.declared.remote.RemoteName.{RemoteName}
+use Rattle.remote_name.specs.declared.remote.RemoteName.{RemoteName}
 use Rattle.repo_state.specs.declared.side.Side.{Side}
 use Rattle.repo_state.specs.declared.stop.ReadStop.{ReadStop}
 use Rattle.repo_state.specs.declared.stop.ReadStop.TheVariants as stop

@@ -3,6 +3,7 @@ pub mod Fetching
 pub mod Lines
 pub mod Places
 pub mod Pushing
+pub mod Quiet
 pub mod Told
 pub mod Turns
 pub mod Writes

@@ -1,5 +1,5 @@
 -- The sides on which the refs of an entity stand, by its kind.
-use Rattle.repo_state.specs.declared.remote.RemoteName.{RemoteName}
+use Rattle.remote_name.specs.declared.remote.RemoteName.{RemoteName}
 use Rattle.repo_state.specs.declared.side.Side.{Side}
 use Rattle.repo_state.specs.declared.side.Side.TheVariants as side
 use Rattle.sync_steps.specs.declared.line.EntityWord.{EntityWord}

@@ -13,7 +13,7 @@ use Rattle.ref_store.specs.Setting.{ref_write}
 use Rattle.remote_copy.specs.Closure.{IsInClosure, StandsAlike}
 use Rattle.remote_copy.specs.NeedWrites.{PutsOneAfterNeeds}
 use Rattle.repo_state.specs.Sides.{head_at, ref_place}
-use Rattle.repo_state.specs.declared.remote.RemoteName.{RemoteName}
+use Rattle.remote_name.specs.declared.remote.RemoteName.{RemoteName}
 use Rattle.sync_steps.specs.Places.{local_side, tracking_side}
 use Rattle.sync_steps.specs.Pushing.{IsForward}
 use Rattle.sync_steps.specs.declared.line.EntityWord.{EntityWord}

@@ -9,12 +9,13 @@ ghost use Rattle.object_store.specs.Held.{objects_after};
 ghost use Rattle.ref_store.specs.Refs.{Absent, Bad, Head};
 ghost use Rattle.ref_store.specs.Setting.{ref_write};
 ghost use Rattle.remote_copy.specs.Copies.{HasNoCause, IsCopied};
+ghost use Rattle.remote_copy.specs.declared.fault.CopyFault.TheVariants as fault;
 ghost use Rattle.repo_state.specs.Sides.{dir_of, head_at, ref_place};
-ghost use Rattle.repo_state.specs.declared.remote.RemoteName.{RemoteName};
+ghost use Rattle.remote_name.specs.declared.remote.RemoteName.{RemoteName};
 ghost use Rattle.repo_state.specs.declared.side.HeadEntry.{HeadEntry};
 ghost use Rattle.repo_state.specs.declared.side.Side.{Side};
 ghost use Rattle.repo_state.specs.declared.stop.ReadStop.{ReadStop as ReadStopValue};
-ghost use Rattle.sync_steps.specs.Carrying.{IsCarried, IsCutOff, PutObjects};
+ghost use Rattle.sync_steps.specs.Carrying.{IsCarried, IsCutOff, PutObjects, fault_of};
 ghost use Rattle.sync_steps.specs.Fetching.{FetchAnswers, Fetches};
 ghost use Rattle.sync_steps.specs.Lines.{is_quiet, is_refused, lines_text_of, refused_in};
 ghost use Rattle.sync_steps.specs.Places.{local_side, tracking_side};
@@ -23,6 +24,7 @@ ghost use Rattle.sync_steps.specs.Told.{HasLineOfEach};
 ghost use Rattle.sync_steps.specs.Turns.{Turn};
 ghost use Rattle.sync_steps.specs.Writes.{MayFetch, MayPush};
 ghost use Rattle.sync_steps.specs.declared.line.CopyCause.{CopyCause as CauseValue};
+ghost use Rattle.sync_steps.specs.declared.line.CopyCause.TheVariants as cause;
 ghost use Rattle.sync_steps.specs.declared.line.EntityWord.TheVariants as word;
 ghost use Rattle.sync_steps.specs.declared.line.Exchange.TheVariants as verb;
 ghost use Rattle.sync_steps.specs.declared.line.Outcome.{Outcome as OutcomeValue};
@@ -161,4 +163,14 @@ pub fn refs_are_set_behind_whole_copies()
         × HasNoCause closed (objects_after old source) (objects_after old target) head.name
         × IsCopied closed (objects_after old source) (objects_after old target)
         (objects_after mid target) head.name)) }
+{}
+
+/// The cause that a line tells is the refusal of the copy that has its name.
+pub fn causes_are_refusals_of_copies()
+    ensures missing { (name : Name) → fault_of (cause.Missing name) ≡ fault.Missing name }
+    ensures damaged { (name : Name) → fault_of (cause.Damaged name) ≡ fault.Damaged name }
+    ensures kind { (name : Name) → fault_of (cause.WrongKind name) ≡ fault.WrongKind name }
+    ensures large { (count : ℕ) → fault_of (cause.TooLarge count) ≡ fault.TooLarge count }
+    ensures ring { (name : Name) → fault_of (cause.Ring name) ≡ fault.Ring name }
+    ensures taken { (name : Name) → fault_of (cause.Taken name) ≡ fault.Taken name }
 {}

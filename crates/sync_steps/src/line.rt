@@ -1,6 +1,6 @@
 //! The lines of an exchange, one for each entity.
 ghost use Rattle.std.specs.Prelude.{◌≡◌};
-ghost use Rattle.sync_steps.specs.Lines.{is_refused};
+ghost use Rattle.sync_steps.specs.Lines.{is_refused, refused_in};
 
 use gb_text::{Id, Name};
 
@@ -77,4 +77,14 @@ pub struct Line {
     pub word: EntityWord,
     pub id: Id,
     pub outcome: Outcome,
+}
+
+/// How many of the lines tell refusals.
+pub fn count_refused(lines: &[Line]) -> u64
+    ensures { result ≡ refused_in lines.now }
+{
+    lines
+        .iter()
+        .filter(|line| line.outcome.is_refused())
+        .count() as u64
 }
