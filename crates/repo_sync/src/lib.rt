@@ -1,4 +1,4 @@
-//! Exchanges with another folder, entity by entity. No command calls them yet: `fetch` and `push` will.
+//! Exchanges with another folder, entity by entity.
 #![tactic(auto)]
 
 mod carry;

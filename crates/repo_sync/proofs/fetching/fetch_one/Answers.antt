@@ -1,5 +1,7 @@
 use Rattle.std.proofs.Common.{rules, ◌≡◌, Err, sym, subst}
+use Rattle.gb_text.proofs.PathLemmas.{Overlap-mutual}
 use Rattle.sync_steps.specs.Fetching.{OneFetched}
+use Rattle.words.proofs.PairLemmas.{apart_of}
 use Rattle.repo_sync.proofs.StepLemmas.{tracking_ends}
 use Rattle.repo_sync.proofs.fetching.fetch_one.Goals as goal
 
@@ -12,3 +14,6 @@ returns-in_err-head-clause-answers g c = λ tells.
     subst (OneFetched a.pair.now.own a.pair.now.peer a.to.now a.entity.now (history a.disk.now) (history c.head.new.disk)) (sym is)
     (tracking_ends a.pair.now.own a.pair.now.peer a.to.now a.entity.now c.in-Some.name (history a.disk.now) (history c.head.new.disk) why c.in-Some.is
     (c.in_err-head.ensures.answers tells) (c.in_err-head.ensures.unwritten tells))
+
+pub carry-requires : goal.carry-requires
+carry-requires g c = let pair = c.args.pair.now in λ over. apart_of pair.own pair.peer pair.apart (Overlap-mutual pair.peer pair.own over)

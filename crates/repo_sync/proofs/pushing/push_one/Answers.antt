@@ -5,6 +5,7 @@ use Rattle.repo_state.specs.Sides.{head_at}
 use Rattle.sync_steps.specs.Carrying.{CarryAnswers, IsCarried, IsCutOff}
 use Rattle.sync_steps.specs.Pushing.{HeadPushed}
 use Rattle.sync_steps.specs.declared.line.CopyCause.{CopyCause}
+use Rattle.words.proofs.PairLemmas.{apart_of}
 use Rattle.repo_sync.proofs.StepLemmas.{goes_forward}
 use Rattle.repo_sync.proofs.pushing.push_one.Goals as goal
 
@@ -41,3 +42,6 @@ returns-in_err-carry-clause-answers g c = λ tells.
     let forward = goes_forward (objects_after (history a.disk.now) own) ref a.head.now.name c.in_ok-outcome.field-0 c.in_default.not-Some (c.in_ok-outcome.ensures.answers tells) in
     let cut = subst (λ (h : History). IsCutOff false own peer a.of.now a.head.now h (history c.carry.new.disk)) (c.in_ok-outcome.ensures.unwritten tells) (c.in_err-carry.ensures.answers tells) in
     subst (HeadPushed own peer a.of.now a.head.now (history a.disk.now) (history c.carry.new.disk)) (sym is) (inr (forward, cut))
+
+pub carry-requires : goal.carry-requires
+carry-requires g c = let pair = c.args.pair.now in apart_of pair.own pair.peer pair.apart
