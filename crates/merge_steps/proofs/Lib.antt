@@ -1,0 +1,20 @@
+pub mod ClockLemmas
+pub mod DoneLemmas
+mod Examples
+pub mod FaultLemmas
+pub mod HeadLemmas
+pub mod JoinedLemmas
+pub mod LeaveLemmas
+pub mod LeftLemmas
+pub mod LineJoinLemmas
+pub mod LineTurnLemmas
+pub mod MergeWriteLemmas
+pub mod Names
+pub mod OtherRefLemmas
+pub mod PersonLeftLemmas
+pub mod ReadyLemmas
+pub mod RefusedLemmas
+pub mod ToldLemmas
+pub mod TouchLemmas
+pub mod TurnOfLemmas
+pub mod TurnWriteLemmas

@@ -1,0 +1,10 @@
+pub mod FaultTexts
+pub mod Left
+pub mod LineJoins
+pub mod MergeLines
+pub mod Merging
+pub mod Pulling
+pub mod Refused
+pub mod Stops
+pub mod Told
+pub mod Turns
