@@ -1,0 +1,74 @@
+use Rattle.std.proofs.Common.{rules, ◌≡◌, [], None, Err, inr, sym, subst}
+use Rattle.gb_store.proofs.FaultLemmas.{KeepsFaults_then}
+use Rattle.repo_state.specs.declared.refs.EntityRef.{EntityRef}
+use Rattle.repo_state.specs.declared.side.Side.TheVariants as side
+use Rattle.sync_steps.specs.declared.line.EntityWord.TheVariants as word
+use Rattle.merge_steps.specs.Merging.{MergesPerson, PersonStops}
+use Rattle.merge_steps.specs.Turns.{EachMerged}
+use Rattle.merge_steps.specs.declared.stop.TurnStop.TheVariants as stop
+use Rattle.repo_merge.proofs.QuietLemmas.{next_quiet}
+use Rattle.repo_merge.proofs.TurnLemmas.{Ended-at, WentOn-next}
+use Rattle.repo_merge.proofs.people.merge_people.Goals as goal
+
+none : EntityRef
+none = record { id = record { bytes = [] }; head = None }
+
+pub returns-in_err-outcome-clause-answers : goal.returns-in_err-outcome-clause-answers
+unfolding none
+returns-in_err-outcome-clause-answers g c = λ tells.
+    let history = g.S.Store.history in
+    let a = c.args in
+    let step = MergesPerson a.folder.now in
+    let stops = PersonStops a.folder.now a.tracked.now in
+    let why = c.in_err-outcome.field-0.0 in
+    let is : c.from_residual.result ≡ Err why = search rules in
+    subst (EachMerged step stops word.Identity a.refs.now a.lines.now.items c.loop-entity.lines.items (history a.disk.now) (history c.merge_person.new.disk)) (sym is)
+    (Ended-at step word.Identity stops why a.refs.now c.loop-entity.entity-index none a.lines.now.items c.loop-entity.lines.items (history a.disk.now) (history c.loop-entity.disk) (history c.merge_person.new.disk)
+    c.loop-entity-test.true (c.loop-entity.invariant.went tells) (c.in_err-outcome.ensures.answers tells))
+
+pub returns-in_err-push-clause-answers : goal.returns-in_err-push-clause-answers
+unfolding none
+returns-in_err-push-clause-answers g c = λ tells.
+    let history = g.S.Store.history in
+    let a = c.args in
+    let step = MergesPerson a.folder.now in
+    let stops = PersonStops a.folder.now a.tracked.now in
+    let is : c.from_residual-in_err-push.result ≡ Err stop.Memory = search rules in
+    subst (EachMerged step stops word.Identity a.refs.now a.lines.now.items c.push.new.self.items (history a.disk.now) (history c.merge_person.new.disk)) (sym is)
+    (Ended-at step word.Identity stops stop.Memory a.refs.now c.loop-entity.entity-index none a.lines.now.items c.loop-entity.lines.items (history a.disk.now) (history c.loop-entity.disk) (history c.merge_person.new.disk)
+    c.loop-entity-test.true (c.loop-entity.invariant.went tells) (inr (c.in_ok-outcome.outcome, c.in_ok-outcome.ensures.answers tells)))
+
+pub loop-entity-preserved : goal.loop-entity-preserved
+unfolding none
+loop-entity-preserved g c =
+    let history = g.S.Store.history in
+    let reads = g.S.Store.object_reads in
+    let a = c.args in
+    let was = c.loop-entity.invariant in
+    record {
+      went = λ tells.
+          WentOn-next (MergesPerson a.folder.now) word.Identity a.refs.now c.loop-entity.entity-index none c.in_ok-outcome.outcome a.lines.now.items c.loop-entity.lines.items c.push.new.self.items
+          (history a.disk.now) (history c.loop-entity.disk) (history c.merge_person.new.disk) c.loop-entity-test.true (was.went tells) (c.in_ok-outcome.ensures.answers tells) c.in_ok-push.ensures.items;
+      quiet = λ tells known.
+          next_quiet a.folder.now side.Identities a.refs.now c.loop-entity.entity-index none (history a.disk.now) (history c.loop-entity.disk) (history c.merge_person.new.disk)
+          (reads a.disk.now) (reads c.loop-entity.disk) (reads c.merge_person.new.disk) c.loop-entity-test.true known (was.quiet tells known) (c.merge_person.ensures.unread tells);
+      caused = KeepsFaults_then g.S.Store.never_fails g.S.Store.faults _ ⊥ a.disk.now c.loop-entity.disk c.merge_person.new.disk was.caused c.in_ok-outcome.ensures.caused (λ never. absurd never) (λ fails. absurd {A = ⊥} (cc));
+    }
+
+pub returns-in_err-outcome-clause-unread : goal.returns-in_err-outcome-clause-unread
+unfolding none
+returns-in_err-outcome-clause-unread g c = λ tells known.
+    let history = g.S.Store.history in
+    let reads = g.S.Store.object_reads in
+    let a = c.args in
+    next_quiet a.folder.now side.Identities a.refs.now c.loop-entity.entity-index none (history a.disk.now) (history c.loop-entity.disk) (history c.merge_person.new.disk)
+    (reads a.disk.now) (reads c.loop-entity.disk) (reads c.merge_person.new.disk) c.loop-entity-test.true known (c.loop-entity.invariant.quiet tells known) (c.merge_person.ensures.unread tells)
+
+pub returns-in_err-push-clause-unread : goal.returns-in_err-push-clause-unread
+unfolding none
+returns-in_err-push-clause-unread g c = λ tells known.
+    let history = g.S.Store.history in
+    let reads = g.S.Store.object_reads in
+    let a = c.args in
+    next_quiet a.folder.now side.Identities a.refs.now c.loop-entity.entity-index none (history a.disk.now) (history c.loop-entity.disk) (history c.merge_person.new.disk)
+    (reads a.disk.now) (reads c.loop-entity.disk) (reads c.merge_person.new.disk) c.loop-entity-test.true known (c.loop-entity.invariant.quiet tells known) (c.merge_person.ensures.unread tells)

@@ -1,0 +1,5 @@
+pub mod Giving
+pub mod Heads
+pub mod Listing
+pub mod Quiet
+pub mod Turning
