@@ -12,7 +12,7 @@ use Rattle.bug_run.specs.Run.{status_of, text_of}
 use Rattle.bug_run.specs.Moments.{seconds_of}
 use Rattle.bug_run.specs.declared.status.Refused.TheVariants.{ByCommand, ByWords, SomeLines}
 use Rattle.bug_run.specs.declared.status.Status.TheVariants as status
-use Rattle.words.specs.declared.words.BadWord.TheVariants.{BadFolder, BadText}
+use Rattle.words.specs.declared.words.BadWord.TheVariants.{BadFolder, BadRemoteName, BadText, SameFolder}
 
 -- moments
 moment_now : seconds_of (pos 7) ≡ 7
@@ -43,6 +43,14 @@ status_of_a_fault : status_of (Err stop.Disk) ≡ status.DiskFault
 status_of_a_fault = refl
 
 -- lines of refusals
+line_of_one_folder : refusal_line (ByWords SameFolder) ≡ codes "refused 11 same folder\n"
+unfolding digits hex_on_literals
+line_of_one_folder = refl
+
+line_of_a_remote : refusal_line (ByWords BadRemoteName) ≡ codes "refused 12 bad remote name\n"
+unfolding digits hex_on_literals
+line_of_a_remote = refl
+
 line_of_a_text : refusal_line (ByWords (BadText 2)) ≡ codes "refused 4 bad text 2\n"
 unfolding digits hex_on_literals
 line_of_a_text = refl

@@ -1,5 +1,9 @@
 pub mod AlikeLemmas
 pub mod AnswerLemmas
+pub mod ExchangeLemmas
+pub mod ExchangeWriteLemmas
+pub mod LineLemmas
+pub mod MergeLawLemmas
 pub mod ReadLemmas
 pub mod RunLemmas
 pub mod RunsLemmas
@@ -7,3 +11,4 @@ pub mod ServedLemmas
 pub mod WordLemmas
 pub mod Examples
 pub mod UsageLemmas
+pub mod UserStayLemmas

@@ -1,19 +1,37 @@
 -- What is read for a command is read by a run.
-use Rattle.std.proofs.Common.{◌≡◌, inl, inr, ℕ, Bool, List, Result, Ok, Err, IsOk, refl}
+use Rattle.std.proofs.Common.{◌≡◌, inl, inr, ℕ, Bool, List, Result, Ok, Err, IsOk, refl, subst}
 use Rattle.gb_store.specs.Files.{Files}
 use Rattle.repo_steps.specs.declared.refusal.Stop.{Stop}
 use Rattle.repo_steps.specs.declared.refusal.Stop.TheVariants as stop
 use Rattle.words.specs.declared.edit.Edit.{Edit as Edits}
 use Rattle.words.specs.declared.edit.Edit.TheVariants.{New, OfBug, OfComment, UserEdit, UserNew, UserSet}
 use Rattle.repo_edit.specs.Reads.{ReadsFor}
-use Rattle.bug_run.specs.Printed.{Printed}
+use Rattle.bug_run.specs.Printed.{HasLines, Printed}
 use Rattle.bug_run.specs.Reads.{ReadsCommand}
 use Rattle.bug_run.specs.Run.{status_of, text_of}
 use Rattle.bug_run.specs.declared.status.Status.{Status}
 use Rattle.bug_run.specs.declared.status.Status.TheVariants as status
 use Rattle.bug_run.specs.Answer.{Answer}
+use Rattle.bug_run.specs.Exchanges.{ReadsExchange}
+use Rattle.words.specs.declared.pair.FolderPair.{FolderPair}
+use Rattle.words.specs.declared.words.PeerCommand.{PeerCommand}
+use Rattle.words.specs.declared.words.PeerCommand.TheVariants.{Fetch, Pull, Push}
 use Rattle.words.specs.declared.words.Command.{Command}
 use Rattle.words.specs.declared.words.Command.TheVariants.{Edit, Log, Show, Users}
+
+-- a status by which lines were answered is told of no failure
+pub never_lines : (s : Stop) → HasLines (status_of (Err s)) → ⊥
+never_lines stop.Memory (inl e) = cc e
+never_lines stop.Memory (inr (count, e)) = cc e
+never_lines stop.Disk (inl e) = cc e
+never_lines stop.Disk (inr (count, e)) = cc e
+never_lines (stop.Refused r) (inl e) = cc e
+never_lines (stop.Refused r) (inr (count, e)) = cc e
+
+-- nor of the output's, nor of memory
+pub other_status : (answer : Status) → HasLines answer → (answer ≡ status.OutFault → ⊥) × (answer ≡ status.Memory → ⊥)
+other_status answer (inl done) = ((λ e. cc (e, done)), (λ e. cc (e, done)))
+other_status answer (inr (count, some)) = ((λ e. cc (e, some)), (λ e. cc (e, some)))
 
 -- a run that is told as done answered a text
 pub done_was_ok : (tells takes_memory : Bool) (before after : List ℕ) (r : Result Answer Stop) (answer : Status)
@@ -27,6 +45,14 @@ done_was_ok tells takes_memory before after (Err s) answer (inl (is, all)) done 
     each (stop.Refused r) e = cc (e, done)
 done_was_ok tells takes_memory before after (Err s) answer (inr (inl (fault, front))) done = absurd (cc (fault, done))
 done_was_ok tells takes_memory before after (Err s) answer (inr (inr (memory, front))) done = absurd (cc (memory, done))
+
+-- a run by which lines were answered answered a text
+pub lines_were_ok : (tells takes_memory : Bool) (before after : List ℕ) (r : Result Answer Stop) (answer : Status)
+    → Printed tells takes_memory (text_of r) (status_of r) before after answer → HasLines answer → IsOk r
+lines_were_ok tells takes_memory before after (Ok said) answer printed has = refl
+lines_were_ok tells takes_memory before after (Err s) answer (inl (is, all)) has = absurd (never_lines s (subst HasLines is has))
+lines_were_ok tells takes_memory before after (Err s) answer (inr (inl (fault, front))) has = absurd ((other_status answer has).0 fault)
+lines_were_ok tells takes_memory before after (Err s) answer (inr (inr (memory, front))) has = absurd ((other_status answer has).1 memory)
 
 -- what is read by what was done is read by less
 edit_narrower : (files : Files) (folder : List ℕ) (edit : Edits) (P Q : Type 0) (before after : ℕ) → (Q → P) → ReadsFor files folder edit P before after → ReadsFor files folder edit Q before after
@@ -43,3 +69,9 @@ command_narrower files folder Users P Q before after less reads = reads
 command_narrower files folder (Show bug) P Q before after less reads = reads
 command_narrower files folder (Log bug) P Q before after less reads = reads
 command_narrower files folder (Edit edit) P Q before after less reads = edit_narrower files folder edit P Q before after less reads
+
+pub exchange_narrower : (command : PeerCommand) (pair : FolderPair) (files : Files) (P Q : Type 0) (before after : ℕ) → (Q → P)
+    → ReadsExchange command pair files P before after → ReadsExchange command pair files Q before after
+exchange_narrower (Fetch remote) pair files P Q before after less reads = λ q. reads (less q)
+exchange_narrower (Pull remote) pair files P Q before after less reads = λ q. reads (less q)
+exchange_narrower Push pair files P Q before after less reads = λ q. reads (less q)

@@ -1,9 +1,10 @@
--- What a run writes: it is of the command that its words ask for, and keeps the folder sound in which that writes.
-use Rattle.std.proofs.Common.{◌≡◌, inl, inr, ◌⊎◌, ℕ, IsTrue, List, ◌++◌, Result, Ok, Err, refl, sym, ◌∙◌, ap, subst}
+-- What a run writes: it is of what its arguments ask for, and keeps the folders sound that they name.
+use Rattle.std.proofs.Common.{ℕ, IsTrue, List, ◌++◌, Result, Ok, Err}
 use Rattle.gb_store.specs.Files.{History, files_of}
 use Rattle.gb_store.specs.Moments.{Wrote, WroteBy, at_moment}
 use Rattle.gb_store.specs.declared.store.Change.{Change}
 use Rattle.gb_store.proofs.MomentLemmas.{WroteBy-none, WroteBy-wider}
+use Rattle.bug_edits.specs.declared.moment.Moment.{Moment}
 use Rattle.repo_steps.specs.declared.env.Env.{Env}
 use Rattle.repo_steps.specs.declared.refusal.Stop.{Stop}
 use Rattle.repo_writes.specs.Kinds.{IsWrite}
@@ -11,8 +12,7 @@ use Rattle.words.specs.declared.edit.Edit.{Edit as Edits}
 use Rattle.repo_steps.specs.Writes.{IsWriteOf}
 use Rattle.repo_steps.proofs.WriteOfLemmas.{answers_wrote_of}
 use Rattle.repo_writes.proofs.SoundLemmas.{keeps_parts, keeps_sound}
-use Rattle.bug_run.specs.Asked.{AsksIn, Folders, folders_of, written_in}
-use Rattle.bug_run.specs.Run.{AskedAnswers, Call, CommandAnswers, CommandWrites, EditTells, RequestAnswers, RunAnswers, RunStaysSound, RunWrites, env_at}
+use Rattle.bug_run.specs.Run.{AskedAnswers, AskedWrites, Call, CommandAnswers, CommandWrites, EditTells, RunAnswers, RunStaysSound, RunWrites, env_at}
 use Rattle.bug_run.specs.Answer.{Answer}
 use Rattle.bug_run.specs.declared.status.Status.{Status}
 use Rattle.words.specs.declared.words.Asked.{Asked}
@@ -20,6 +20,8 @@ use Rattle.words.specs.declared.words.Asked.TheVariants as asked
 use Rattle.words.specs.declared.words.Command.{Command}
 use Rattle.words.specs.declared.words.Command.TheVariants.{Edit, Log, Show, Users}
 use Rattle.words.specs.declared.words.Request.{Request}
+use Rattle.bug_run.proofs.ExchangeLemmas.{exchange_stays_sound}
+use Rattle.bug_run.proofs.ExchangeWriteLemmas.{exchange_wrote, in_time, merge_told_wrote}
 
 edit_wrote : (env : Env) (edit : Edits) (old new : History) (result : Result Answer Stop) → EditTells env edit old new result → WroteBy (IsWriteOf env edit) old new
 edit_wrote env edit old new (Ok said) is = answers_wrote_of env edit old new (Ok is.0) is.1
@@ -31,39 +33,20 @@ command_wrote env (Show bug) old new result is = WroteBy-none (CommandWrites env
 command_wrote env (Log bug) old new result is = WroteBy-none (CommandWrites env (Log bug)) old new is.1
 command_wrote env (Edit edit) old new result is = edit_wrote env edit old new result is
 
-module _ (call : Call) where
-  -- what a request writes is its command's in its folder
-  request_wrote : (request : Request) (old new : History) (result : Result Answer Stop) → call.asked ≡ asked.Request request → IsTrue call.store_tells
-      → RequestAnswers call.store_tells request call.moment old new result → WroteBy (RunWrites call) old new
-  request_wrote request old new result asks tells answers =
-      WroteBy-wider (CommandWrites (env_at call.moment request.folder) request.command) (RunWrites call) old new
-      (λ (earlier : List Change) (change : Change) write. (folders_of request, record { request = request; is_asked = asks; are_folders = refl }, write))
-      (command_wrote (env_at call.moment request.folder) request.command old new result (answers tells))
+-- whatever a run answers, each of its writes is of what its arguments ask for
+asked_wrote : (asks : Asked) (call : Call) (old new : History) (before after : List ℕ) (answer : Status) → IsTrue call.store_tells
+    → AskedAnswers asks call old new before after answer → WroteBy (AskedWrites asks call.moment) old new
+asked_wrote asked.Nothing call old new before after answer tells is = WroteBy-none (AskedWrites asked.Nothing call.moment) old new (is.0 tells)
+asked_wrote (asked.Refused bad) call old new before after answer tells is = WroteBy-none (AskedWrites (asked.Refused bad) call.moment) old new (is.0 tells)
+asked_wrote (asked.Request request) call old new before after answer tells is =
+    command_wrote (env_at call.moment request.folder) request.command old new is.0 (is.1 tells)
+asked_wrote (asked.Exchange request) call old new before after answer tells is =
+    exchange_wrote request.command request.pair call.moment.now (in_time call.moment) old new is.0 (is.1 tells)
+asked_wrote (asked.Merge request) call old new before after answer tells is = merge_told_wrote request call.moment.now (in_time call.moment) old new is.0 (is.1 tells)
 
-  -- whatever a run answers, each of its writes is of the command that its arguments ask for
-  pub run_wrote : (old new : History) (before after : List ℕ) (answer : Status) → IsTrue call.store_tells → RunAnswers call old new before after answer → WroteBy (RunWrites call) old new
-  run_wrote old new before after answer tells is = each call.asked refl is
-    where
-      each : (asks : Asked) → call.asked ≡ asks → AskedAnswers asks call old new before after answer → WroteBy (RunWrites call) old new
-      each asked.Nothing e h = WroteBy-none (RunWrites call) old new (h.0 tells)
-      each (asked.Refused bad) e h = WroteBy-none (RunWrites call) old new (h.0 tells)
-      each (asked.Request request) e h = request_wrote request old new h.0 e tells h.1
-
--- arguments ask for one thing
-same_request : (one two : Request) → asked.Request one ≡ asked.Request two → one ≡ two
-same_request one two is = cc is
-
--- arguments ask in one place alone
-asks_one : (asks : Asked) (one two : Folders) (first : AsksIn asks one) (second : AsksIn asks two) → written_in first.request.command one ≡ written_in second.request.command two
-asks_one asks one two first second =
-    let same = same_request first.request second.request (sym first.is_asked ∙ second.is_asked) in
-    ap (λ (at : Folders). at.own) (first.are_folders ∙ ap folders_of same ∙ sym second.are_folders)
-
--- arguments ask for something in some folders, or in none
-pub request_asks : (asks : Asked) → ((at : Folders) × AsksIn asks at) ⊎ ((at : Folders) → AsksIn asks at → ⊥)
-request_asks asked.Nothing = inr (λ at asks. cc (asks.is_asked))
-request_asks (asked.Refused bad) = inr (λ at asks. cc (asks.is_asked))
-request_asks (asked.Request request) = inl (folders_of request, record { request = request; is_asked = refl; are_folders = refl })
+pub run_wrote : (call : Call) (old new : History) (before after : List ℕ) (answer : Status) → IsTrue call.store_tells → RunAnswers call old new before after answer
+    → WroteBy (RunWrites call) old new
+run_wrote call old new before after answer tells is = asked_wrote call.asked call old new before after answer tells is
 
 -- a write of a command is of a kind in its folder
 write_kind : (env : Env) (command : Command) (entry : History) (earlier : List Change) (change : Change) → CommandWrites env command entry earlier change
@@ -73,24 +56,23 @@ write_kind env (Show bug) entry earlier change none = absurd none
 write_kind env (Log bug) entry earlier change none = absurd none
 write_kind env (Edit edit) entry earlier change write = write.kind
 
--- where words ask in none, nothing is written
-pub nowhere : (call : Call) (folder : List ℕ) (old new : History) → ((at : Folders) → AsksIn call.asked at → ⊥) → WroteBy (RunWrites call) old new
-    → Wrote (IsWrite folder) old new
-nowhere call folder old new none wrote =
-    WroteBy-wider (RunWrites call) (at_moment (IsWrite folder)) old new (λ (earlier : List Change) (change : Change) write. absurd (none write.0 write.1)) wrote
+-- so all that is written for a request is
+pub of_kinds : (request : Request) (moment : Moment) (old new : History) → WroteBy (AskedWrites (asked.Request request) moment) old new → Wrote (IsWrite request.folder) old new
+of_kinds request moment old new wrote =
+    WroteBy-wider (AskedWrites (asked.Request request) moment) (at_moment (IsWrite request.folder)) old new
+    (λ (earlier : List Change) (change : Change) write. write_kind (env_at moment request.folder) request.command old earlier change write) wrote
 
--- what is written where words ask is of a kind there
-pub in_folder : (call : Call) (at : Folders) (asks : AsksIn call.asked at) (old new : History) → WroteBy (RunWrites call) old new
-    → Wrote (IsWrite (written_in asks.request.command at)) old new
-in_folder call at asks old new wrote =
-    WroteBy-wider (RunWrites call) (at_moment (IsWrite (written_in asks.request.command at))) old new
-    (λ (earlier : List Change) (change : Change) write.
-    subst (λ (f : List ℕ). IsWrite f (files_of (earlier ++ old)) change) (asks_one call.asked write.0 at write.1 asks)
-    (write_kind (env_at call.moment (written_in write.1.request.command write.0)) write.1.request.command old earlier change write.2)) wrote
+-- what is written keeps the folders sound that arguments name
+asked_stays_sound : (asks : Asked) (moment : Moment) (old new : History) → WroteBy (AskedWrites asks moment) old new → RunStaysSound asks old new
+asked_stays_sound asked.Nothing moment old new wrote = tt
+asked_stays_sound (asked.Refused bad) moment old new wrote = tt
+asked_stays_sound (asked.Request request) moment old new wrote =
+    let kept = keeps_parts request.folder old new (of_kinds request moment old new wrote) in
+    record { parts = kept; whole = keeps_sound request.folder old new kept }
+asked_stays_sound (asked.Exchange request) moment old new wrote = exchange_stays_sound request.command request.pair old new wrote
+asked_stays_sound (asked.Merge request) moment old new wrote =
+    let kept = keeps_parts request.folder old new wrote in
+    record { parts = kept; whole = keeps_sound request.folder old new kept }
 
--- what a run writes keeps the folder sound in which it writes
 pub run_stays_sound : (call : Call) (old new : History) → WroteBy (RunWrites call) old new → RunStaysSound call.asked old new
-run_stays_sound call old new wrote = λ at asks.
-    let folder = written_in asks.request.command at in
-    let kept = keeps_parts folder old new (in_folder call at asks old new wrote) in
-    record { parts = kept; whole = keeps_sound folder old new kept }
+run_stays_sound call old new wrote = asked_stays_sound call.asked call.moment old new wrote

@@ -5,7 +5,7 @@ use Rattle.repo_steps.specs.declared.refusal.Stop.{Stop}
 use Rattle.repo_steps.specs.declared.refusal.Stop.TheVariants as stop
 use Rattle.bug_run.specs.Printed.{IsTold, Printed}
 use Rattle.bug_run.specs.Refusals.{refusal_line, usage_text}
-use Rattle.bug_run.specs.Run.{AskedAnswers, Call, PrintedAnswer, RequestAnswers, RunAnswers, status_for, status_of}
+use Rattle.bug_run.specs.Run.{AskedAnswers, Call, MergeRequestAnswers, PeerRequestAnswers, PrintedAnswer, RequestAnswers, RunAnswers, status_for, status_of}
 use Rattle.bug_run.specs.Answer.{Answer}
 use Rattle.bug_run.specs.declared.status.Status.{Status}
 use Rattle.bug_run.specs.declared.status.Status.TheVariants as status
@@ -13,6 +13,8 @@ use Rattle.bug_run.specs.declared.status.Refused.TheVariants.{ByWords}
 use Rattle.words.specs.declared.words.Asked.{Asked}
 use Rattle.words.specs.declared.words.Asked.TheVariants as asked
 use Rattle.words.specs.declared.words.BadWord.{BadWord}
+use Rattle.words.specs.declared.words.MergeRequest.{MergeRequest}
+use Rattle.words.specs.declared.words.PeerRequest.{PeerRequest}
 use Rattle.words.specs.declared.words.Request.{Request}
 
 -- what was printed of a text tells its status
@@ -57,6 +59,12 @@ usage_only call old new before after is = each call.asked is
     each (asked.Request request) (result, done, inl printed) = absurd ((never_by_words result).0 (sym printed.0))
     each (asked.Request request) (result, done, inr (inl (fault, front))) = absurd (cc (fault))
     each (asked.Request request) (result, done, inr (inr (memory, front))) = absurd (cc (memory))
+    each (asked.Exchange request) (result, done, inl printed) = absurd ((never_by_words result).0 (sym printed.0))
+    each (asked.Exchange request) (result, done, inr (inl (fault, front))) = absurd (cc (fault))
+    each (asked.Exchange request) (result, done, inr (inr (memory, front))) = absurd (cc (memory))
+    each (asked.Merge request) (result, done, inl printed) = absurd ((never_by_words result).0 (sym printed.0))
+    each (asked.Merge request) (result, done, inr (inl (fault, front))) = absurd (cc (fault))
+    each (asked.Merge request) (result, done, inr (inr (memory, front))) = absurd (cc (memory))
 
 pub refusal_only : (call : Call) (old new : History) (before after : List ℕ) (bad : BadWord) → RunAnswers call old new before after (status.Refused (ByWords bad))
     → call.asked ≡ asked.Refused bad
@@ -72,6 +80,12 @@ refusal_only call old new before after bad is = each call.asked is
     each (asked.Request request) (result, done, inl printed) = absurd ((never_by_words result).1 bad (sym printed.0))
     each (asked.Request request) (result, done, inr (inl (fault, front))) = absurd (cc (fault))
     each (asked.Request request) (result, done, inr (inr (memory, front))) = absurd (cc (memory))
+    each (asked.Exchange request) (result, done, inl printed) = absurd ((never_by_words result).1 bad (sym printed.0))
+    each (asked.Exchange request) (result, done, inr (inl (fault, front))) = absurd (cc (fault))
+    each (asked.Exchange request) (result, done, inr (inr (memory, front))) = absurd (cc (memory))
+    each (asked.Merge request) (result, done, inl printed) = absurd ((never_by_words result).1 bad (sym printed.0))
+    each (asked.Merge request) (result, done, inr (inl (fault, front))) = absurd (cc (fault))
+    each (asked.Merge request) (result, done, inr (inr (memory, front))) = absurd (cc (memory))
 
 -- ---- arguments that ask for something
 
@@ -85,4 +99,28 @@ pub answered : (call : Call) (request : Request) (old new : History) (before aft
     → RunAnswers call old new before after answer → Answered call request old new before after answer
 answered call request old new before after answer asks is =
     let some : AskedAnswers (asked.Request request) call old new before after answer = subst (λ (a : Asked). AskedAnswers a call old new before after answer) asks is in
+    record { result = some.0; done = some.1; printed = some.2 }
+
+-- the same of arguments that ask for an exchange
+pub record Exchanged (call : Call) (request : PeerRequest) (old new : History) (before after : List ℕ) (answer : Status) : Type 0 where
+  pub result : Result Answer Stop
+  pub done : PeerRequestAnswers call.store_tells request call.moment old new result
+  pub printed : PrintedAnswer call result before after answer
+
+pub exchanged : (call : Call) (request : PeerRequest) (old new : History) (before after : List ℕ) (answer : Status) → call.asked ≡ asked.Exchange request
+    → RunAnswers call old new before after answer → Exchanged call request old new before after answer
+exchanged call request old new before after answer asks is =
+    let some : AskedAnswers (asked.Exchange request) call old new before after answer = subst (λ (a : Asked). AskedAnswers a call old new before after answer) asks is in
+    record { result = some.0; done = some.1; printed = some.2 }
+
+-- and of those that ask for a merge
+pub record Merged (call : Call) (request : MergeRequest) (old new : History) (before after : List ℕ) (answer : Status) : Type 0 where
+  pub result : Result Answer Stop
+  pub done : MergeRequestAnswers call.store_tells request call.moment old new result
+  pub printed : PrintedAnswer call result before after answer
+
+pub merged : (call : Call) (request : MergeRequest) (old new : History) (before after : List ℕ) (answer : Status) → call.asked ≡ asked.Merge request
+    → RunAnswers call old new before after answer → Merged call request old new before after answer
+merged call request old new before after answer asks is =
+    let some : AskedAnswers (asked.Merge request) call old new before after answer = subst (λ (a : Asked). AskedAnswers a call old new before after answer) asks is in
     record { result = some.0; done = some.1; printed = some.2 }

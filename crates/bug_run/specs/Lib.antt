@@ -1,6 +1,7 @@
 pub mod Alike
 pub mod Answer
-pub mod Asked
+pub mod Exchanges
+pub mod Merged
 pub mod Moments
 pub mod Printed
 pub mod Reads

@@ -1,5 +1,6 @@
 -- What is printed of a text, and how that ends.
 use Rattle.std.specs.Prelude.{◌≡◌, ◌<◌, ◌⊎◌, ℕ, Bool, IsTrue, List, ◌++◌, length, take}
+use Rattle.bug_run.specs.declared.status.Refused.TheVariants.{SomeLines}
 use Rattle.bug_run.specs.declared.status.Status.{Status}
 use Rattle.bug_run.specs.declared.status.Status.TheVariants as status
 
@@ -23,3 +24,7 @@ Printed tells takes_memory text told old new answer =
     ((answer ≡ told) × (IsTrue tells → new ≡ old ++ text))
     ⊎ (((answer ≡ status.OutFault) × PrintedFront tells text old new)
     ⊎ ((answer ≡ status.Memory) × RanOut tells takes_memory text old new))
+
+-- lines were answered and printed: none of them tells a refusal, or so many do
+abbrev pub HasLines : Status → Type 0
+HasLines answer = (answer ≡ status.Done) ⊎ ((count : ℕ) × (answer ≡ status.Refused (SomeLines count)))

@@ -1,5 +1,5 @@
 -- How many objects a run reads.
-use Rattle.std.specs.Prelude.{◌≡◌, ◌⊎◌, ⊤, ℕ, List, [], ◌∷◌, Contains}
+use Rattle.std.specs.Prelude.{◌≡◌, ⊤, ℕ, List, [], ◌∷◌, Contains}
 use Rattle.gb_text.specs.declared.id.Name.{Name}
 use Rattle.gb_store.specs.Files.{Files}
 use Rattle.object_store.specs.Held.{objects_in}
@@ -10,10 +10,11 @@ use Rattle.repo_state.specs.declared.side.HeadEntry.{HeadEntry}
 use Rattle.repo_edit.specs.Reads.{ReadsFor}
 use Rattle.repo_view.specs.Log.{ReadsLog}
 use Rattle.repo_view.specs.Shown.{ReadsShow}
-use Rattle.bug_run.specs.Asked.{AsksIn, Folders, written_in}
+use Rattle.bug_run.specs.Exchanges.{ReadsExchange, ReadsMerge}
 use Rattle.words.specs.declared.words.Command.{Command}
 use Rattle.words.specs.declared.words.Command.TheVariants.{Edit, Log, Show, Users}
 use Rattle.words.specs.declared.words.Asked.{Asked}
+use Rattle.words.specs.declared.words.Asked.TheVariants as asked
 
 -- of a command, those of the one call that it makes, by whether it was done
 abbrev pub ReadsCommand : Files → List ℕ → Command → Type 0 → ℕ → ℕ → Type 0
@@ -22,10 +23,13 @@ ReadsCommand files folder (Show bug) IsDone before after = ReadsShow files folde
 ReadsCommand files folder (Log bug) IsDone before after = ReadsLog files folder bug before after
 ReadsCommand files folder (Edit edit) IsDone before after = ReadsFor files folder edit IsDone before after
 
--- of words that ask this, or nothing: none, or those of the command in the folder in which it writes
-abbrev pub ReadsAsked : Asked → Files → Type 0 → ℕ → ℕ → Type 0
-ReadsAsked asked files IsDone before after =
-    (after ≡ before) ⊎ ((at : Folders) × (asks : AsksIn asked at) × ReadsCommand files (written_in asks.request.command at) asks.request.command IsDone before after)
+-- of what arguments ask, by whether it was done and whether lines were answered: none, or those of the command in its folder
+abbrev pub ReadsAsked : Asked → Files → Type 0 → Type 0 → ℕ → ℕ → Type 0
+ReadsAsked asked.Nothing files IsDone HasLines before after = after ≡ before
+ReadsAsked (asked.Refused bad) files IsDone HasLines before after = after ≡ before
+ReadsAsked (asked.Request request) files IsDone HasLines before after = ReadsCommand files request.folder request.command IsDone before after
+ReadsAsked (asked.Exchange request) files IsDone HasLines before after = ReadsExchange request.command request.pair files HasLines before after
+ReadsAsked (asked.Merge request) files IsDone HasLines before after = ReadsMerge request files before after
 
 -- for each of these bugs commits below its head, each once
 abbrev pub AreBelowEach : Files → List ℕ → List HeadEntry → List (List Name) → Type 0

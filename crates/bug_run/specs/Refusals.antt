@@ -6,11 +6,13 @@ use Rattle.repo_steps.specs.declared.refusal.Refusal.{Refusal}
 use Rattle.repo_steps.specs.declared.refusal.Refusal.TheVariants.{NoUser, NotFound, Ambiguous, NoLabelChange, SameStatus, ClockFull, RepeatedOperation, EntityExists, NameTaken, TooLarge, Damaged}
 use Rattle.bug_run.specs.declared.status.Refused.{Refused}
 use Rattle.bug_run.specs.declared.status.Refused.TheVariants.{ByCommand, ByWords, SomeLines}
-use Rattle.words.specs.declared.words.BadWord.TheVariants.{BadFolder, BadText}
+use Rattle.words.specs.declared.words.BadWord.TheVariants.{BadFolder, BadRemoteName, BadText, SameFolder}
 
 -- the number of a refusal
 abbrev pub number_of : Refused → ℕ
 number_of (ByWords (BadText place)) = 4
+number_of (ByWords SameFolder) = 11
+number_of (ByWords BadRemoteName) = 12
 number_of (ByCommand refusal) = command_number refusal
 number_of (SomeLines count) = 15
 number_of (ByWords BadFolder) = 17
@@ -33,6 +35,8 @@ refusal_words (Damaged path) = codes "damaged " ++ path
 abbrev pub words_of : Refused → List ℕ
 words_of (ByWords BadFolder) = codes "bad folder"
 words_of (ByWords (BadText place)) = codes "bad text " ++ decimal place
+words_of (ByWords SameFolder) = codes "same folder"
+words_of (ByWords BadRemoteName) = codes "bad remote name"
 words_of (ByCommand refusal) = refusal_words refusal
 words_of (SomeLines count) = codes "some refused " ++ decimal count
 

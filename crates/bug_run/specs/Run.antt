@@ -1,11 +1,9 @@
 -- What a run of the program answers and prints, and what it writes.
-use Rattle.std.specs.Prelude.{◌≡◌, ⊤, ℕ, zero, suc, Bool, IsTrue, List, [], Result, Ok, Err}
+use Rattle.std.specs.Prelude.{◌≡◌, ◌++◌, ⊤, ℕ, zero, suc, Bool, IsTrue, List, [], Result, Ok, Err}
 use Rattle.gb_text.specs.declared.id.Id.{Id}
 use Rattle.gb_store.specs.Files.{History, files_of}
-use Rattle.gb_store.specs.Moments.{AllMoments}
 use Rattle.gb_store.specs.declared.store.Change.{Change}
 use Rattle.bug_edits.specs.declared.moment.Moment.{Moment}
-use Rattle.repo_state.specs.Sound.{IsSound, KeepsParts}
 use Rattle.repo_state.specs.Users.{id_line}
 use Rattle.repo_state.specs.declared.stop.FindStop.{FindStop}
 use Rattle.repo_state.specs.declared.stop.FindStop.TheVariants as find
@@ -20,9 +18,10 @@ use Rattle.repo_steps.specs.declared.env.Env.{Env}
 use Rattle.repo_steps.specs.declared.refusal.Refusal.TheVariants as refusal
 use Rattle.repo_steps.specs.declared.refusal.Stop.{Stop}
 use Rattle.repo_steps.specs.declared.refusal.Stop.TheVariants as stop
+use Rattle.repo_writes.specs.Kinds.{IsWrite}
 use Rattle.repo_view.specs.Log.{LogAnswers}
 use Rattle.repo_view.specs.Shown.{ShowAnswers, UsersAnswers}
-use Rattle.bug_run.specs.Asked.{AsksIn, Folders, written_in}
+use Rattle.bug_run.specs.Exchanges.{ExchangeAnswers, ExchangeStaysSound, ExchangeWrites, MergeTold, StaysSound}
 use Rattle.bug_run.specs.Printed.{Printed}
 use Rattle.bug_run.specs.Refusals.{refusal_line, usage_text}
 use Rattle.bug_run.specs.Answer.{Answer}
@@ -34,6 +33,8 @@ use Rattle.words.specs.declared.words.Asked.{Asked}
 use Rattle.words.specs.declared.words.Asked.TheVariants as asked
 use Rattle.words.specs.declared.words.Command.{Command}
 use Rattle.words.specs.declared.words.Command.TheVariants.{Edit, Log, Show, Users}
+use Rattle.words.specs.declared.words.MergeRequest.{MergeRequest}
+use Rattle.words.specs.declared.words.PeerRequest.{PeerRequest}
 use Rattle.words.specs.declared.words.Request.{Request}
 
 -- What stays the same in a run: whether the store shows its files and the sink what was written to it, whether the sink may
@@ -86,6 +87,13 @@ env_at moment folder = record { folder = folder; moment = moment }
 abbrev pub RequestAnswers : Bool → Request → Moment → History → History → Result Answer Stop → Type 0
 RequestAnswers tells request moment old new result = IsTrue tells → CommandAnswers (env_at moment request.folder) request.command old new result
 
+-- and to a command with a peer, and to a merge
+abbrev pub PeerRequestAnswers : Bool → PeerRequest → Moment → History → History → Result Answer Stop → Type 0
+PeerRequestAnswers tells request moment old new result = IsTrue tells → ExchangeAnswers request.command request.pair moment.now old new result
+
+abbrev pub MergeRequestAnswers : Bool → MergeRequest → Moment → History → History → Result Answer Stop → Type 0
+MergeRequestAnswers tells request moment old new result = IsTrue tells → MergeTold request moment.now old new result
+
 -- the status of a command that was done, by the number of its lines that are refusals
 abbrev pub status_for : ℕ → Status
 status_for zero = status.Done
@@ -121,6 +129,12 @@ AskedAnswers (asked.Refused bad) call old new before after answer =
 AskedAnswers (asked.Request request) call old new before after answer =
     (result : Result Answer Stop) × RequestAnswers call.store_tells request call.moment old new result
     × PrintedAnswer call result before after answer
+AskedAnswers (asked.Exchange request) call old new before after answer =
+    (result : Result Answer Stop) × PeerRequestAnswers call.store_tells request call.moment old new result
+    × PrintedAnswer call result before after answer
+AskedAnswers (asked.Merge request) call old new before after answer =
+    (result : Result Answer Stop) × MergeRequestAnswers call.store_tells request call.moment old new result
+    × PrintedAnswer call result before after answer
 
 -- What a run answers, writes and prints.
 abbrev pub RunAnswers : Call → History → History → List ℕ → List ℕ → Status → Type 0
@@ -134,17 +148,21 @@ abbrev pub CommandWrites : Env → Command → History → List Change → Chang
 CommandWrites env (Edit edit) entry earlier change = IsWriteOf env edit entry earlier change
 CommandWrites env _ entry earlier change = ⊥
 
--- the writes that a run may make: those of the command that its words ask for, in the folder in which that writes
+-- the writes that a run may make: those of what its arguments ask for
+abbrev pub AskedWrites : Asked → Moment → History → List Change → Change → Type 0
+AskedWrites asked.Nothing moment entry earlier change = ⊥
+AskedWrites (asked.Refused bad) moment entry earlier change = ⊥
+AskedWrites (asked.Request request) moment entry earlier change = CommandWrites (env_at moment request.folder) request.command entry earlier change
+AskedWrites (asked.Exchange request) moment entry earlier change = ExchangeWrites request.command request.pair entry earlier change
+AskedWrites (asked.Merge request) moment entry earlier change = IsWrite request.folder (files_of (earlier ++ entry)) change
+
 abbrev pub RunWrites : Call → History → List Change → Change → Type 0
-RunWrites call entry earlier change =
-    (at : Folders) × (asks : AsksIn call.asked at)
-    × CommandWrites (env_at call.moment (written_in asks.request.command at)) asks.request.command entry earlier change
+RunWrites call entry earlier change = AskedWrites call.asked call.moment entry earlier change
 
--- a folder keeps each part that was sound, at each moment; and a sound folder is sound at each
-pub record StaysSound (folder : List ℕ) (old new : History) : Type 0 where
-  pub parts : KeepsParts folder old new
-  pub whole : IsSound folder (files_of old) → AllMoments (IsSound folder) old new
-
--- so does the folder in which a command writes that words ask for
+-- the folders that arguments name stay sound
 abbrev pub RunStaysSound : Asked → History → History → Type 0
-RunStaysSound asked old new = (at : Folders) → (asks : AsksIn asked at) → StaysSound (written_in asks.request.command at) old new
+RunStaysSound asked.Nothing old new = ⊤
+RunStaysSound (asked.Refused bad) old new = ⊤
+RunStaysSound (asked.Request request) old new = StaysSound request.folder old new
+RunStaysSound (asked.Exchange request) old new = ExchangeStaysSound request.command request.pair old new
+RunStaysSound (asked.Merge request) old new = StaysSound request.folder old new

@@ -1,6 +1,7 @@
 //! What a command answers where it is done.
-ghost use Rattle.std.specs.Prelude.{◌≡◌};
+ghost use Rattle.std.specs.Prelude.{◌≡◌, IfOk};
 ghost use Rattle.gb_store.specs.Faults.{KeepsFaults};
+ghost use Rattle.bug_run.specs.Exchanges.{answer_of, answer_of_merge, answer_of_pull};
 ghost use Rattle.bug_run.specs.Printed.{Printed};
 ghost use Rattle.bug_run.specs.Run.{status_for};
 ghost use Rattle.repo_state.specs.Users.{id_line};
@@ -8,9 +9,11 @@ ghost use Rattle.repo_state.specs.Users.{id_line};
 use crate::print::print;
 use crate::status::{Refused, Status};
 use gb_store::Sink;
-use gb_text::{Id, Text};
+use gb_text::{Id, Memory, Text};
+use merge_steps::{MergeLine, Pulled};
 use std::alloc::Global;
 use std::marker::Model;
+use sync_steps::{Line, count_refused, lines_text};
 
 /// What a command answers where it is done: the text that it prints, and how many of its lines are
 /// refusals.
@@ -44,6 +47,44 @@ impl Answer {
             source: Source::Text(text),
             refused: 0,
         }
+    }
+
+    /// The lines of an exchange, of which some may be refusals.
+    pub fn lines(alloc: Global, lines: &[Line]) -> Result<Answer, Memory>
+        ensures { IfOk result (λ answer. answer ≡ answer_of lines.now) }
+    {
+        Ok(Answer {
+            source: Source::Text(lines_text(alloc, lines)?),
+            refused: count_refused(lines),
+        })
+    }
+
+    /// The lines of a merge, of which some may be refusals.
+    pub fn merged(alloc: Global, lines: &[MergeLine]) -> Result<Answer, Memory>
+        ensures { IfOk result (λ answer. answer ≡ answer_of_merge lines.now) }
+    {
+        Ok(Answer {
+            source: Source::Text(merge_steps::lines_text(alloc, lines)?),
+            refused: merge_steps::count_refused(lines),
+        })
+    }
+
+    /// The lines of a pull: those of its fetch, and then those of its merge.
+    pub fn pulled(alloc: Global, pulled: &Pulled) -> Result<Answer, Memory>
+        ensures { IfOk result (λ answer. answer ≡ answer_of_pull pulled.now) }
+    {
+        let fetched = pulled.fetched.as_slice();
+        let merged = pulled.merged.as_slice();
+        let refused = count_refused(fetched)
+            .checked_add(merge_steps::count_refused(merged))
+            .ok_or(Memory)?;
+        let mut text = String::new(alloc);
+        text.push_str(lines_text(alloc, fetched)?.as_str())?;
+        text.push_str(merge_steps::lines_text(alloc, merged)?.as_str())?;
+        Ok(Answer {
+            source: Source::Text(Text::from_string(text)),
+            refused,
+        })
     }
 
     /// The line of an id.

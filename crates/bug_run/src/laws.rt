@@ -21,7 +21,7 @@ ghost use Rattle.bug_run.specs.Alike.{FindsAlike, FindsCommentAlike};
 ghost use Rattle.bug_run.specs.Printed.{IsTold};
 ghost use Rattle.bug_run.specs.Reads.{ReadsCommand};
 ghost use Rattle.bug_run.specs.Run.{Call, CommandAnswers, RunAnswers, env_at};
-ghost use Rattle.bug_run.specs.Runs.{AreApart, Runs};
+ghost use Rattle.bug_run.specs.Runs.{AreAllSound, AreApart, Runs};
 ghost use Rattle.bug_run.specs.Served.{HasCause, ShowsOperations};
 ghost use Rattle.bug_run.specs.Answer.{Answer};
 ghost use Rattle.bug_run.specs.declared.status.Refused.TheVariants as refused;
@@ -33,13 +33,14 @@ ghost use Rattle.words.specs.declared.words.Command.{Command};
 ghost use Rattle.words.specs.declared.words.Command.TheVariants as ask;
 ghost use Rattle.words.specs.declared.words.Request.{Request};
 
-/// Whatever is run over folders of which no two overlap, by whatever words, and wherever each run
-/// stops: each of them that is sound stays sound, no object is lost, everything below the head of an
-/// identity or of a bug stays below it, and no clock falls.
+/// Whatever is run over folders of which no two overlap, by whatever arguments, and wherever each run
+/// stops: sound folders stay sound, if each push into one of them is from one of them. No object of such a
+/// folder is lost, everything below the head of an identity or of a bug stays below it, and no clock falls,
+/// sound or not.
 pub fn runs_keep_folders()
     ensures sound { (folders : List (List ℕ)) (old new : History) → AreApart folders
-        → Runs folders old new → (folder : List ℕ) → Contains folders folder
-        → IsSound folder (files_of old) → IsSound folder (files_of new) }
+        → Runs folders old new → AreAllSound folders (files_of old)
+        → AreAllSound folders (files_of new) }
     ensures kept { (folders : List (List ℕ)) (old new : History) → AreApart folders
         → Runs folders old new → (folder : List ℕ) → Contains folders folder
         → LosesNothing folder (files_of old) (files_of new) }
@@ -48,7 +49,7 @@ pub fn runs_keep_folders()
 /// Where there were no files at all, each of these folders is sound whatever was run.
 pub fn runs_from_nothing_are_sound()
     ensures { (folders : List (List ℕ)) (new : History) → AreApart folders → Runs folders [] new
-        → (folder : List ℕ) → Contains folders folder → IsSound folder (files_of new) }
+        → AreAllSound folders (files_of new) }
 {}
 
 /// In a sound folder a command is done wherever nothing is a cause to refuse it, but where the store

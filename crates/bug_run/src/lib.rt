@@ -2,7 +2,10 @@
 #![tactic(auto)]
 
 mod answer;
+mod exchange;
+mod exchange_laws;
 mod laws;
+mod merge_laws;
 mod moment;
 mod print;
 mod refusal;
@@ -10,11 +13,15 @@ mod status;
 mod top;
 mod usage;
 
+pub use exchange_laws::{
+    exchanges_of_sound_folders_have_lines, exchanges_print_their_lines, failed_lines_are_cut_short,
+};
 pub use laws::{
     answers_are_determined, answers_depend_on_what_words_find, edits_read_few_objects,
     edits_tell_what_they_made, runs_from_nothing_are_sound, runs_keep_folders,
     show_prints_the_operations_in_order, sound_folders_are_served, words_decide_first,
 };
+pub use merge_laws::{merge_lines_are_joins, refused_merges_have_their_fault};
 pub use moment::moment_of;
 pub use status::{Refused, Status};
 pub use top::run;

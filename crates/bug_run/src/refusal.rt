@@ -29,6 +29,8 @@ fn number(refused: &Refused) -> u64
 {
     match refused {
         Refused::ByWords(BadWord::BadText(_)) => 4,
+        Refused::ByWords(BadWord::SameFolder) => 11,
+        Refused::ByWords(BadWord::BadRemoteName) => 12,
         Refused::ByCommand(refusal) => refusal.number(),
         Refused::SomeLines(_) => 15,
         Refused::ByWords(BadWord::BadFolder) => 17,
@@ -42,6 +44,8 @@ fn push_words(line: &mut String, refused: &Refused) -> Result<(), AllocError>
     match refused {
         Refused::ByWords(BadWord::BadFolder) => line.push_str("bad folder"),
         Refused::ByWords(BadWord::BadText(place)) => push_counted(line, "bad text ", *place),
+        Refused::ByWords(BadWord::SameFolder) => line.push_str("same folder"),
+        Refused::ByWords(BadWord::BadRemoteName) => line.push_str("bad remote name"),
         Refused::ByCommand(refusal) => push_refusal(line, refusal),
         Refused::SomeLines(count) => push_counted(line, "some refused ", *count),
     }

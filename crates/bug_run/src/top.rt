@@ -3,13 +3,14 @@ ghost use Rattle.std.specs.Prelude.{◌≡◌, ◌↔◌, IsTrue, IsErrOf, IsOk,
 ghost use Rattle.gb_store.specs.Faults.{KeepsFaults};
 ghost use Rattle.gb_store.specs.Files.{files_of};
 ghost use Rattle.gb_store.specs.Moments.{WroteByIf};
-ghost use Rattle.bug_run.specs.Printed.{Printed};
+ghost use Rattle.bug_run.specs.Printed.{HasLines, Printed};
 ghost use Rattle.bug_run.specs.Reads.{ReadsAsked, ReadsCommand};
 ghost use Rattle.bug_run.specs.Run.{CommandAnswers, RunAnswers, RunStaysSound, RunWrites, call_of, env_at, status_of, text_of};
 ghost use Rattle.bug_run.specs.Refusals.{refusal_line};
 ghost use Rattle.words.specs.Words.{asked_of};
 
 use crate::answer::Answer;
+use crate::exchange::{exchange, merge_tracked};
 use crate::print::print;
 use crate::refusal::refusal_line;
 use crate::status::{Refused, Status};
@@ -43,7 +44,7 @@ pub fn run<S: Store, K: Sink>(
     ensures sound { IsTrue S.tells → RunStaysSound (asked_of (map string_bytes words.now))
         (S.history disk.old) (S.history disk.new) }
     ensures reads { IsTrue S.tells → ReadsAsked (asked_of (map string_bytes words.now))
-        (files_of (S.history disk.old)) (result ≡ Status.Done)
+        (files_of (S.history disk.old)) (result ≡ Status.Done) (HasLines result)
         (S.object_reads disk.old) (S.object_reads disk.new) }
     ensures disk { KeepsFaults S.never_fails S.faults (result ≡ Status.DiskFault)
         disk.old disk.new }
@@ -55,6 +56,14 @@ pub fn run<S: Store, K: Sink>(
         Asked::Refused(bad) => print_refusal(alloc, out, Refused::ByWords(bad)),
         Asked::Request(request) => {
             let outcome = perform(alloc, disk, request, moment);
+            tell(alloc, out, outcome)
+        }
+        Asked::Exchange(request) => {
+            let outcome = exchange(alloc, disk, &request, moment.now);
+            tell(alloc, out, outcome)
+        }
+        Asked::Merge(request) => {
+            let outcome = merge_tracked(alloc, disk, &request, moment.now);
             tell(alloc, out, outcome)
         }
     }

@@ -1,5 +1,5 @@
 -- What commands ask for, and in which order arguments are judged.
-use Rattle.std.proofs.Common.{◌≡◌, ◌≤◌, ◌<◌, ◌∙◌, refl, sym, ap, subst, ℕ, List, [], ◌∷◌, length, get_or, map, codes, arith, IsSome, Option, Some, None, Result, Ok, Err}
+use Rattle.std.proofs.Common.{◌≡◌, ◌≤◌, ◌<◌, ◌∙◌, refl, sym, ap, ap₂, ℕ, List, [], ◌∷◌, ◌-◌, length, get_or, take, drop, map, codes, arith, IsSome, Option, Some, None, Result, Ok, Err}
 use Rattle.std.specs.Prelude.{option_and_then}
 use Rattle.gb_text.specs.Folder.{folder_of}
 use Rattle.gb_text.specs.Ruled.{line_of, message_of, title_of}
@@ -12,12 +12,11 @@ use Rattle.bug_edits.specs.Given.{HasTitles, at, given_texts, made}
 use Rattle.bug_edits.specs.declared.edit.BugEdit.{BugEdit}
 use Rattle.bug_edits.proofs.ArgumentLemmas.{begin_with_two}
 use Rattle.bug_edits.proofs.GivenLemmas.{both}
-use Rattle.bug_edits.proofs.ReadLemmas.{row_named}
+use Rattle.bug_edits.proofs.ReadLemmas.{row_named, some_is}
 use Rattle.words.specs.Arguments.{arguments_of}
 use Rattle.words.specs.Verbs.{verb_of}
-use Rattle.words.specs.Words.{NamesCommand, asked_by, asked_of, by_verb, command_from, command_of, of_bug}
+use Rattle.words.specs.Words.{asked_by, asked_in, asked_of, by_verb, command_of, merge_by_verb, merge_command_of, of_bug, peer_by_verb, peer_command_of}
 use Rattle.words.specs.declared.edit.Edit.TheVariants as edits
-use Rattle.words.specs.declared.verb.Verb.{Verb}
 use Rattle.words.specs.declared.words.Asked.TheVariants as asked
 use Rattle.words.specs.declared.words.BadWord.TheVariants.{BadFolder, BadText}
 use Rattle.words.specs.declared.words.Command.{Command}
@@ -48,35 +47,41 @@ each bug e some = edit_command (name_of_edit (row_of e).name) bug (given_texts (
 -- ---- the order of refusals
 
 pub refused_argument : (folder name : List ℕ) (rest : List (List ℕ)) → arguments_of rest ≡ None → asked_of (folder ∷ name ∷ rest) ≡ asked.Nothing
-refused_argument folder name rest none = ap (λ o. asked_by (folder_of folder) (option_and_then (command_of name) o)) none
+refused_argument folder name rest none =
+    ap (λ o. asked_by (folder_of folder) (option_and_then (command_of name) o) (option_and_then (peer_command_of name) o) (option_and_then (merge_command_of name) o)) none
 
 -- what is asked, by the arguments that are taken
-asked_with : (folder name : List ℕ) (rest arguments : List (List ℕ)) → arguments_of rest ≡ Some arguments
-    → asked_of (folder ∷ name ∷ rest) ≡ asked_by (folder_of folder) (command_of name arguments)
-asked_with folder name rest arguments are = ap (λ o. asked_by (folder_of folder) (option_and_then (command_of name) o)) are
+pub asked_with : (folder name : List ℕ) (rest arguments : List (List ℕ)) → arguments_of rest ≡ Some arguments
+    → asked_of (folder ∷ name ∷ rest) ≡ asked_by (folder_of folder) (command_of name arguments) (peer_command_of name arguments) (merge_command_of name arguments)
+asked_with folder name rest arguments are =
+    ap (λ o. asked_by (folder_of folder) (option_and_then (command_of name) o) (option_and_then (peer_command_of name) o) (option_and_then (merge_command_of name) o)) are
 
-pub asks_nothing : (folder name : List ℕ) (rest arguments : List (List ℕ)) → arguments_of rest ≡ Some arguments → command_of name arguments ≡ None
-    → asked_of (folder ∷ name ∷ rest) ≡ asked.Nothing
-asks_nothing folder name rest arguments are none = asked_with folder name rest arguments are ∙ ap (asked_by (folder_of folder)) none
+pub asks_nothing : (folder name : List ℕ) (rest arguments : List (List ℕ)) → arguments_of rest ≡ Some arguments → command_of name arguments ≡ None → peer_command_of name arguments ≡ None
+    → merge_command_of name arguments ≡ None → asked_of (folder ∷ name ∷ rest) ≡ asked.Nothing
+asks_nothing folder name rest arguments are none no_peer no_merge =
+    asked_with folder name rest arguments are
+    ∙ ap₂ (λ c p. asked_by (folder_of folder) c p (merge_command_of name arguments)) none no_peer
+    ∙ ap (asked_by (folder_of folder) None None) no_merge
+
+-- what is asked in one folder, by a command that is given
+asked_here : (folder name : List ℕ) (rest arguments : List (List ℕ)) (read : Result Command ℕ) → arguments_of rest ≡ Some arguments → command_of name arguments ≡ Some read
+    → asked_of (folder ∷ name ∷ rest) ≡ asked_in (folder_of folder) read
+asked_here folder name rest arguments read are is =
+    asked_with folder name rest arguments are ∙ ap (λ o. asked_by (folder_of folder) o (peer_command_of name arguments) (merge_command_of name arguments)) is
 
 pub bad_folder : (folder name : List ℕ) (rest arguments : List (List ℕ)) → arguments_of rest ≡ Some arguments → IsSome (command_of name arguments) → folder_of folder ≡ None
     → asked_of (folder ∷ name ∷ rest) ≡ asked.Refused BadFolder
 bad_folder folder name rest arguments are some bad =
-    asked_with folder name rest arguments are ∙ ap (λ f. asked_by f (command_of name arguments)) bad ∙ by (command_of name arguments) some
-  where
-    by : (read : Option (Result Command ℕ)) → IsSome read → asked_by None read ≡ asked.Refused BadFolder
-    by None some = absurd (cc some)
-    by (Some read) some = refl
+    let read = some_is (command_of name arguments) some in
+    asked_here folder name rest arguments read.0 are read.1 ∙ ap (λ f. asked_in f read.0) bad
 
 pub bad_place : (folder name : List ℕ) (rest arguments : List (List ℕ)) (read : List ℕ) (place : ℕ) → arguments_of rest ≡ Some arguments → folder_of folder ≡ Some read
     → command_of name arguments ≡ Some (Err place) → asked_of (folder ∷ name ∷ rest) ≡ asked.Refused (BadText place)
-bad_place folder name rest arguments read place are good bad =
-    asked_with folder name rest arguments are ∙ ap (λ f. asked_by f (command_of name arguments)) good ∙ ap (asked_by (Some read)) bad
+bad_place folder name rest arguments read place are good bad = asked_here folder name rest arguments (Err place) are bad ∙ ap (λ f. asked_in f (Err place)) good
 
 pub requested : (folder name : List ℕ) (rest arguments : List (List ℕ)) (read : List ℕ) (command : Command) → arguments_of rest ≡ Some arguments → folder_of folder ≡ Some read
     → command_of name arguments ≡ Some (Ok command) → asked_of (folder ∷ name ∷ rest) ≡ asked.Request (record { folder = read; command = command })
-requested folder name rest arguments read command are good is =
-    asked_with folder name rest arguments are ∙ ap (λ f. asked_by f (command_of name arguments)) good ∙ ap (asked_by (Some read)) is
+requested folder name rest arguments read command are good is = asked_here folder name rest arguments (Ok command) are is ∙ ap (λ f. asked_in f (Ok command)) good
 
 -- ---- words
 
@@ -86,23 +91,17 @@ too_few bytes [] few = refl
 too_few bytes (a ∷ []) few = refl
 too_few bytes (a ∷ b ∷ more) few = absurd (omega (arith, few))
 
--- a name that is no command's gives none
-pub no_verb : (name : List ℕ) (rest : List (List ℕ)) → verb_of name ≡ None → None ≡ command_from name rest
-no_verb name rest none = by (arguments_of rest)
+-- a second that is no command's name gives none
+pub no_verb : {X : Type 0} (bytes : X → List ℕ) (words : List X) (folder name : X) (text : List ℕ) → 2 ≤ length words → folder ≡ get_or words 0 folder → name ≡ get_or words 1 name → text ≡ bytes name
+    → verb_of text ≡ None → asked.Nothing ≡ asked_of (map bytes words)
+no_verb bytes words folder name text least is_folder is_name is_text none =
+    let rest = map bytes (take (length words - 2) (drop 2 words)) in
+    by (arguments_of rest) ∙ ap (λ xs. asked_of (map bytes xs)) (sym (begin_with_two words folder name least is_folder is_name))
   where
-    by : (o : Option (List (List ℕ))) → None ≡ option_and_then (command_of name) o
+    by : (o : Option (List (List ℕ))) → asked.Nothing
+        ≡ asked_by (folder_of (bytes folder)) (option_and_then (command_of (bytes name)) o) (option_and_then (peer_command_of (bytes name)) o) (option_and_then (merge_command_of (bytes name)) o)
     by None = refl
-    by (Some arguments) = ap (option_and_then (λ v. by_verb v arguments)) (sym none)
-
--- what gives a command has the name of one
-pub some_verb : (name : List ℕ) (rest : List (List ℕ)) (read : Result Command ℕ) → command_from name rest ≡ Some read → IsSome (verb_of name)
-some_verb name rest read is = by (verb_of name) refl
-  where
-    by : (o : Option Verb) → verb_of name ≡ o → IsSome (verb_of name)
-    by None none = let bad : None ≡ Some read = no_verb name rest none ∙ is in absurd (cc bad)
-    by (Some v) some = subst IsSome (sym some) refl
-
-pub names_command : {X : Type 0} (bytes : X → List ℕ) (words : List X) (folder name : X) (text : List ℕ) → 2 ≤ length words → folder ≡ get_or words 0 folder
-    → name ≡ get_or words 1 name → text ≡ bytes name → IsSome (verb_of text) → NamesCommand (map bytes words)
-names_command bytes words folder name text least is_folder is_name is_text some =
-    subst (λ xs. NamesCommand (map bytes xs)) (sym (begin_with_two words folder name least is_folder is_name)) (subst (λ n. IsSome (verb_of n)) is_text some)
+    by (Some arguments) =
+        ap
+        (λ v. asked_by (folder_of (bytes folder)) (option_and_then (λ w. by_verb w arguments) v) (option_and_then (λ w. peer_by_verb w arguments) v) (option_and_then (λ w. merge_by_verb w arguments) v))
+        (sym (ap verb_of (sym is_text) ∙ none))

@@ -4,9 +4,10 @@ use Rattle.std.specs.List.{repeat}
 use Rattle.std.specs.Str.{chars, is_utf8}
 use Rattle.std.proofs.Common.{refl}
 use Rattle.words.specs.Words.{asked_of}
-use Rattle.words.specs.declared.words.Asked.TheVariants.{Nothing, Refused, Request}
-use Rattle.words.specs.declared.words.BadWord.TheVariants.{BadFolder, BadText}
+use Rattle.words.specs.declared.words.Asked.TheVariants.{Exchange, Merge, Nothing, Refused, Request}
+use Rattle.words.specs.declared.words.BadWord.TheVariants.{BadFolder, BadRemoteName, BadText, SameFolder}
 use Rattle.words.specs.declared.words.Command.TheVariants.{Log, Users}
+use Rattle.words.specs.declared.words.PeerCommand.TheVariants.{Fetch, Pull, Push}
 
 log_of_a_bug : asked_of (codes "f" ∷ codes "log" ∷ codes "b" ∷ []) ≡ Request (record { folder = codes "f"; command = Log (codes "b") })
 unfolding chars
@@ -25,7 +26,7 @@ log_of_two = refl
 no_label : asked_of (codes "f" ∷ codes "label-add" ∷ codes "b" ∷ []) ≡ Nothing
 no_label = refl
 
-of_other_commands : map (λ (word : List ℕ). asked_of (codes "f" ∷ word ∷ codes "b" ∷ [])) (codes "ls" ∷ codes "merge" ∷ codes "Edit" ∷ codes "Log" ∷ codes "log " ∷ [] ∷ []) ≡ repeat 6 (Nothing ∷ [])
+of_other_commands : map (λ (word : List ℕ). asked_of (codes "f" ∷ word ∷ codes "b" ∷ [])) (codes "ls" ∷ codes "Merge" ∷ codes "Edit" ∷ codes "Log" ∷ codes "log " ∷ [] ∷ []) ≡ repeat 6 (Nothing ∷ [])
 of_other_commands = refl
 
 of_other_commands_alone : map (λ (word : List ℕ). asked_of (codes "f" ∷ word ∷ [])) (codes "ls" ∷ codes "user" ∷ codes "user-ls" ∷ codes "board" ∷ [] ∷ []) ≡ repeat 5 (Nothing ∷ [])
@@ -66,3 +67,64 @@ bad_email = refl
 second_label : asked_of (codes "f" ∷ codes "label-rm" ∷ codes "b" ∷ codes "x" ∷ codes " " ∷ codes "\n" ∷ []) ≡ Refused (BadText 3)
 unfolding chars is_utf8 lib.Utf8.encode
 second_label = refl
+
+-- ---- commands with a peer
+
+fetch_of_a_peer : asked_of (codes "f" ∷ codes "fetch" ∷ codes "o" ∷ codes "p/" ∷ []) ≡ Exchange (record { pair = record { own = codes "f"; peer = codes "p"; apart = refl }; command = Fetch (record { text = codes "o"; is_name = refl }) })
+unfolding chars
+fetch_of_a_peer = refl
+
+pull_of_a_peer : asked_of (codes "f" ∷ codes "pull" ∷ codes "o" ∷ codes "p/" ∷ []) ≡ Exchange (record { pair = record { own = codes "f"; peer = codes "p"; apart = refl }; command = Pull (record { text = codes "o"; is_name = refl }) })
+unfolding chars
+pull_of_a_peer = refl
+
+push_into_a_peer : asked_of (codes "f" ∷ codes "push" ∷ codes "/f" ∷ []) ≡ Exchange (record { pair = record { own = codes "f"; peer = codes "/f"; apart = refl }; command = Push })
+unfolding chars
+push_into_a_peer = refl
+
+remote_after_dashes : asked_of (codes "f" ∷ codes "fetch" ∷ codes "--" ∷ codes "-o" ∷ codes "p" ∷ []) ≡ Exchange (record { pair = record { own = codes "f"; peer = codes "p"; apart = refl }; command = Fetch (record { text = codes "-o"; is_name = refl }) })
+unfolding chars
+remote_after_dashes = refl
+
+no_exchanges : map (λ (rest : List (List ℕ)). asked_of (codes "f" ∷ rest))
+    ((codes "fetch" ∷ []) ∷ (codes "fetch" ∷ codes "p" ∷ []) ∷ (codes "fetch" ∷ codes "o" ∷ codes "p" ∷ codes "q" ∷ []) ∷ (codes "push" ∷ []) ∷ (codes "push" ∷ codes "o" ∷ codes "p" ∷ []) ∷ (codes "pull" ∷ codes "p" ∷ []) ∷ (codes "pull" ∷ codes "o" ∷ codes "p" ∷ codes "q" ∷ []) ∷ [])
+    ≡ repeat 7 (Nothing ∷ [])
+no_exchanges = refl
+
+bad_peer_first : asked_of (codes "f" ∷ codes "fetch" ∷ codes "o/p" ∷ codes "f/.." ∷ []) ≡ Refused BadFolder
+unfolding chars
+bad_peer_first = refl
+
+overlap_before_remote : map (λ (peer : List ℕ). asked_of (codes "f/g" ∷ codes "fetch" ∷ codes "o/p" ∷ peer ∷ [])) (codes "f" ∷ codes "f/g" ∷ codes "./f//g/h" ∷ codes "." ∷ []) ≡ repeat 4 (Refused SameFolder ∷ [])
+unfolding chars
+overlap_before_remote = refl
+
+bad_remote_last : map (λ (remote : List ℕ). asked_of (codes "f/g" ∷ codes "fetch" ∷ remote ∷ codes "f/h" ∷ [])) (codes "o/p" ∷ codes ".." ∷ [] ∷ []) ≡ repeat 3 (Refused BadRemoteName ∷ [])
+unfolding chars
+bad_remote_last = refl
+
+pull_is_judged_like_fetch : map (λ (peer : List ℕ). asked_of (codes "f/g" ∷ codes "pull" ∷ codes "o/p" ∷ peer ∷ [])) (codes "f/.." ∷ codes "f" ∷ codes "f/h" ∷ [])
+    ≡ Refused BadFolder ∷ Refused SameFolder ∷ Refused BadRemoteName ∷ []
+unfolding chars
+pull_is_judged_like_fetch = refl
+
+-- ---- merges
+
+merge_of_a_remote : asked_of (codes "f/" ∷ codes "merge" ∷ codes "o" ∷ []) ≡ Merge (record { folder = codes "f"; remote = record { text = codes "o"; is_name = refl } })
+unfolding chars
+merge_of_a_remote = refl
+
+merge_after_dashes : asked_of (codes "f" ∷ codes "merge" ∷ codes "--" ∷ codes "-o" ∷ []) ≡ Merge (record { folder = codes "f"; remote = record { text = codes "-o"; is_name = refl } })
+unfolding chars
+merge_after_dashes = refl
+
+no_merges : map (λ (rest : List (List ℕ)). asked_of (codes "f" ∷ rest)) ((codes "merge" ∷ []) ∷ (codes "merge" ∷ codes "o" ∷ codes "p" ∷ []) ∷ (codes "merge" ∷ codes "-o" ∷ []) ∷ []) ≡ repeat 3 (Nothing ∷ [])
+no_merges = refl
+
+bad_folder_before_remote : asked_of (codes "f/.." ∷ codes "merge" ∷ codes "o/p" ∷ []) ≡ Refused BadFolder
+unfolding chars
+bad_folder_before_remote = refl
+
+bad_remote_of_a_merge : map (λ (remote : List ℕ). asked_of (codes "f" ∷ codes "merge" ∷ remote ∷ [])) (codes "o/p" ∷ codes ".." ∷ [] ∷ []) ≡ repeat 3 (Refused BadRemoteName ∷ [])
+unfolding chars
+bad_remote_of_a_merge = refl

@@ -2,5 +2,9 @@ pub mod ArgumentLemmas
 pub mod AskLemmas
 pub mod ClapLemmas
 pub mod Examples
+pub mod ExchangeLemmas
+pub mod KindLemmas
+pub mod MergeLemmas
+pub mod PairLemmas
 pub mod RuleLemmas
 pub mod VerbLemmas

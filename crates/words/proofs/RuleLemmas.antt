@@ -93,7 +93,7 @@ judged _ _ = tt
 
 told : (name : List ℕ) (arguments : List (List ℕ)) (read : Result Command ℕ) → command_of name arguments ≡ Some read → Judges 1 (words_keep name arguments) read
 told name arguments read is =
-    let by = of_a_verb name arguments read is in
+    let by = of_a_verb (λ v. by_verb v arguments) name read is in
     subst (λ n. Judges 1 (words_keep n arguments) read) (sym by.1)
     (subst (λ o. IfSome o (Judges 1 (words_keep (name_of by.0) arguments))) by.2 (judged by.0 arguments))
 

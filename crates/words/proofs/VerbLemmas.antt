@@ -10,12 +10,11 @@ use Rattle.bug_edits.specs.declared.edit.BugEdit.{BugEdit}
 use Rattle.bug_edits.specs.declared.names.EditName.{EditName}
 use Rattle.bug_edits.proofs.ReadLemmas.{counted_edits_give, counted_of, each_name, found_passes, name_back, name_is, of_a_name, some_is}
 use Rattle.words.specs.Verbs.{name_of, of_edit, other_of, verb_among, verb_of}
-use Rattle.words.specs.WordRules.{IsCounted, counted_commands}
-use Rattle.words.specs.Words.{NamesCommand, by_verb, command_of, edit_of_bug}
+use Rattle.words.specs.WordRules.{IsCounted, IsCountedMerge, IsCountedPeer, counted_commands, counted_peer_commands}
+use Rattle.words.specs.Words.{NamesCommand, by_verb, command_of, edit_of_bug, merge_by_verb, merge_command_of, peer_by_verb, peer_command_of}
 use Rattle.words.specs.declared.verb.TheConstants.{FIRST_VERBS, LAST_VERBS}
 use Rattle.words.specs.declared.verb.Verb.{Verb}
 use Rattle.words.specs.declared.verb.Verb.TheVariants as verb
-use Rattle.words.specs.declared.words.Command.{Command}
 
 -- ---- names
 
@@ -56,6 +55,10 @@ read_back (verb.OfBug edit) = ap (λ o. option_or o (of_edit (name_read (name_of
 read_back verb.Edit = refl
 read_back verb.Show = refl
 read_back verb.Log = refl
+read_back verb.Fetch = refl
+read_back verb.Merge = refl
+read_back verb.Pull = refl
+read_back verb.Push = refl
 
 -- arguments name a command by their second
 pub verb_named : (words : List (List ℕ)) → NamesCommand words → (folder : List ℕ) × (rest : List (List ℕ)) × (v : Verb) × (words ≡ folder ∷ name_of v ∷ rest)
@@ -68,12 +71,11 @@ verb_named (folder ∷ name ∷ rest) some =
 pub named_by_verb : (folder : List ℕ) (rest : List (List ℕ)) (v : Verb) → NamesCommand (folder ∷ name_of v ∷ rest)
 named_by_verb folder rest v = subst IsSome (sym (read_back v)) refl
 
--- arguments that give a command are those of a name that is read
-pub of_a_verb : (name : List ℕ) (arguments : List (List ℕ)) (read : Result Command ℕ) → command_of name arguments ≡ Some read
-    → (v : Verb) × (name ≡ name_of v) × (by_verb v arguments ≡ Some read)
-of_a_verb name arguments read is = by (verb_of name) refl is
+-- what gives something by its command is the name of one
+pub of_a_verb : {X : Type 0} (gives : Verb → Option X) (name : List ℕ) (x : X) → option_and_then gives (verb_of name) ≡ Some x → (v : Verb) × (name ≡ name_of v) × (gives v ≡ Some x)
+of_a_verb gives name x is = by (verb_of name) refl is
   where
-    by : (o : Option Verb) → verb_of name ≡ o → option_and_then (λ v. by_verb v arguments) o ≡ Some read → (v : Verb) × (name ≡ name_of v) × (by_verb v arguments ≡ Some read)
+    by : (o : Option Verb) → verb_of name ≡ o → option_and_then gives o ≡ Some x → (v : Verb) × (name ≡ name_of v) × (gives v ≡ Some x)
     by None named is = absurd (cc is)
     by (Some v) named is = (v, is_named name v named, is)
 
@@ -104,9 +106,35 @@ counted _ _ = tt
 pub only_counted : (name : List ℕ) (arguments : List (List ℕ)) → IsSome (command_of name arguments) → IsCounted name (length arguments)
 only_counted name arguments some =
     let read = some_is (command_of name arguments) some in
-    let by = of_a_verb name arguments read.0 read.1 in
+    let by = of_a_verb (λ v. by_verb v arguments) name read.0 read.1 in
     subst (λ n. IsCounted n (length arguments)) (sym by.1)
     (subst (λ o. IfSome o (λ r. IsCounted (name_of by.0) (length arguments))) by.2 (counted by.0 arguments))
+
+-- one with a peer too
+counted_peer : (v : Verb) (arguments : List (List ℕ)) → IfSome (peer_by_verb v arguments) (λ p. IsCountedPeer (name_of v) (length arguments))
+counted_peer verb.Fetch (one ∷ two ∷ []) = (0, omega arith, refl)
+counted_peer verb.Pull (one ∷ two ∷ []) = (1, omega arith, refl)
+counted_peer verb.Push (one ∷ []) = (2, omega arith, refl)
+counted_peer _ _ = tt
+
+pub only_counted_peers : (name : List ℕ) (arguments : List (List ℕ)) → IsSome (peer_command_of name arguments) → IsCountedPeer name (length arguments)
+only_counted_peers name arguments some =
+    let p = some_is (peer_command_of name arguments) some in
+    let by = of_a_verb (λ v. peer_by_verb v arguments) name p.0 p.1 in
+    subst (λ n. IsCountedPeer n (length arguments)) (sym by.1)
+    (subst (λ o. IfSome o (λ r. IsCountedPeer (name_of by.0) (length arguments))) by.2 (counted_peer by.0 arguments))
+
+-- and a merge
+counted_merge : (v : Verb) (arguments : List (List ℕ)) → IfSome (merge_by_verb v arguments) (λ remote. IsCountedMerge (name_of v) (length arguments))
+counted_merge verb.Merge (one ∷ []) = (refl, refl)
+counted_merge _ _ = tt
+
+pub only_counted_merges : (name : List ℕ) (arguments : List (List ℕ)) → IsSome (merge_command_of name arguments) → IsCountedMerge name (length arguments)
+only_counted_merges name arguments some =
+    let remote = some_is (merge_command_of name arguments) some in
+    let by = of_a_verb (λ v. merge_by_verb v arguments) name remote.0 remote.1 in
+    subst (λ n. IsCountedMerge n (length arguments)) (sym by.1)
+    (subst (λ o. IfSome o (λ r. IsCountedMerge (name_of by.0) (length arguments))) by.2 (counted_merge by.0 arguments))
 
 -- ---- the other way
 
@@ -126,22 +154,27 @@ two_words P holds (a ∷ []) count = absurd (omega (arith, count))
 two_words P holds (a ∷ b ∷ []) count = holds a b
 two_words P holds (a ∷ b ∷ c ∷ more) count = absurd (omega (arith, count))
 
+-- each of these names with so many arguments gives what is asked for
+abbrev EachGives : (List ℕ → List (List ℕ) → Type 0) → List (List ℕ × ℕ) → Type 0
+EachGives Gives [] = ⊤
+EachGives Gives (p ∷ rest) = ((arguments : List (List ℕ)) → length arguments ≡ p.1 → Gives p.0 arguments) × EachGives Gives rest
+
+gives_by : (Gives : List ℕ → List (List ℕ) → Type 0) (listed : List (List ℕ × ℕ)) → EachGives Gives listed → (name : List ℕ) (arguments : List (List ℕ)) → Contains listed (name, length arguments)
+    → Gives name arguments
+gives_by Gives [] each name arguments (k, few, is) = absurd (omega (arith, few))
+gives_by Gives (p ∷ rest) each name arguments (zero, few, is) =
+    subst (λ n. Gives n arguments) (ap (λ (q : List ℕ × ℕ). q.0) is) (each.0 arguments (sym (ap (λ (q : List ℕ × ℕ). q.1) is)))
+gives_by Gives (p ∷ rest) each name arguments (suc k, few, is) = gives_by Gives rest each.1 name arguments (k, omega (arith, few), is)
+
 -- this name with these arguments gives a command
 abbrev Gives : List ℕ → List (List ℕ) → Type 0
 Gives name arguments = IsSome (command_of name arguments)
 
--- each of these names does with so many arguments
-abbrev EachGives : List (List ℕ × ℕ) → Type 0
-EachGives [] = ⊤
-EachGives (p ∷ rest) = ((arguments : List (List ℕ)) → length arguments ≡ p.1 → Gives p.0 arguments) × EachGives rest
+-- it gives one with a peer
+abbrev GivesPeer : List ℕ → List (List ℕ) → Type 0
+GivesPeer name arguments = IsSome (peer_command_of name arguments)
 
-gives_by : (listed : List (List ℕ × ℕ)) → EachGives listed → (name : List ℕ) (arguments : List (List ℕ)) → Contains listed (name, length arguments) → Gives name arguments
-gives_by [] each name arguments (k, few, is) = absurd (omega (arith, few))
-gives_by (p ∷ rest) each name arguments (zero, few, is) =
-    subst (λ n. Gives n arguments) (ap (λ (q : List ℕ × ℕ). q.0) is) (each.0 arguments (sym (ap (λ (q : List ℕ × ℕ). q.1) is)))
-gives_by (p ∷ rest) each name arguments (suc k, few, is) = gives_by rest each.1 name arguments (k, omega (arith, few), is)
-
-each_gives : EachGives counted_commands
+each_gives : EachGives Gives counted_commands
 each_gives = (
   no_word (Gives (codes "users")) refl,
   (
@@ -175,5 +208,14 @@ edits_give name (bug ∷ words) others count is =
     subst IsSome (sym (edit_command name bug words read.0 read.1)) refl
 
 pub counted_gives : (name : List ℕ) (arguments : List (List ℕ)) → IsCounted name (length arguments) → IsSome (command_of name arguments)
-counted_gives name arguments (inl has) = gives_by counted_commands each_gives name arguments has
+counted_gives name arguments (inl has) = gives_by Gives counted_commands each_gives name arguments has
 counted_gives name arguments (inr (others, count, is)) = edits_give name arguments others count is
+
+pub counted_peers_give : (name : List ℕ) (arguments : List (List ℕ)) → IsCountedPeer name (length arguments) → IsSome (peer_command_of name arguments)
+counted_peers_give =
+    gives_by GivesPeer counted_peer_commands
+    (two_words (GivesPeer (codes "fetch")) (λ a b. refl), (two_words (GivesPeer (codes "pull")) (λ a b. refl), (one_word (GivesPeer (codes "push")) (λ a. refl), tt)))
+
+pub counted_merges_give : (name : List ℕ) (arguments : List (List ℕ)) → IsCountedMerge name (length arguments) → IsSome (merge_command_of name arguments)
+counted_merges_give name arguments is =
+    subst (λ n. IsSome (merge_command_of n arguments)) (sym is.0) (one_word (λ given. IsSome (merge_command_of (codes "merge") given)) (λ a. refl) arguments is.1)

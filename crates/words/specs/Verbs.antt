@@ -19,6 +19,10 @@ name_of (verb.OfBug edit) = name_of_edit edit
 name_of verb.Edit = codes "edit"
 name_of verb.Show = codes "show"
 name_of verb.Log = codes "log"
+name_of verb.Fetch = codes "fetch"
+name_of verb.Merge = codes "merge"
+name_of verb.Pull = codes "pull"
+name_of verb.Push = codes "push"
 
 -- the one of these that has a name, if there is one
 abbrev pub verb_among : List Verb → List ℕ → Option Verb

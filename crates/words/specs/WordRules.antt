@@ -16,6 +16,18 @@ counted_commands =
 abbrev pub IsCounted : List ℕ → ℕ → Type 0
 IsCounted name count = Contains counted_commands (name, count) ⊎ ((others : ℕ) × (count ≡ others + 1) × IsCountedEdit name others)
 
+-- the names of commands with a peer, each with the number of its arguments
+abbrev pub counted_peer_commands : List (List ℕ × ℕ)
+counted_peer_commands = (codes "fetch", 2) ∷ (codes "pull", 2) ∷ (codes "push", 1) ∷ []
+
+-- a name with so many arguments is a command with a peer
+abbrev pub IsCountedPeer : List ℕ → ℕ → Type 0
+IsCountedPeer name count = Contains counted_peer_commands (name, count)
+
+-- a name with so many arguments is that of a merge
+abbrev pub IsCountedMerge : List ℕ → ℕ → Type 0
+IsCountedMerge name count = (name ≡ codes "merge") × (count ≡ 1)
+
 -- ---- rules of arguments
 
 -- an argument is a line

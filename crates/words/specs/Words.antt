@@ -1,5 +1,5 @@
 -- What arguments ask: a command, each argument read by its rule, in a folder; or what they alone refuse.
-use Rattle.std.specs.Prelude.{ℕ, IsSome, List, [], ◌∷◌, Option, Some, None, option_and_then, Result, Ok, Err}
+use Rattle.std.specs.Prelude.{ℕ, IsSome, List, [], ◌∷◌, Option, Some, None, option_and_then, option_map, Result, Ok, Err}
 use Rattle.gb_text.specs.Folder.{folder_of}
 use Rattle.gb_text.specs.Ruled.{line_of, message_of, title_of}
 use Rattle.gb_text.specs.declared.ruled.Line.{Line}
@@ -7,16 +7,22 @@ use Rattle.gb_text.specs.declared.ruled.Title.{Title}
 use Rattle.bug_edits.specs.EditTable.{edit_from}
 use Rattle.bug_edits.specs.Given.{at, made, made_of_two}
 use Rattle.bug_edits.specs.declared.edit.BugEdit.{BugEdit}
+use Rattle.remote_name.specs.Remotes.{remote_of}
+use Rattle.remote_name.specs.declared.remote.RemoteName.{RemoteName}
 use Rattle.words.specs.Arguments.{arguments_of}
+use Rattle.words.specs.Pairs.{pair_of}
+use Rattle.words.specs.declared.pair.FolderPair.{FolderPair}
 use Rattle.words.specs.declared.edit.Edit.TheVariants.{New, OfBug, OfComment, UserEdit, UserNew, UserSet}
 use Rattle.words.specs.Verbs.{verb_of}
 use Rattle.words.specs.declared.verb.Verb.{Verb}
 use Rattle.words.specs.declared.verb.Verb.TheVariants as verb
 use Rattle.words.specs.declared.words.Asked.{Asked}
 use Rattle.words.specs.declared.words.Asked.TheVariants as asked
-use Rattle.words.specs.declared.words.BadWord.TheVariants.{BadFolder, BadText}
+use Rattle.words.specs.declared.words.BadWord.TheVariants.{BadFolder, BadRemoteName, BadText, SameFolder}
 use Rattle.words.specs.declared.words.Command.{Command}
 use Rattle.words.specs.declared.words.Command.TheVariants.{Edit, Log, Show, Users}
+use Rattle.words.specs.declared.words.PeerCommand.{PeerCommand}
+use Rattle.words.specs.declared.words.PeerCommand.TheVariants.{Fetch, Pull, Push}
 
 -- ---- commands
 
@@ -70,14 +76,68 @@ asked_in None command = asked.Refused BadFolder
 asked_in (Some folder) (Err place) = asked.Refused (BadText place)
 asked_in (Some folder) (Ok command) = asked.Request (record { folder = folder; command = command })
 
--- by the command that the arguments after the folder give, if they give one
-abbrev pub asked_by : Option (List ℕ) → Option (Result Command ℕ) → Asked
-asked_by folder None = asked.Nothing
-asked_by folder (Some command) = asked_in folder command
+-- ---- commands with a peer
+
+-- What this command does with a peer, and the argument for the peer; none where these are not its arguments. The remote may be no name.
+abbrev pub peer_by_verb : Verb → List (List ℕ) → Option (List ℕ × Option PeerCommand)
+peer_by_verb verb.Fetch (remote ∷ peer ∷ []) = Some (peer, option_map Fetch (remote_of remote))
+peer_by_verb verb.Pull (remote ∷ peer ∷ []) = Some (peer, option_map Pull (remote_of remote))
+peer_by_verb verb.Push (peer ∷ []) = Some (peer, Some Push)
+peer_by_verb _ _ = None
+
+-- the same of the name of a command, if there is one
+abbrev pub peer_command_of : List ℕ → List (List ℕ) → Option (List ℕ × Option PeerCommand)
+peer_command_of name arguments = option_and_then (λ v. peer_by_verb v arguments) (verb_of name)
+
+-- the same with the arguments that the rest gives, if none of it is refused
+abbrev pub peer_command_from : List ℕ → List (List ℕ) → Option (List ℕ × Option PeerCommand)
+peer_command_from name rest = option_and_then (peer_command_of name) (arguments_of rest)
+
+-- between two folders: those that overlap are refused before a remote that is no name
+abbrev pub exchange_of : Option FolderPair → Option PeerCommand → Asked
+exchange_of None command = asked.Refused SameFolder
+exchange_of (Some pair) None = asked.Refused BadRemoteName
+exchange_of (Some pair) (Some command) = asked.Exchange (record { pair = pair; command = command })
+
+-- between folders that may be bad: these are refused first
+abbrev pub exchange_in : Option (List ℕ) → Option (List ℕ) → Option PeerCommand → Asked
+exchange_in None peer command = asked.Refused BadFolder
+exchange_in (Some own) None command = asked.Refused BadFolder
+exchange_in (Some own) (Some peer) command = exchange_of (pair_of own peer) command
+
+-- ---- merges
+
+-- The remote of this command, if it is a merge; none where these are not its arguments. The remote may be no name.
+abbrev pub merge_by_verb : Verb → List (List ℕ) → Option (Option RemoteName)
+merge_by_verb verb.Merge (remote ∷ []) = Some (remote_of remote)
+merge_by_verb _ _ = None
+
+-- the same of the name of a command, if there is one
+abbrev pub merge_command_of : List ℕ → List (List ℕ) → Option (Option RemoteName)
+merge_command_of name arguments = option_and_then (λ v. merge_by_verb v arguments) (verb_of name)
+
+-- the same with the arguments that the rest gives, if none of it is refused
+abbrev pub merge_command_from : List ℕ → List (List ℕ) → Option (Option RemoteName)
+merge_command_from name rest = option_and_then (merge_command_of name) (arguments_of rest)
+
+-- in a folder: a bad one is refused before a remote that is no name
+abbrev pub merge_in : Option (List ℕ) → Option RemoteName → Asked
+merge_in None remote = asked.Refused BadFolder
+merge_in (Some folder) None = asked.Refused BadRemoteName
+merge_in (Some folder) (Some remote) = asked.Merge (record { folder = folder; remote = remote })
+
+-- ---- what is asked
+
+-- by what the arguments after the folder give: a command in the folder, or one with a peer, or a merge, or none of these
+abbrev pub asked_by : Option (List ℕ) → Option (Result Command ℕ) → Option (List ℕ × Option PeerCommand) → Option (Option RemoteName) → Asked
+asked_by folder None None None = asked.Nothing
+asked_by folder None None (Some remote) = merge_in folder remote
+asked_by folder None (Some p) merge = exchange_in folder (folder_of p.0) p.1
+asked_by folder (Some command) p merge = asked_in folder command
 
 -- What arguments ask: of a folder, the name of a command and the rest. Nothing where they give no command.
 abbrev pub asked_of : List (List ℕ) → Asked
-asked_of (folder ∷ name ∷ rest) = asked_by (folder_of folder) (command_from name rest)
+asked_of (folder ∷ name ∷ rest) = asked_by (folder_of folder) (command_from name rest) (peer_command_from name rest) (merge_command_from name rest)
 asked_of _ = asked.Nothing
 
 -- the second argument is the name of a command

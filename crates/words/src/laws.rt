@@ -1,7 +1,8 @@
 //! Laws of what arguments ask, each the contract of a function that does nothing.
-ghost use Rattle.std.specs.Prelude.{◌≡◌, ◌∷◌, ◌++◌, [], ℕ, List, IsSome, Some, None, Result, Ok, Err, codes, length, map, true};
+ghost use Rattle.std.specs.Prelude.{◌≡◌, ◌↔◌, ◌∷◌, ◌++◌, [], ℕ, List, IsSome, Option, Some, None, Result, Ok, Err, codes, length, map, false, true};
 ghost use Rattle.std.specs.List.{AllByRecursion};
 ghost use Rattle.gb_text.specs.Folder.{folder_of};
+ghost use Rattle.gb_text.specs.Overlap.{Overlap};
 ghost use Rattle.gb_text.specs.declared.ruled.Line.{Line as LineValue};
 ghost use Rattle.gb_text.specs.declared.ruled.Message.{Message as MessageValue};
 ghost use Rattle.gb_text.specs.declared.ruled.Title.{Title as TitleValue};
@@ -11,25 +12,52 @@ ghost use Rattle.bug_edits.specs.EditWords.{IsFirstBad, all_keep, is_message_wor
 ghost use Rattle.bug_edits.specs.Given.{HasTitles, given_texts};
 ghost use Rattle.bug_edits.specs.declared.edit.BugEdit.{BugEdit as BugEditValue};
 ghost use Rattle.bug_edits.specs.declared.edit.BugEdit.TheVariants as bug_edit;
+ghost use Rattle.remote_name.specs.RemoteTexts.{is_remote_name};
+ghost use Rattle.remote_name.specs.declared.remote.RemoteName.{RemoteName as RemoteNameValue};
 ghost use Rattle.words.specs.Arguments.{IsFlag, IsPlain, Shape, arguments_of};
+ghost use Rattle.words.specs.Overlaps.{overlaps};
+ghost use Rattle.words.specs.Pairs.{pair_of};
 ghost use Rattle.words.specs.Verbs.{name_of, verb_of};
-ghost use Rattle.words.specs.WordRules.{IsCounted, IsRead, words_keep};
-ghost use Rattle.words.specs.Words.{NamesCommand, asked_of, command_of, of_bug};
+ghost use Rattle.words.specs.WordRules.{IsCounted, IsCountedMerge, IsCountedPeer, IsRead, words_keep};
+ghost use Rattle.words.specs.Words.{NamesCommand, asked_of, command_of, merge_command_of, of_bug, peer_command_of};
 ghost use Rattle.words.specs.declared.edit.Edit.TheVariants as edits;
+ghost use Rattle.words.specs.declared.pair.FolderPair.{FolderPair as FolderPairValue};
 ghost use Rattle.words.specs.declared.verb.Verb.{Verb as VerbValue};
 ghost use Rattle.words.specs.declared.words.Asked.TheVariants as asked;
-ghost use Rattle.words.specs.declared.words.BadWord.TheVariants.{BadFolder, BadText};
+ghost use Rattle.words.specs.declared.words.BadWord.TheVariants.{BadFolder, BadRemoteName, BadText, SameFolder};
 ghost use Rattle.words.specs.declared.words.Command.{Command as CommandValue};
 ghost use Rattle.words.specs.declared.words.Command.TheVariants as ask;
+ghost use Rattle.words.specs.declared.words.PeerCommand.{PeerCommand as PeerCommandValue};
+ghost use Rattle.words.specs.declared.words.PeerCommand.TheVariants as peer_ask;
 
-/// The commands by their names and their numbers of arguments. No other arguments give a command.
+/// The commands by their names and their numbers of arguments, those with a peer apart, and the
+/// merge. No other arguments give a command.
 pub fn only_these_are_commands()
     ensures named { (name : List ℕ) (arguments : List (List ℕ))
         → IsSome (command_of name arguments) → IsCounted name (length arguments) }
     ensures each { (name : List ℕ) (arguments : List (List ℕ))
         → IsCounted name (length arguments) → IsSome (command_of name arguments) }
+    ensures peers_named { (name : List ℕ) (arguments : List (List ℕ))
+        → IsSome (peer_command_of name arguments) → IsCountedPeer name (length arguments) }
+    ensures peers_each { (name : List ℕ) (arguments : List (List ℕ))
+        → IsCountedPeer name (length arguments) → IsSome (peer_command_of name arguments) }
+    ensures merges_named { (name : List ℕ) (arguments : List (List ℕ))
+        → IsSome (merge_command_of name arguments) → IsCountedMerge name (length arguments) }
+    ensures merges_each { (name : List ℕ) (arguments : List (List ℕ))
+        → IsCountedMerge name (length arguments) → IsSome (merge_command_of name arguments) }
     ensures unnamed { (folder : List ℕ)
         → (asked_of [] ≡ asked.Nothing) × (asked_of (folder ∷ []) ≡ asked.Nothing) }
+{}
+
+/// The name of a command with a peer is that of no command in one folder, and the name of a merge
+/// is that of neither, whatever the arguments.
+pub fn no_name_is_of_two_kinds()
+    ensures peers { (name : List ℕ) (arguments others : List (List ℕ))
+        → IsSome (command_of name arguments) → IsSome (peer_command_of name others) → ⊥ }
+    ensures merges { (name : List ℕ) (arguments others : List (List ℕ))
+        → IsSome (command_of name arguments) → IsSome (merge_command_of name others) → ⊥ }
+    ensures peer_merges { (name : List ℕ) (arguments others : List (List ℕ))
+        → IsSome (peer_command_of name arguments) → IsSome (merge_command_of name others) → ⊥ }
 {}
 
 /// Arguments that do not begin with `-`, and `-` alone, are taken as they are. The first `--` is dropped,
@@ -79,6 +107,27 @@ pub fn commands_ask_for_what_they_name()
         ≡ Some (Ok (ask.Edit (edits.New title message))) }
 {}
 
+/// What each command with a peer asks for, and a merge. The last argument of one with a peer is the
+/// peer, which is known even where the remote is no name. A merge has the remote alone.
+pub fn peer_commands_ask_for_what_they_name()
+    ensures fetch { (remote : RemoteNameValue) (peer : List ℕ)
+        → peer_command_of (codes "fetch") (remote.text ∷ peer ∷ [])
+        ≡ Some (peer, Some (peer_ask.Fetch remote)) }
+    ensures unnamed { (remote peer : List ℕ) → is_remote_name remote ≡ false
+        → peer_command_of (codes "fetch") (remote ∷ peer ∷ []) ≡ Some (peer, None) }
+    ensures push { (peer : List ℕ)
+        → peer_command_of (codes "push") (peer ∷ []) ≡ Some (peer, Some peer_ask.Push) }
+    ensures pull { (remote : RemoteNameValue) (peer : List ℕ)
+        → peer_command_of (codes "pull") (remote.text ∷ peer ∷ [])
+        ≡ Some (peer, Some (peer_ask.Pull remote)) }
+    ensures pull_unnamed { (remote peer : List ℕ) → is_remote_name remote ≡ false
+        → peer_command_of (codes "pull") (remote ∷ peer ∷ []) ≡ Some (peer, None) }
+    ensures merge { (remote : RemoteNameValue)
+        → merge_command_of (codes "merge") (remote.text ∷ []) ≡ Some (Some remote) }
+    ensures merge_unnamed { (remote : List ℕ) → is_remote_name remote ≡ false
+        → merge_command_of (codes "merge") (remote ∷ []) ≡ Some None }
+{}
+
 /// What each edit of a bug asks for: the first argument finds the bug, or the comment.
 pub fn edits_of_bugs_ask_for_what_they_name()
     ensures each { (bug : List ℕ) (edit : BugEditValue) → HasTitles (row_of edit).words
@@ -113,14 +162,15 @@ pub fn edits_of_bugs_ask_for_what_they_name()
 {}
 
 /// Arguments that give no command ask nothing, whatever the folder: one of them is refused, or those
-/// that are taken are not a command's. Otherwise a bad folder is refused, whatever the command's
-/// arguments. Otherwise the place of an argument that breaks its rule is reported, among those that are
-/// taken. Otherwise the command is asked for, in that folder.
+/// that are taken are not a command's. Of a command in one folder that is no merge a bad folder is
+/// refused first, whatever its arguments. Otherwise the place of an argument that breaks its rule is
+/// reported, among those that are taken. Otherwise the command is asked for, in that folder.
 pub fn requests_are_read_in_order()
     ensures refused { (folder name : List ℕ) (rest : List (List ℕ))
         → arguments_of rest ≡ None → asked_of (folder ∷ name ∷ rest) ≡ asked.Nothing }
     ensures nothing { (folder name : List ℕ) (rest arguments : List (List ℕ))
         → arguments_of rest ≡ Some arguments → command_of name arguments ≡ None
+        → peer_command_of name arguments ≡ None → merge_command_of name arguments ≡ None
         → asked_of (folder ∷ name ∷ rest) ≡ asked.Nothing }
     ensures folder { (folder name : List ℕ) (rest arguments : List (List ℕ))
         → arguments_of rest ≡ Some arguments
@@ -135,6 +185,65 @@ pub fn requests_are_read_in_order()
         → folder_of folder ≡ Some read → command_of name arguments ≡ Some (Ok command)
         → asked_of (folder ∷ name ∷ rest)
         ≡ asked.Request (record { folder = read; command = command }) }
+{}
+
+/// Of a command with a peer a bad own folder is refused first, whatever its arguments, and then a bad
+/// folder of the peer. Otherwise folders that overlap are refused, whatever the remote, and then a
+/// remote that is no name. Otherwise the command is asked for, between the two folders.
+pub fn exchanges_are_read_in_order()
+    ensures own { (folder name : List ℕ) (rest arguments : List (List ℕ))
+        → arguments_of rest ≡ Some arguments
+        → IsSome (peer_command_of name arguments) → folder_of folder ≡ None
+        → asked_of (folder ∷ name ∷ rest) ≡ asked.Refused BadFolder }
+    ensures peer { (folder name word : List ℕ) (rest arguments : List (List ℕ))
+        (command : Option PeerCommandValue) → arguments_of rest ≡ Some arguments
+        → peer_command_of name arguments ≡ Some (word, command) → folder_of word ≡ None
+        → asked_of (folder ∷ name ∷ rest) ≡ asked.Refused BadFolder }
+    ensures overlap { (folder name word own peer : List ℕ) (rest arguments : List (List ℕ))
+        (command : Option PeerCommandValue) → arguments_of rest ≡ Some arguments
+        → peer_command_of name arguments ≡ Some (word, command)
+        → folder_of folder ≡ Some own → folder_of word ≡ Some peer → Overlap own peer
+        → asked_of (folder ∷ name ∷ rest) ≡ asked.Refused SameFolder }
+    ensures remote { (folder name word own peer : List ℕ) (rest arguments : List (List ℕ))
+        → arguments_of rest ≡ Some arguments
+        → peer_command_of name arguments ≡ Some (word, None)
+        → folder_of folder ≡ Some own → folder_of word ≡ Some peer → (Overlap own peer → ⊥)
+        → asked_of (folder ∷ name ∷ rest) ≡ asked.Refused BadRemoteName }
+    ensures exchange { (folder name word : List ℕ) (rest arguments : List (List ℕ))
+        (pair : FolderPairValue) (command : PeerCommandValue)
+        → arguments_of rest ≡ Some arguments
+        → peer_command_of name arguments ≡ Some (word, Some command)
+        → folder_of folder ≡ Some pair.own → folder_of word ≡ Some pair.peer
+        → asked_of (folder ∷ name ∷ rest)
+        ≡ asked.Exchange (record { pair = pair; command = command }) }
+{}
+
+/// Of a merge a bad folder is refused first, whatever its argument. Otherwise a remote that is no
+/// name is refused. Otherwise the merge is asked for, in that folder and of that remote.
+pub fn merges_are_read_in_order()
+    ensures folder { (folder name : List ℕ) (rest arguments : List (List ℕ))
+        → arguments_of rest ≡ Some arguments
+        → IsSome (merge_command_of name arguments) → folder_of folder ≡ None
+        → asked_of (folder ∷ name ∷ rest) ≡ asked.Refused BadFolder }
+    ensures remote { (folder name : List ℕ) (rest arguments : List (List ℕ)) (read : List ℕ)
+        → arguments_of rest ≡ Some arguments
+        → folder_of folder ≡ Some read → merge_command_of name arguments ≡ Some None
+        → asked_of (folder ∷ name ∷ rest) ≡ asked.Refused BadRemoteName }
+    ensures merge { (folder name : List ℕ) (rest arguments : List (List ℕ)) (read : List ℕ)
+        (remote : RemoteNameValue) → arguments_of rest ≡ Some arguments
+        → folder_of folder ≡ Some read → merge_command_of name arguments ≡ Some (Some remote)
+        → asked_of (folder ∷ name ∷ rest)
+        ≡ asked.Merge (record { folder = read; remote = remote }) }
+{}
+
+/// Two folders make a pair if and only if they do not overlap. The pair has these two, in this order,
+/// and is the only one that has them.
+pub fn pairs_are_of_folders_apart()
+    ensures apart { (one two : List ℕ) → (overlaps one two ≡ true) ↔ Overlap one two }
+    ensures folders { (own peer : List ℕ) (pair : FolderPairValue) → pair_of own peer ≡ Some pair
+        → (pair.own ≡ own) × (pair.peer ≡ peer) }
+    ensures none { (own peer : List ℕ) → (pair_of own peer ≡ None) ↔ Overlap own peer }
+    ensures read { (pair : FolderPairValue) → pair_of pair.own pair.peer ≡ Some pair }
 {}
 
 /// A command is refused with the place of the first argument that breaks its rule, counted from 1.

@@ -19,6 +19,10 @@ pub enum Verb {
     Edit,
     Show,
     Log,
+    Fetch,
+    Merge,
+    Pull,
+    Push,
 }
 
 /// The commands of which people are told before the edits of a bug, in this order.
@@ -31,7 +35,15 @@ pub const FIRST_VERBS: [Verb; 5] = [
 ];
 
 /// The commands of which people are told after the edits of a bug, in this order.
-pub const LAST_VERBS: [Verb; 3] = [Verb::Edit, Verb::Show, Verb::Log];
+pub const LAST_VERBS: [Verb; 7] = [
+    Verb::Edit,
+    Verb::Show,
+    Verb::Log,
+    Verb::Fetch,
+    Verb::Merge,
+    Verb::Pull,
+    Verb::Push,
+];
 
 impl Verb {
     /// The command of this name, if there is one.
@@ -61,6 +73,10 @@ impl Verb {
             Verb::Edit => "edit",
             Verb::Show => "show",
             Verb::Log => "log",
+            Verb::Fetch => "fetch",
+            Verb::Merge => "merge",
+            Verb::Pull => "pull",
+            Verb::Push => "push",
         }
     }
 
@@ -74,6 +90,9 @@ impl Verb {
             Verb::OfBug(edit) => edit.takes(),
             Verb::Edit => "COMMENT MESSAGE",
             Verb::UserSet | Verb::Show | Verb::Log => "ID",
+            Verb::Fetch | Verb::Pull => "REMOTE PEER",
+            Verb::Merge => "REMOTE",
+            Verb::Push => "PEER",
         }
     }
 }

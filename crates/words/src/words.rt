@@ -1,15 +1,19 @@
 //! What arguments ask, each read into its type.
-ghost use Rattle.std.specs.Prelude.{◌≡◌, IfOk, OnErr, IsSome, map, string_bytes};
-ghost use Rattle.words.specs.Verbs.{verb_of};
-ghost use Rattle.words.specs.Words.{NamesCommand, asked_of, by_verb, command_from, edited_comment};
-ghost use Rattle.words.specs.Words.{new_bug, of_bug, person};
+ghost use Rattle.std.specs.Prelude.{◌≡◌, IfOk, OnErr, IsSome, None, map, string_bytes};
+ghost use Rattle.gb_text.specs.Folder.{folder_of};
+ghost use Rattle.words.specs.Words.{NamesCommand, asked_by, asked_of, by_verb, edited_comment};
+ghost use Rattle.words.specs.Words.{merge_by_verb, new_bug, of_bug, peer_by_verb, person};
 ghost use Rattle.words.specs.declared.verb.Verb.TheVariants as verb;
 
 use crate::arguments::read_arguments;
 use crate::edit::Edit;
+use crate::merge::merge;
+use crate::pair::FolderPair;
+use crate::peer::{fetch, pull, push};
 use crate::verb::Verb;
 use bug_edits::{BugEdit, EditName, read_edit};
 use gb_text::{Folder, FolderFault, Line, Memory, Message, Text, Title};
+use remote_name::RemoteName;
 use std::alloc::Global;
 
 /// A command, with its arguments.
@@ -32,13 +36,43 @@ pub struct Request {
     pub command: Command,
 }
 
+/// What is exchanged with a peer.
+#[derive(Drop)]
+pub enum PeerCommand {
+    /// The commits of the peer come into the own folder, where its refs are kept under the name of
+    /// a remote.
+    Fetch { remote: RemoteName },
+    /// The commits of the peer come into the own folder as by a fetch, and are then merged.
+    Pull { remote: RemoteName },
+    /// The commits of the own folder go into the peer.
+    Push,
+}
+
+/// A command that exchanges commits, and the two folders that it is for.
+#[derive(Drop)]
+pub struct PeerRequest {
+    pub pair: FolderPair,
+    pub command: PeerCommand,
+}
+
+/// A merge, the folder that it is for, and the remote that it merges from.
+#[derive(Drop)]
+pub struct MergeRequest {
+    pub folder: Folder,
+    pub remote: RemoteName,
+}
+
 /// Why arguments alone refuse a command.
 #[derive(Clone, Copy, Debug, PartialEq, Eq)]
 pub enum BadWord {
-    /// The first argument names no folder.
+    /// The first argument names no folder, or that of the peer names none.
     BadFolder,
     /// The argument at this place after the command's name, counted from 1, breaks its rule.
     BadText(u64),
+    /// The folder and the peer overlap.
+    SameFolder,
+    /// The argument for a remote is not the name of one.
+    BadRemoteName,
 }
 
 /// What arguments ask.
@@ -48,15 +82,22 @@ pub enum Asked {
     Nothing,
     /// They give a command that they alone refuse.
     Refused(BadWord),
-    /// They ask for this.
+    /// They ask for this, in one folder.
     Request(Request),
+    /// They ask for this, between two folders.
+    Exchange(PeerRequest),
+    /// They ask for a merge of what was fetched from a remote.
+    Merge(MergeRequest),
 }
 
 /// What arguments ask: a folder, the name of a command, and as many arguments as the command takes,
 /// each read into its type. After the name the first `--` is dropped, and those after it are taken as
 /// they are; one before it that begins with `-` and is longer gives no command. A bad folder is
-/// refused first, and then the first argument that breaks its rule. Memory runs out only if the name
-/// is that of a command, and perhaps before it is known that its arguments give none.
+/// refused first, and then the first argument that breaks its rule. Of a command with a peer, a bad
+/// folder of the peer is refused next, then folders that overlap, and a remote that is no name last.
+/// Of a merge, a remote that is no name is refused after a bad folder.
+/// Memory runs out only if the name is that of a command, and perhaps before it is known that its
+/// arguments give none.
 pub fn read_words(alloc: Global, words: &[String]) -> Result<Asked, Memory>
     ensures read { IfOk result (λ asked. asked ≡ asked_of (map string_bytes words.now)) }
     ensures memory { OnErr result (NamesCommand (map string_bytes words.now)) }
@@ -64,13 +105,50 @@ pub fn read_words(alloc: Global, words: &[String]) -> Result<Asked, Memory>
     let [folder, name, rest @ ..] = words else {
         return Ok(Asked::Nothing);
     };
-    let Some(command) = command_from(alloc, name.as_str(), rest)? else {
+    let Some(verb) = Verb::read(name.as_str()) else {
         return Ok(Asked::Nothing);
     };
-    let folder = match Folder::read(alloc, folder.as_str()) {
-        Ok(folder) => folder,
-        Err(FolderFault::BadFolder) => return Ok(Asked::Refused(BadWord::BadFolder)),
-        Err(FolderFault::Memory) => return Err(Memory),
+    let Some(arguments) = read_arguments(alloc, rest)? else {
+        return Ok(Asked::Nothing);
+    };
+    asked_by_verb(alloc, folder.as_str(), verb, arguments.as_slice())
+}
+
+// What this command asks, of the word for its folder and of its arguments.
+fn asked_by_verb(
+    alloc: Global,
+    folder: &str,
+    verb: Verb,
+    arguments: &[&str],
+) -> Result<Asked, Memory>
+    ensures { IfOk result (λ asked. asked
+        ≡ asked_by (folder_of folder.now) (by_verb verb (map (λ s. s.now) arguments.now))
+        (peer_by_verb verb (map (λ s. s.now) arguments.now))
+        (merge_by_verb verb (map (λ s. s.now) arguments.now))) }
+{
+    match verb {
+        Verb::Fetch => fetch(alloc, folder, arguments),
+        Verb::Merge => merge(alloc, folder, arguments),
+        Verb::Pull => pull(alloc, folder, arguments),
+        Verb::Push => push(alloc, folder, arguments),
+        _ => asked_in(alloc, folder, by_verb(alloc, verb, arguments)?),
+    }
+}
+
+// A command in one folder that is no merge, if there is one: a bad folder is refused before an
+// argument.
+fn asked_in(
+    alloc: Global,
+    folder: &str,
+    command: Option<Result<Command, u64>>,
+) -> Result<Asked, Memory>
+    ensures { IfOk result (λ asked. asked ≡ asked_by (folder_of folder.now) command None None) }
+{
+    let Some(command) = command else {
+        return Ok(Asked::Nothing);
+    };
+    let Some(folder) = read_folder(alloc, folder)? else {
+        return Ok(Asked::Refused(BadWord::BadFolder));
     };
     Ok(match command {
         Ok(command) => Asked::Request(Request { folder, command }),
@@ -78,26 +156,22 @@ pub fn read_words(alloc: Global, words: &[String]) -> Result<Asked, Memory>
     })
 }
 
-// A command; or the place of the first argument that breaks its rule; or none, where the arguments
-// are not those of one.
-type Reading = Result<Option<Result<Command, u64>>, Memory>;
-
-// The command of this name that has the arguments that the rest gives.
-fn command_from(alloc: Global, name: &str, rest: &[String]) -> Reading
-    ensures read { IfOk result (λ read. read
-        ≡ command_from name.now (map string_bytes rest.now)) }
-    ensures memory { OnErr result (IsSome (verb_of name.now)) }
+/// The folder that a word names, if it names one.
+pub(crate) fn read_folder(alloc: Global, word: &str) -> Result<Option<Folder>, Memory>
+    ensures { IfOk result (λ folder. folder ≡ folder_of word.now) }
 {
-    let Some(verb) = Verb::read(name) else {
-        return Ok(None);
-    };
-    let Some(arguments) = read_arguments(alloc, rest)? else {
-        return Ok(None);
-    };
-    by_verb(alloc, verb, arguments.as_slice())
+    match Folder::read(alloc, word) {
+        Ok(folder) => Ok(Some(folder)),
+        Err(FolderFault::BadFolder) => Ok(None),
+        Err(FolderFault::Memory) => Err(Memory),
+    }
 }
 
-// This command, with these arguments.
+// A command; or the place of the first argument that breaks its rule; or none, where the arguments
+// are not those of one in one folder.
+type Reading = Result<Option<Result<Command, u64>>, Memory>;
+
+// This command, with these arguments. Those with a peer, and a merge, are none of these.
 fn by_verb(alloc: Global, verb: Verb, arguments: &[&str]) -> Reading
     ensures read { IfOk result (λ read. read ≡ by_verb verb (map (λ s. s.now) arguments.now)) }
     ensures memory { OnErr result (IsSome (by_verb verb (map (λ s. s.now) arguments.now))) }
@@ -112,6 +186,7 @@ fn by_verb(alloc: Global, verb: Verb, arguments: &[&str]) -> Reading
         Verb::Edit => edit_of_comment(alloc, arguments),
         Verb::Show => show(alloc, arguments),
         Verb::Log => log(alloc, arguments),
+        Verb::Fetch | Verb::Merge | Verb::Pull | Verb::Push => Ok(None),
     }
 }
 

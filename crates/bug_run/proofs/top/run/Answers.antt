@@ -1,16 +1,16 @@
-use Rattle.std.proofs.Common.{◌≡◌, inr, ℕ, List, map, IsOk, rules, refl, sym, subst}
+use Rattle.std.proofs.Common.{◌≡◌, ℕ, List, map, IsOk, rules, refl, sym, subst}
 use Rattle.std.specs.Prelude.{string_bytes}
 use Rattle.gb_store.specs.Files.{files_of}
 use Rattle.gb_store.proofs.MomentLemmas.{WroteBy-none}
-use Rattle.bug_run.specs.Asked.{folders_of}
-use Rattle.bug_run.specs.Printed.{Printed}
+use Rattle.bug_run.specs.Printed.{HasLines, Printed}
 use Rattle.bug_run.specs.Refusals.{usage_text}
+use Rattle.bug_run.specs.Reads.{ReadsAsked}
 use Rattle.bug_run.specs.Run.{AskedAnswers, RunWrites, call_of}
 use Rattle.bug_run.specs.declared.status.Status.TheVariants as status
 use Rattle.words.specs.Words.{asked_of}
 use Rattle.words.specs.declared.words.Asked.{Asked}
 use Rattle.words.specs.declared.words.Asked.TheVariants as asked
-use Rattle.bug_run.proofs.ReadLemmas.{command_narrower, done_was_ok}
+use Rattle.bug_run.proofs.ReadLemmas.{command_narrower, exchange_narrower, done_was_ok, lines_were_ok}
 use Rattle.bug_run.proofs.RunLemmas.{run_stays_sound, run_wrote}
 use Rattle.bug_run.proofs.top.run.Goals as goal
 
@@ -40,13 +40,76 @@ pub returns-in-Request-clause-reads : goal.returns-in-Request-clause-reads
 returns-in-Request-clause-reads g c = λ tells.
     let request = c.in-Request.request in
     let is : asked_of (map string_bytes c.args.words.now) ≡ asked.Request request = search rules in
+    let files = files_of (g.S.Store.history c.args.disk.now) in
+    let before = g.S.Store.object_reads c.args.disk.now in
+    let after = g.S.Store.object_reads c.perform-outcome.new.disk in
     let was_ok = done_was_ok g.K.Sink.tells g.K.Sink.takes_memory (g.K.Sink.written c.args.out.now) (g.K.Sink.written c.tell.new.out) c.perform-outcome.result c.tell.result c.tell.ensures.answers in
-    inr (
-      folders_of request,
-      record { request = request; is_asked = is; are_folders = refl },
-      command_narrower (files_of (g.S.Store.history c.args.disk.now)) request.folder request.command (IsOk c.perform-outcome.result) (c.tell.result ≡ status.Done)
-          (g.S.Store.object_reads c.args.disk.now) (g.S.Store.object_reads c.perform-outcome.new.disk) was_ok (c.perform-outcome.ensures.reads tells),
-    )
+    subst (λ (asks : Asked). ReadsAsked asks files (c.tell.result ≡ status.Done) (HasLines c.tell.result) before after) (sym is)
+    (command_narrower files request.folder request.command (IsOk c.perform-outcome.result) (c.tell.result ≡ status.Done) before after was_ok (c.perform-outcome.ensures.reads tells))
+
+pub returns-in-Exchange-clause-answers : goal.returns-in-Exchange-clause-answers
+returns-in-Exchange-clause-answers g c =
+    let asks = asked_of (map string_bytes c.args.words.now) in
+    let call = call_of g.S.Store.tells g.K.Sink.tells g.K.Sink.takes_memory asks c.args.moment in
+    let is : asks ≡ asked.Exchange c.in-Exchange.request = search rules in
+    subst (λ (asks : Asked). AskedAnswers asks call (g.S.Store.history c.args.disk.now) (g.S.Store.history c.exchange-outcome.new.disk)
+    (g.K.Sink.written c.args.out.now) (g.K.Sink.written c.tell-in-Exchange.new.out) c.tell-in-Exchange.result) (sym is)
+    (c.exchange-outcome.result, c.exchange-outcome.ensures.answers, c.tell-in-Exchange.ensures.answers)
+
+pub returns-in-Exchange-clause-wrote : goal.returns-in-Exchange-clause-wrote
+returns-in-Exchange-clause-wrote g c = record {
+  wrote = λ tells.
+      run_wrote (call_of g.S.Store.tells g.K.Sink.tells g.K.Sink.takes_memory (asked_of (map string_bytes c.args.words.now)) c.args.moment) (g.S.Store.history c.args.disk.now)
+      (g.S.Store.history c.exchange-outcome.new.disk) (g.K.Sink.written c.args.out.now) (g.K.Sink.written c.tell-in-Exchange.new.out) c.tell-in-Exchange.result tells
+      (returns-in-Exchange-clause-answers g c);
+}
+
+pub returns-in-Exchange-clause-sound : goal.returns-in-Exchange-clause-sound
+returns-in-Exchange-clause-sound g c = λ tells.
+    run_stays_sound (call_of g.S.Store.tells g.K.Sink.tells g.K.Sink.takes_memory (asked_of (map string_bytes c.args.words.now)) c.args.moment)
+    (g.S.Store.history c.args.disk.now) (g.S.Store.history c.exchange-outcome.new.disk) ((returns-in-Exchange-clause-wrote g c).wrote tells)
+
+pub returns-in-Exchange-clause-reads : goal.returns-in-Exchange-clause-reads
+returns-in-Exchange-clause-reads g c = λ tells.
+    let request = c.in-Exchange.request in
+    let is : asked_of (map string_bytes c.args.words.now) ≡ asked.Exchange request = search rules in
+    let files = files_of (g.S.Store.history c.args.disk.now) in
+    let before = g.S.Store.object_reads c.args.disk.now in
+    let after = g.S.Store.object_reads c.exchange-outcome.new.disk in
+    let was_ok = lines_were_ok g.K.Sink.tells g.K.Sink.takes_memory (g.K.Sink.written c.args.out.now) (g.K.Sink.written c.tell-in-Exchange.new.out) c.exchange-outcome.result c.tell-in-Exchange.result c.tell-in-Exchange.ensures.answers in
+    subst (λ (asks : Asked). ReadsAsked asks files (c.tell-in-Exchange.result ≡ status.Done) (HasLines c.tell-in-Exchange.result) before after) (sym is)
+    (exchange_narrower request.command request.pair files (IsOk c.exchange-outcome.result) (HasLines c.tell-in-Exchange.result) before after was_ok (c.exchange-outcome.ensures.reads tells))
+
+pub returns-in-Merge-clause-answers : goal.returns-in-Merge-clause-answers
+returns-in-Merge-clause-answers g c =
+    let asks = asked_of (map string_bytes c.args.words.now) in
+    let call = call_of g.S.Store.tells g.K.Sink.tells g.K.Sink.takes_memory asks c.args.moment in
+    let is : asks ≡ asked.Merge c.in-Merge.request = search rules in
+    subst (λ (asks : Asked). AskedAnswers asks call (g.S.Store.history c.args.disk.now) (g.S.Store.history c.merge_tracked-outcome.new.disk)
+    (g.K.Sink.written c.args.out.now) (g.K.Sink.written c.tell-in-Merge.new.out) c.tell-in-Merge.result) (sym is)
+    (c.merge_tracked-outcome.result, c.merge_tracked-outcome.ensures.answers, c.tell-in-Merge.ensures.answers)
+
+pub returns-in-Merge-clause-wrote : goal.returns-in-Merge-clause-wrote
+returns-in-Merge-clause-wrote g c = record {
+  wrote = λ tells.
+      run_wrote (call_of g.S.Store.tells g.K.Sink.tells g.K.Sink.takes_memory (asked_of (map string_bytes c.args.words.now)) c.args.moment) (g.S.Store.history c.args.disk.now)
+      (g.S.Store.history c.merge_tracked-outcome.new.disk) (g.K.Sink.written c.args.out.now) (g.K.Sink.written c.tell-in-Merge.new.out) c.tell-in-Merge.result tells
+      (returns-in-Merge-clause-answers g c);
+}
+
+pub returns-in-Merge-clause-sound : goal.returns-in-Merge-clause-sound
+returns-in-Merge-clause-sound g c = λ tells.
+    run_stays_sound (call_of g.S.Store.tells g.K.Sink.tells g.K.Sink.takes_memory (asked_of (map string_bytes c.args.words.now)) c.args.moment)
+    (g.S.Store.history c.args.disk.now) (g.S.Store.history c.merge_tracked-outcome.new.disk) ((returns-in-Merge-clause-wrote g c).wrote tells)
+
+pub returns-in-Merge-clause-reads : goal.returns-in-Merge-clause-reads
+returns-in-Merge-clause-reads g c = λ tells.
+    let is : asked_of (map string_bytes c.args.words.now) ≡ asked.Merge c.in-Merge.request = search rules in
+    let files = files_of (g.S.Store.history c.args.disk.now) in
+    let before = g.S.Store.object_reads c.args.disk.now in
+    let after = g.S.Store.object_reads c.merge_tracked-outcome.new.disk in
+    subst (λ (asks : Asked). ReadsAsked asks files (c.tell-in-Merge.result ≡ status.Done) (HasLines c.tell-in-Merge.result) before after) (sym is)
+    (c.merge_tracked-outcome.ensures.reads tells)
 
 pub returns-in-Refused-clause-answers : goal.returns-in-Refused-clause-answers
 returns-in-Refused-clause-answers g c =
