@@ -3,7 +3,7 @@ use crate::system::{
     Testing, count, holds, is_absent, is_free, is_long, link, lists, make_dir, put, put_fails,
     remove, store_over, write,
 };
-use crate::{explained, planted};
+use crate::{exchanges, explained, planted};
 use bug_run::{Refused, Status};
 use folder_store::FolderStore;
 use gb_store::MemSink;
@@ -46,6 +46,7 @@ fn files_are_kept_in_real_folders(rt: HostRuntime) -> Result<(), Fail> {
     planted::try_all(&rt, &mut store)?;
     persons_are_made(&rt)?;
     explained::try_all(&rt)?;
+    exchanges::try_all(&rt)?;
     fs::remove_dir_all(&rt, root.as_str())?;
     Ok(())
 }
@@ -142,14 +143,20 @@ fn removed_files<R: Testing>(rt: &R, store: &mut FolderStore<R>) -> Result<(), F
     Ok(())
 }
 
-// How a command ends, and what it prints.
-fn run<R: Testing>(rt: &R, words: &[&str]) -> Result<(Status, MemSink), Fail> {
+/// How a command ends, and what it prints.
+pub fn run<R: Testing>(rt: &R, words: &[&str]) -> Result<(Status, MemSink), Fail> {
+    let (status, out) = begin(rt, words)?;
+    Ok((status?, out))
+}
+
+/// The same of a command that may not be begun.
+pub fn begin<R: Testing>(rt: &R, words: &[&str]) -> Result<(io::Result<Status>, MemSink), Fail> {
     let mut texts = Vec::new(rt.alloc());
     for word in words {
         texts.push(String::from_str(rt.alloc(), word)?)?;
     }
     let mut out = MemSink::new(rt.alloc(), List::new(rt.alloc()), 100);
-    let status = run_over_folders(rt, &texts, &mut out)?;
+    let status = run_over_folders(rt, &texts, &mut out);
     Ok((status, out))
 }
 

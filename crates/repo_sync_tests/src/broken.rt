@@ -1,33 +1,14 @@
 //! Refs and objects that are damaged.
 use crate::folders::{
-    exchange, first, head_of, local, object_path, rests, tells, tracked, with_a_bug,
+    digits, exchange, first, head_of, lines, local, object_path, ref_path, rests, tells, tracked,
+    with_a_bug,
 };
 use fixtures::Disk;
-use gb_text::{Id, List, Name};
+use gb_text::{List, Name};
 use repo_state::ReadStop;
 use repo_sync::Exchange::{Fetch, Push};
 use repo_sync::Line;
-use std::alloc::Global;
 use std::test::Fail;
-
-fn digits(alloc: Global, bytes: &[u8]) -> Result<String, Fail> {
-    Ok(String::from_utf8_lossy(alloc, bytes)?)
-}
-
-// Lines of a verb for the identity and the bug of `a`.
-fn lines(disk: &mut Disk, verb: &str, people: &str, bugs: &str) -> Result<String, Fail> {
-    let alloc = disk.alloc;
-    let person = digits(alloc, &first(disk, "a", &local("identity"))?.text())?;
-    let bug = digits(alloc, &first(disk, "a", &local("bug"))?.text())?;
-    Ok(format!(in alloc; "{verb} identity {person} {people}\n{verb} bug {bug} {bugs}\n")?)
-}
-
-// The path of a ref of a folder.
-fn ref_path(disk: &Disk, folder: &str, word: &str, id: &Id) -> Result<String, Fail> {
-    let dir = if word == "bug" { "bugs" } else { "identities" };
-    let id = digits(disk.alloc, &id.text())?;
-    Ok(format!(in disk.alloc; "{folder}/refs/{dir}/{id}")?)
-}
 
 fn head(disk: &mut Disk, word: &str) -> Result<Name, Fail> {
     let id = first(disk, "a", &local(word))?;

@@ -1,26 +1,10 @@
 //! What comes into a folder, and goes out of it.
-use crate::folders::{done, exchange, first, head_of, local, rests, tells, tracked, with_a_bug};
+use crate::folders::{
+    done, exchange, first, head_of, lines, local, rests, tells, tracked, with_a_bug,
+};
 use fixtures::Disk;
-use gb_text::Id;
 use repo_sync::Exchange::{Fetch, Push};
-use std::alloc::Global;
 use std::test::Fail;
-
-// A line for the identity and one for the bug.
-fn both(disk: &mut Disk, verb: &str, people: &str, bugs: &str) -> Result<String, Fail> {
-    let alloc = disk.alloc;
-    let person = first(disk, "a", &local("identity"))?;
-    let bug = first(disk, "a", &local("bug"))?;
-    let person = line(alloc, verb, "identity", &person, people)?;
-    let bug = line(alloc, verb, "bug", &bug, bugs)?;
-    Ok(format!(in alloc; "{person}{bug}")?)
-}
-
-fn line(alloc: Global, verb: &str, word: &str, id: &Id, outcome: &str) -> Result<String, Fail> {
-    let digits = id.text();
-    let digits = String::from_utf8_lossy(alloc, &digits)?;
-    Ok(format!(in alloc; "{verb} {word} {digits} {outcome}\n")?)
-}
 
 // A head on a side of a folder is that of `a`.
 fn has_head(disk: &mut Disk, folder: &str, word: &str, is_tracked: bool) -> Result<(), Fail> {
@@ -40,17 +24,17 @@ fn has_head(disk: &mut Disk, folder: &str, word: &str, is_tracked: bool) -> Resu
 #[test]
 fn what_is_pushed_is_fetched(rt: HostRuntime) -> Result<(), Fail> {
     let mut disk = with_a_bug(rt.alloc())?;
-    let pushed = both(&mut disk, "push", "pushed", "pushed")?;
+    let pushed = lines(&mut disk, "push", "pushed", "pushed")?;
     tells(&mut disk, Push, "a", "hub", &pushed)?;
     has_head(&mut disk, "hub", "identity", false)?;
     has_head(&mut disk, "hub", "bug", false)?;
-    let same = both(&mut disk, "push", "same", "same")?;
+    let same = lines(&mut disk, "push", "same", "same")?;
     rests(&mut disk, Push, "a", "hub", &same)?;
-    let fetched = both(&mut disk, "fetch", "fetched", "fetched")?;
+    let fetched = lines(&mut disk, "fetch", "fetched", "fetched")?;
     tells(&mut disk, Fetch, "b", "hub", &fetched)?;
     has_head(&mut disk, "b", "identity", true)?;
     has_head(&mut disk, "b", "bug", true)?;
-    let same = both(&mut disk, "fetch", "same", "same")?;
+    let same = lines(&mut disk, "fetch", "same", "same")?;
     rests(&mut disk, Fetch, "b", "hub", &same)
 }
 
@@ -58,12 +42,12 @@ fn what_is_pushed_is_fetched(rt: HostRuntime) -> Result<(), Fail> {
 fn what_is_new_goes_forward(rt: HostRuntime) -> Result<(), Fail> {
     let alloc = rt.alloc();
     let mut disk = with_a_bug(alloc)?;
-    let pushed = both(&mut disk, "push", "pushed", "pushed")?;
+    let pushed = lines(&mut disk, "push", "pushed", "pushed")?;
     tells(&mut disk, Push, "a", "hub", &pushed)?;
     let bug = first(&mut disk, "a", &local("bug"))?.text();
     let bug = String::from_utf8_lossy(alloc, &bug)?;
     done(&mut disk, &["a", "comment", bug.as_str(), "more"], 3)?;
-    let forward = both(&mut disk, "push", "same", "pushed")?;
+    let forward = lines(&mut disk, "push", "same", "pushed")?;
     tells(&mut disk, Push, "a", "hub", &forward)?;
     has_head(&mut disk, "hub", "bug", false)?;
     done(&mut disk, &["hub", "user-new", "Bob", "bob@x"], 4)?;
@@ -73,7 +57,7 @@ fn what_is_new_goes_forward(rt: HostRuntime) -> Result<(), Fail> {
     let digits = theirs.text();
     let digits = String::from_utf8_lossy(alloc, &digits)?;
     let other = format!(in alloc; "not-forward {digits}")?;
-    let refused = both(&mut disk, "push", "same", other.as_str())?;
+    let refused = lines(&mut disk, "push", "same", other.as_str())?;
     tells(&mut disk, Push, "a", "hub", &refused)
 }
 

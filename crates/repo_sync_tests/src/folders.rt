@@ -2,7 +2,8 @@
 use fixtures::Disk;
 use gb_text::{Folder, Id, List, Name};
 use object_store::path_of;
-use repo_state::{ReadStop, RemoteName, Side, head, ids};
+use remote_name::RemoteName;
+use repo_state::{ReadStop, Side, head, ids};
 use repo_sync::{Exchange, Line, fetch, lines_text, push};
 use run_fixtures::{DONE, run_words};
 use std::alloc::Global;
@@ -57,6 +58,26 @@ pub fn first(disk: &mut Disk, folder: &str, side: &Side) -> Result<Id, Fail> {
 pub fn head_of(disk: &mut Disk, folder: &str, side: &Side, id: &Id) -> Result<Option<Name>, Fail> {
     let folder = Folder::read(disk.alloc, folder)?;
     Ok(head(disk.alloc, &mut disk.store, &folder, side, id)?)
+}
+
+/// Digits as text.
+pub fn digits(alloc: Global, bytes: &[u8]) -> Result<String, Fail> {
+    Ok(String::from_utf8_lossy(alloc, bytes)?)
+}
+
+/// Lines of a verb for the identity and the bug of `a`.
+pub fn lines(disk: &mut Disk, verb: &str, people: &str, bugs: &str) -> Result<String, Fail> {
+    let alloc = disk.alloc;
+    let person = digits(alloc, &first(disk, "a", &local("identity"))?.text())?;
+    let bug = digits(alloc, &first(disk, "a", &local("bug"))?.text())?;
+    Ok(format!(in alloc; "{verb} identity {person} {people}\n{verb} bug {bug} {bugs}\n")?)
+}
+
+/// The path of a ref of a folder.
+pub fn ref_path(disk: &Disk, folder: &str, word: &str, id: &Id) -> Result<String, Fail> {
+    let dir = if word == "bug" { "bugs" } else { "identities" };
+    let id = digits(disk.alloc, &id.text())?;
+    Ok(format!(in disk.alloc; "{folder}/refs/{dir}/{id}")?)
 }
 
 /// The path of an object of a folder.
