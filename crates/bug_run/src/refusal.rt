@@ -1,7 +1,7 @@
 //! The lines that tell refusals.
 ghost use Rattle.std.specs.Prelude.{◌≡◌, ◌++◌, IfOk, codes, decimal};
 ghost use Rattle.hex.specs.Hex.{encode_lower};
-ghost use Rattle.render.specs.Lines.{Adds};
+ghost use Rattle.person_names.specs.Adding.{Adds};
 ghost use Rattle.bug_run.specs.Refusals.{number_of, refusal_line, refusal_words, words_of};
 
 use crate::status::Refused;

@@ -12,7 +12,8 @@ use Rattle.bug_ops.specs.declared.snapshot.Excerpt.{Excerpt}
 use Rattle.bug_ops.specs.declared.snapshot.Snapshot.{Snapshot}
 use Rattle.combined_id.specs.Combined.{combined_of}
 use Rattle.identity.specs.declared.chain.Person.{Person}
-use Rattle.render.specs.Lines.{name_among, told_line}
+use Rattle.person_names.specs.Named.{name_among}
+use Rattle.render.specs.Lines.{told_line}
 
 -- ---- the bug
 

@@ -1,13 +1,13 @@
 //! The comments of a bug.
 ghost use Rattle.std.specs.List.{flat_map};
-ghost use Rattle.render.specs.Lines.{Adds};
+ghost use Rattle.person_names.specs.Adding.{Adds};
 ghost use Rattle.render.specs.Show.{comment_line, comment_lines, message_line, message_lines};
 
-use crate::lines::push_named;
 use bug_ops::Comment;
 use combined_id::combine;
 use gb_text::{Id, push_id, push_line_end, push_number};
 use identity::Person;
+use person_names::push_named;
 use std::alloc::AllocError;
 
 /// Adds the comments of a bug.

@@ -1,9 +1,11 @@
-//! Lines, and how persons are named in them.
-ghost use Rattle.render.specs.Lines.{Adds, name_among, short_of, told_line};
+//! Lines.
+ghost use Rattle.person_names.specs.Adding.{Adds};
+ghost use Rattle.render.specs.Lines.{told_line};
 ghost use Rattle.render.specs.Show.{moment_line, person_line};
 
-use gb_text::{Id, push_ascii, push_line_end, push_number};
+use gb_text::{Id, push_line_end, push_number};
 use identity::Person;
+use person_names::push_named;
 use std::alloc::AllocError;
 
 /// Adds a line of a word and a text.
@@ -46,23 +48,4 @@ pub(crate) fn push_moment(
     text.push_str(" ")?;
     push_number(text, time)?;
     push_line_end(text)
-}
-
-/// Adds the name of the first person with this id, or the id's first digits where there is none.
-pub(crate) fn push_named(text: &mut String, names: &[Person], id: &Id) -> Result<(), AllocError>
-    ensures { Adds result text.old text.new (name_among names.now id.now) }
-{
-    for person in names {
-        if person.id == *id {
-            return text.push_str(person.name.as_str());
-        }
-    }
-    push_short(text, id)
-}
-
-// Adds the first seven digits of an id.
-fn push_short(text: &mut String, id: &Id) -> Result<(), AllocError>
-    ensures { Adds result text.old text.new (short_of id.now) }
-{
-    push_ascii(text, &id.text()[..7])
 }

@@ -1,6 +1,6 @@
 //! The log of a bug.
 ghost use Rattle.std.specs.Prelude.{◌≡◌, IfOk};
-ghost use Rattle.render.specs.Lines.{Adds};
+ghost use Rattle.person_names.specs.Adding.{Adds};
 ghost use Rattle.render.specs.Log.{log_line, log_text_of};
 
 use bug_ops::BugOp;

@@ -2,7 +2,8 @@
 ghost use Rattle.std.specs.Prelude.{◌≡◌, IfOk, codes};
 ghost use Rattle.std.specs.List.{flat_map};
 ghost use Rattle.hex.specs.Hex.{encode_lower};
-ghost use Rattle.render.specs.Lines.{Adds, told_line};
+ghost use Rattle.person_names.specs.Adding.{Adds};
+ghost use Rattle.render.specs.Lines.{told_line};
 ghost use Rattle.render.specs.Show.{label_line, metadata_line, person_line, person_lines, show_text_of, status_word, title_lines};
 
 use crate::comments::push_comments;

@@ -1,6 +1,6 @@
 //! The list of persons.
 ghost use Rattle.std.specs.Prelude.{◌≡◌, ◌++◌, IfOk, codes};
-ghost use Rattle.render.specs.Lines.{Adds};
+ghost use Rattle.person_names.specs.Adding.{Adds};
 ghost use Rattle.render.specs.Users.{is_user, star, user_line, users_text_of};
 
 use gb_text::{Id, Memory, Text, push_id, push_line_end};

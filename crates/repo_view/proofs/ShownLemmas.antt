@@ -18,7 +18,8 @@ use Rattle.dag_entity.specs.Faults.{EntityFaultHolds}
 use Rattle.dag_entity.specs.declared.fault.EntityFault.{EntityFault}
 use Rattle.dag_entity.proofs.LawOrders.{one_list}
 use Rattle.snapshot.specs.LastMention.{IsBugList, actors_of, author_of, commenter_in, comments_of, each_once, participants_of, row_of, snapshot_of}
-use Rattle.render.specs.Lines.{name_among, told_line}
+use Rattle.person_names.specs.Named.{name_among}
+use Rattle.render.specs.Lines.{told_line}
 use Rattle.render.specs.Show.{comment_lines, person_line, person_lines, show_text_of}
 use Rattle.render.specs.Users.{users_text_of}
 use Rattle.repo_state.specs.Answers.{HasBadPerson, IsBadPerson}

@@ -12,7 +12,7 @@ use Rattle.dag_entity.specs.Entities.{IsOperationCommit, IsOperationList}
 use Rattle.dag_entity.specs.declared.entity.Entity.{Entity}
 use Rattle.dag_entity.specs.declared.entity.Placed.{Placed}
 use Rattle.identity.specs.declared.chain.Person.{Person}
-use Rattle.render.specs.Lines.{name_among}
+use Rattle.person_names.specs.Named.{name_among}
 use Rattle.render.specs.Show.{show_text_of}
 use Rattle.render.specs.Users.{users_text_of}
 use Rattle.repo_state.specs.Answers.{HasBadPerson, IsBadUser, IsUser, ReadsPeople}

@@ -1,6 +1,6 @@
 use Rattle.std.proofs.Common.{◌≡◌, string_bytes, drop}
-use Rattle.render.specs.Lines.{name_among}
-use Rattle.render.proofs.lines.push_named.Given as goal
+use Rattle.person_names.specs.Named.{name_among}
+use Rattle.person_names.proofs.named.push_named.Given as goal
 
 abbrev pub invariant-loop-person : goal.invariant-loop-person
 invariant-loop-person l = record {

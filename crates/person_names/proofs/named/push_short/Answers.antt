@@ -2,7 +2,7 @@ use Rattle.std.proofs.Common.{List, ℕ, sym, subst}
 use Rattle.std.specs.Str.{IsAscii}
 use Rattle.std.proofs.lemmas.Str.{IsAscii-take}
 use Rattle.gb_text.proofs.AsciiLemmas.{IsAscii-encode_lower}
-use Rattle.render.proofs.lines.push_short.Goals as goal
+use Rattle.person_names.proofs.named.push_short.Goals as goal
 
 pub push_ascii-requires : goal.push_ascii-requires
 push_ascii-requires c =
