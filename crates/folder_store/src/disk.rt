@@ -162,16 +162,20 @@ fn in_order(names: Vec<Text>) -> Vec<Text>
 }
 
 /// Puts a whole file at a path of a folder, by way of a new file in the same folder: at each moment what stands at the path
-/// is what stood there before, or all of the bytes, which have reached the disk. A file that stood there keeps its mode; a
-/// link that stood there is replaced and not followed.
+/// is what stood there before, or all of the bytes, which have reached the disk. A file that stood there keeps its mode, if one
+/// may have stood there; a link that stood there is replaced and not followed.
 pub fn put<R: Files + RandomSource>(
     rt: &R,
     alloc: Global,
     folder: &str,
     path: &str,
     bytes: &[u8],
+    may_stand: bool,
 ) -> io::Result<()> {
-    let mode = file_at(rt, path)?.map(|entry| entry.mode() & 0o777);
+    let mode = match may_stand {
+        true => file_at(rt, path)?.map(|entry| entry.mode() & 0o777),
+        false => None,
+    };
     for _ in 0..NAMES {
         let temporary = temporary_path(rt, alloc, folder)?;
         match create_new(rt, temporary.as_str(), mode) {

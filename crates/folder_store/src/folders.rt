@@ -9,8 +9,8 @@ use crate::claim::{Claim, Purpose};
 use crate::disk;
 use crate::failure::{Call, Failure, at};
 use crate::lock::{Locking, Locks};
-use crate::place::{Kind, folder_of};
-use crate::settled::Settled;
+use crate::place::{Kind, folder_of, is_tracking};
+use crate::settled::{Settled, is_commit};
 use crate::unsynced::Unsynced;
 use crate::ways::Ways;
 use gb_store::Content;
@@ -29,18 +29,23 @@ pub struct Folders {
     ways: Ways,
     unsynced: Unsynced,
     settled: Settled,
+    found: BTreeSet<String>,
+    exchanges: bool,
     cleaned: BTreeSet<String>,
 }
 
 impl Folders {
     /// The folders that are claimed, of which nothing is known. Takes no memory.
     pub fn new(alloc: Global, claims: Vec<Claim>) -> Folders {
+        let exchanges = claims.len() > 1;
         Folders {
             claims,
             locks: Locks::none(alloc),
             ways: Ways::new(alloc),
             unsynced: Unsynced::new(alloc),
             settled: Settled::new(alloc),
+            found: BTreeSet::new(alloc),
+            exchanges,
             cleaned: BTreeSet::new(alloc),
         }
     }
@@ -101,7 +106,7 @@ impl Folders {
             .enter(rt, alloc, claim, folder, &mut self.unsynced)?;
         self.clean(rt, alloc, folder)?;
         self.prepare(rt, alloc, kind, path, bytes)?;
-        let done = disk::put(rt, alloc, folder, path, bytes);
+        let done = disk::put(rt, alloc, folder, path, bytes, kind != Kind::Object);
         if done.is_err() {
             self.settled.forget(path);
         }
@@ -134,6 +139,9 @@ impl Folders {
 
     // What was found at a path may be named by what is put later. It stands, but whether its folder has reached the disk
     // nobody knows. What a ref names reached the disk before the ref stood.
+    //
+    // An exchange or a merge says of a ref that it found that nothing is left to be done, and writes nothing then. So there the
+    // folder is synced when the first file is found in it. Each folder is looked at once: this run has its lock.
     fn note_found<R: Files>(
         &mut self,
         rt: &R,
@@ -146,16 +154,24 @@ impl Folders {
         };
         let claim = claim_of(alloc, &self.claims, path)?;
         let folder = folder_of(path);
-        self.ways
-            .enter(rt, alloc, claim, folder, &mut self.unsynced)?;
-        self.unsynced.add(alloc, folder)?;
+        if !self.found.contains(folder) {
+            self.ways
+                .enter(rt, alloc, claim, folder, &mut self.unsynced)?;
+            self.unsynced.add(alloc, folder)?;
+            self.exchanges = self.exchanges || is_tracking(path);
+            if self.exchanges {
+                self.unsynced.sync(rt, alloc, &self.claims)?;
+            }
+            self.found.insert(String::from_str(alloc, folder)?)?;
+        }
         match head_in(text.as_slice()) {
             Some(head) => self.settled.add_head(alloc, claim, &head),
             None => Ok(()),
         }
     }
 
-    // Has what a file may name reach the disk before it is put. An object names what no ref leads to yet, which may wait.
+    // Has what a file may name reach the disk before it is put. What a blob or a tree names may wait, since no commit leads to
+    // it yet.
     fn prepare<R: Files>(
         &mut self,
         rt: &R,
@@ -167,22 +183,29 @@ impl Folders {
         let claim = claim_of(alloc, &self.claims, path)?;
         match kind {
             Kind::Row => return Ok(()),
-            Kind::Object => self.settled.add_put(alloc, claim, path, bytes)?,
+            Kind::Object => {
+                self.settled.add_names(alloc, claim, bytes)?;
+                if is_commit(bytes) {
+                    self.sync_named(rt, alloc, path)?;
+                }
+                self.settled.add_put(alloc, path)?;
+            }
             Kind::Other => {
                 if let Some(head) = head_in(bytes) {
-                    self.settled.settle(
-                        rt,
-                        alloc,
-                        claim,
-                        &head,
-                        &mut self.ways,
-                        &mut self.unsynced,
-                    )?;
+                    self.settled.add_named(alloc, claim, &head)?;
                 }
-                self.unsynced.sync(rt, alloc, &self.claims)?;
+                self.sync_named(rt, alloc, path)?;
             }
         }
         Ok(self.unsynced.add(alloc, folder_of(path))?)
+    }
+
+    // Has all that was put, and the objects that wait, reach the disk before a file that may name them is put at this path.
+    fn sync_named<R: Files>(&mut self, rt: &R, alloc: Global, path: &str) -> Result<(), Failure> {
+        let claim = claim_of(alloc, &self.claims, path)?;
+        self.settled
+            .settle(rt, alloc, claim, &mut self.ways, &mut self.unsynced)?;
+        self.unsynced.sync(rt, alloc, &self.claims)
     }
 
     // Removes what killed runs left in a folder, once. A run that may not be alone leaves it.

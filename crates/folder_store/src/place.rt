@@ -35,6 +35,11 @@ pub fn folder_of(path: &str) -> &str {
     }
 }
 
+/// Whether a path is that of a ref of a remote.
+pub fn is_tracking(path: &str) -> bool {
+    path.starts_with("refs/remotes/") || path.contains("/refs/remotes/")
+}
+
 // Whether the last parts of a path are `git-bug`, `cache`, a kind of row and an id.
 fn is_row_path(path: &str) -> bool {
     let Some((front, name)) = path.rsplit_once('/') else {

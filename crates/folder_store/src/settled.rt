@@ -1,4 +1,5 @@
-//! Which objects have reached the disk, as far as a run knows.
+//! Which objects have reached the disk, as far as a run knows. A commit is put after all that it names has reached the disk,
+//! so what a commit that stands names has reached it too.
 use crate::claim::Claim;
 use crate::disk;
 use crate::failure::{Call, Failure, at};
@@ -11,9 +12,12 @@ use git_object::{Commit, Frame, Kind, Mode, Tree};
 use object_store::{MOST_BYTES, path_of};
 use std::alloc::{AllocError, Global};
 use std::collections::BTreeSet;
+use std::io;
+use std::io::ErrorKind;
 use std::rt::Files;
 
-/// The objects, by their paths, that have reached the disk with all that they name, but for those that wait.
+/// The objects, by their paths, whose files have reached the disk with all that they name, but for those that wait and for the
+/// folders that are to be synced.
 #[derive(Drop)]
 pub struct Settled {
     whole: BTreeSet<String>,
@@ -29,16 +33,9 @@ impl Settled {
         }
     }
 
-    /// An object is put, and so its file reaches the disk. What it names and this run did not put has to wait.
-    pub fn add_put(
-        &mut self,
-        alloc: Global,
-        claim: &Claim,
-        path: &str,
-        text: &[u8],
-    ) -> Result<(), Failure> {
-        self.add_whole(alloc, path)?;
-        self.add_names(alloc, claim, text)
+    /// An object is put at this path, and so its file reaches the disk.
+    pub fn add_put(&mut self, alloc: Global, path: &str) -> Result<(), AllocError> {
+        self.add_whole(alloc, path)
     }
 
     /// The object at a path was not put in the end.
@@ -52,18 +49,21 @@ impl Settled {
         Ok(self.add_whole(alloc, path.as_str())?)
     }
 
-    /// Has an object, those that wait and all below them that another run may have left in memory reach the disk, but for
-    /// the folders that it adds to those that are to be synced.
+    /// A ref is to name this object, which waits.
+    pub fn add_named(&mut self, alloc: Global, claim: &Claim, head: &Name) -> Result<(), Failure> {
+        Ok(self.waiting.push(object_path(alloc, claim, head)?)?)
+    }
+
+    /// Has the objects that wait reach the disk, with what another run may have left in memory of what they name, but for
+    /// the folders that it adds to those that are to be synced. An object that is missing is an error.
     pub fn settle<R: Files>(
         &mut self,
         rt: &R,
         alloc: Global,
         claim: &Claim,
-        head: &Name,
         ways: &mut Ways,
         unsynced: &mut Unsynced,
     ) -> Result<(), Failure> {
-        self.waiting.push(object_path(alloc, claim, head)?)?;
         for _ in 0..u64::MAX {
             let Some(path) = self.waiting.pop() else {
                 break;
@@ -77,7 +77,8 @@ impl Settled {
         Ok(())
     }
 
-    // Has the file of an object reach the disk. What it names waits.
+    // Has the file of an object reach the disk. What it names waits, unless it is a commit: what that names has reached the
+    // disk before.
     fn settle_one<R: Files>(
         &mut self,
         rt: &R,
@@ -88,20 +89,27 @@ impl Settled {
         unsynced: &mut Unsynced,
     ) -> Result<(), Failure> {
         let folder = folder_of(path);
-        if self.whole.contains(path) || !ways.stands(rt, alloc, claim, folder)? {
+        if self.whole.contains(path) {
             return Ok(());
+        }
+        if !ways.stands(rt, alloc, claim, folder)? {
+            return Err(missing(alloc, path));
         }
         ways.enter(rt, alloc, claim, folder, unsynced)?;
         unsynced.add(alloc, folder)?;
         let read = disk::read_synced(rt, alloc, path, MOST_BYTES);
-        if let Content::Whole(text) = at(alloc, Call::Sync, path, read)? {
-            self.add_names(alloc, claim, text.as_slice())?;
+        match at(alloc, Call::Sync, path, read)? {
+            Content::Absent => return Err(missing(alloc, path)),
+            Content::Whole(text) if !is_commit(text.as_slice()) => {
+                self.add_names(alloc, claim, text.as_slice())?;
+            }
+            _ => {}
         }
         Ok(self.add_whole(alloc, path)?)
     }
 
-    // Has the objects wait that the text of an object names, but those that reached the disk.
-    fn add_names(&mut self, alloc: Global, claim: &Claim, text: &[u8]) -> Result<(), Failure> {
+    /// Has the objects wait that the text of an object names, but those that reached the disk.
+    pub fn add_names(&mut self, alloc: Global, claim: &Claim, text: &[u8]) -> Result<(), Failure> {
         for name in names_in(alloc, text)? {
             let path = object_path(alloc, claim, &name)?;
             if !self.whole.contains(path.as_str()) {
@@ -119,6 +127,20 @@ impl Settled {
 
 fn object_path(alloc: Global, claim: &Claim, name: &Name) -> Result<Text, AllocError> {
     path_of(alloc, &claim.folder, name).map_err(|_| AllocError)
+}
+
+// What is to be named is not there.
+fn missing(alloc: Global, path: &str) -> Failure {
+    let said = io::Error::new(
+        ErrorKind::NotFound,
+        "a commit or a ref would name it, and it is missing",
+    );
+    Failure::new(alloc, Call::Sync, path, said)
+}
+
+/// Whether the text of an object is that of a commit.
+pub fn is_commit(text: &[u8]) -> bool {
+    Frame::read(text).is_some_and(|frame| frame.kind == Kind::Commit)
 }
 
 // The objects that the text of an object names. A commit of another repository is none of them.
