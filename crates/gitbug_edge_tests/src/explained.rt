@@ -24,6 +24,7 @@ pub fn try_all<R: Testing>(rt: &R) -> Result<(), Fail> {
     the_clock_and_random_bytes_are_used(rt)?;
     folders_are_synced_after_their_files(rt)?;
     objects_that_were_left_are_synced(rt)?;
+    refs_that_an_exchange_finds_are_synced(rt)?;
     files_that_change_are_read_whole(rt)?;
     Ok(())
 }
@@ -276,22 +277,32 @@ fn syncs(lines: &[&str], path: &str) -> bool {
     }
 }
 
-// Each folder is synced after a file is put in it, and those of objects before anything names them.
+// Each folder is synced after a file is put in it: those of a tree and of what it names before the commit is put, and that
+// of the commit before the ref.
 fn folders_are_synced_after_their_files<R: Testing>(rt: &R) -> Result<(), Fail> {
     let ran = run_at(rt, &["s", "user-new", "Ana", "a@x"])?;
     let calls = ran.notes.calls(rt.alloc())?;
     let lines = calls_of(rt, calls.as_str())?;
+    let mut commit = 0;
+    for (at, line) in lines.iter().enumerate() {
+        if line.starts_with("rename s/objects/") {
+            commit = at;
+        }
+    }
     for (at, line) in lines.iter().enumerate() {
         let Some(path) = line.strip_prefix("rename ") else {
             continue;
         };
-        let after = lines.get(at..).unwrap_or(&[]);
+        let names = if at < commit { "rename " } else { "rename s/refs/" };
+        let begin = if at < commit { commit } else { at };
+        let after = lines.get(begin..).unwrap_or(&[]);
         let next = after
             .iter()
-            .position(|line| line.starts_with("rename s/refs/"))
-            .filter(|next| *next > 0)
+            .position(|line| line.starts_with(names))
+            .filter(|next| at < commit || *next > 0)
             .unwrap_or(after.len());
-        assert!(rt; syncs(after.get(..next).unwrap_or(&[]), path));
+        let end = begin.saturating_add(next);
+        assert!(rt; syncs(lines.get(at..end).unwrap_or(&[]), path));
     }
     let puts = lines
         .iter()
@@ -301,18 +312,50 @@ fn folders_are_synced_after_their_files<R: Testing>(rt: &R) -> Result<(), Fail> 
     Ok(())
 }
 
-// Three objects that a killed run left are not put again. Each is opened to be compared, and once more to be synced.
+// Three objects that a killed run left are not put again. Each is opened to be compared. The commit is opened once more to be
+// synced: what it names was synced before it. Where the run had not put the commit, the other two are.
 fn objects_that_were_left_are_synced<R: Testing>(rt: &R) -> Result<(), Fail> {
+    let commit = fs::read(rt, "s/refs/identities/d3a67f20d25e8512d9239d8186a41679540bf4d846fc90dbf031e616befe4401")?;
+    let commit = String::from_utf8_lossy(rt.alloc(), &commit)?;
+    let (front, rest) = commit.as_str().trim_end().split_at_checked(2).ok_or("a name")?;
     fs::remove_dir_all(rt, "s/refs")?;
     fs::remove_dir_all(rt, "s/git-bug")?;
+    assert_eq!(rt; objects_opened(rt)?, 4);
+    fs::remove_dir_all(rt, "s/refs")?;
+    fs::remove_dir_all(rt, "s/git-bug")?;
+    fs::remove_file(rt, format!(in rt.alloc(); "s/objects/{front}/{rest}")?.as_str())?;
+    assert_eq!(rt; objects_opened(rt)?, 4);
+    Ok(())
+}
+
+// How often a file of an object is opened to be read, where the same person is made again.
+fn objects_opened<R: Testing>(rt: &R) -> Result<usize, Fail> {
     let ran = run_at(rt, &["s", "user-new", "Ana", "a@x"])?;
+    assert!(rt; matches!(ran.status, Ok(Status::Done)));
     let calls = ran.notes.calls(rt.alloc())?;
-    let opens = calls
-        .as_str()
-        .lines()
+    let lines = calls_of(rt, calls.as_str())?;
+    Ok(lines
+        .iter()
         .filter(|line| line.starts_with("open s/objects/") && !line.ends_with("/."))
-        .count();
-    assert_eq!(rt; opens, 6);
+        .count())
+}
+
+// What a fetch or a push says is the same has reached the disk, though it puts nothing. It opens no object then.
+fn refs_that_an_exchange_finds_are_synced<R: Testing>(rt: &R) -> Result<(), Fail> {
+    let exchanges: [(&[&str], &str); 2] = [
+        (&["sb", "fetch", "o", "s"], "sb/refs/remotes/o/identities"),
+        (&["s", "push", "sc"], "sc/refs/identities"),
+    ];
+    for (words, folder) in &exchanges {
+        assert!(rt; run_at(rt, words)?.printed.as_str().contains(" identity "));
+        let ran = run_at(rt, words)?;
+        assert!(rt; ran.printed.as_str().ends_with(" same\n"));
+        let calls = ran.notes.calls(rt.alloc())?;
+        let lines = calls_of(rt, calls.as_str())?;
+        let synced = format!(in rt.alloc(); "open {folder}/.")?;
+        assert_eq!(rt; lines.iter().filter(|line| **line == synced.as_str()).count(), 1);
+        assert!(rt; !lines.iter().any(|line| line.contains("/objects/")));
+    }
     Ok(())
 }
 

@@ -1,7 +1,7 @@
 //! What a real disk holds, what is planted in it, and the number that a run ends with.
 use crate::system::{
     Testing, count, holds, is_absent, is_free, is_long, link, lists, make_dir, put, put_fails,
-    remove, store_over, write,
+    put_text_fails, remove, store_over, write,
 };
 use crate::{exchanges, explained, planted};
 use bug_run::{Refused, Status};
@@ -36,6 +36,7 @@ fn each_status_has_its_number(rt: HostRuntime) {
 fn files_are_kept_in_real_folders(rt: HostRuntime) -> Result<(), Fail> {
     let root = enter_new_folder(&rt)?;
     a_folder_named_twice_is_locked_once(&rt)?;
+    a_missing_object_is_not_named(&rt)?;
     let mut store = store_over(&rt, &["f"])?;
     absent_files(&rt, &mut store)?;
     put_files(&rt, &mut store)?;
@@ -72,6 +73,17 @@ fn a_folder_named_twice_is_locked_once<R: Testing>(rt: &R) -> Result<(), Fail> {
     assert!(rt; holds(rt, &mut store, "other/a", b"1"));
     assert!(rt; holds(rt, &mut store, "real/b", b"2"));
     Ok(())
+}
+
+// A ref is put once the object that it names is there.
+fn a_missing_object_is_not_named<R: Testing>(rt: &R) -> Result<(), Fail> {
+    let mut store = store_over(rt, &["m"])?;
+    let head = b"e69de29bb2d1d6434b8b29ae775ad8c2e48c5391\n";
+    assert!(rt; put_text_fails(rt, &mut store, "m/refs/bugs/a", head));
+    assert!(rt; is_free(rt, "m/refs/bugs/a"));
+    let object = "m/objects/e6/9de29bb2d1d6434b8b29ae775ad8c2e48c5391";
+    put(rt, &mut store, object, b"blob 0\0")?;
+    put(rt, &mut store, "m/refs/bugs/a", head)
 }
 
 fn absent_files<R: Testing>(rt: &R, store: &mut FolderStore<R>) -> Result<(), Fail> {

@@ -37,7 +37,17 @@ pub fn put<R: Testing>(
 
 /// Whether the store fails to put a file.
 pub fn put_fails<R: Testing>(rt: &R, store: &mut FolderStore<R>, path: &str) -> bool {
-    matches!(store.put(rt.alloc(), path, b"new"), Err(StoreFault::Failed))
+    put_text_fails(rt, store, path, b"new")
+}
+
+/// Whether the store fails to put a file of these bytes.
+pub fn put_text_fails<R: Testing>(
+    rt: &R,
+    store: &mut FolderStore<R>,
+    path: &str,
+    bytes: &[u8],
+) -> bool {
+    matches!(store.put(rt.alloc(), path, bytes), Err(StoreFault::Failed))
 }
 
 /// Removes a file by the store.
