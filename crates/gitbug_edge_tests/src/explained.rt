@@ -277,6 +277,16 @@ fn syncs(lines: &[&str], path: &str) -> bool {
     }
 }
 
+// The place of the put of a ref after another place, or the end.
+fn next_ref(lines: &[&str], at: usize) -> usize {
+    for (next, line) in lines.iter().enumerate() {
+        if next > at && line.starts_with("rename s/refs/") {
+            return next;
+        }
+    }
+    lines.len()
+}
+
 // Each folder is synced after a file is put in it: those of a tree and of what it names before the commit is put, and that
 // of the commit before the ref.
 fn folders_are_synced_after_their_files<R: Testing>(rt: &R) -> Result<(), Fail> {
@@ -293,15 +303,11 @@ fn folders_are_synced_after_their_files<R: Testing>(rt: &R) -> Result<(), Fail> 
         let Some(path) = line.strip_prefix("rename ") else {
             continue;
         };
-        let names = if at < commit { "rename " } else { "rename s/refs/" };
-        let begin = if at < commit { commit } else { at };
-        let after = lines.get(begin..).unwrap_or(&[]);
-        let next = after
-            .iter()
-            .position(|line| line.starts_with(names))
-            .filter(|next| at < commit || *next > 0)
-            .unwrap_or(after.len());
-        let end = begin.saturating_add(next);
+        let end = if at < commit {
+            commit
+        } else {
+            next_ref(&lines, at)
+        };
         assert!(rt; syncs(lines.get(at..end).unwrap_or(&[]), path));
     }
     let puts = lines
@@ -315,15 +321,25 @@ fn folders_are_synced_after_their_files<R: Testing>(rt: &R) -> Result<(), Fail> 
 // Three objects that a killed run left are not put again. Each is opened to be compared. The commit is opened once more to be
 // synced: what it names was synced before it. Where the run had not put the commit, the other two are.
 fn objects_that_were_left_are_synced<R: Testing>(rt: &R) -> Result<(), Fail> {
-    let commit = fs::read(rt, "s/refs/identities/d3a67f20d25e8512d9239d8186a41679540bf4d846fc90dbf031e616befe4401")?;
+    let commit = fs::read(
+        rt,
+        "s/refs/identities/d3a67f20d25e8512d9239d8186a41679540bf4d846fc90dbf031e616befe4401",
+    )?;
     let commit = String::from_utf8_lossy(rt.alloc(), &commit)?;
-    let (front, rest) = commit.as_str().trim_end().split_at_checked(2).ok_or("a name")?;
+    let (front, rest) = commit
+        .as_str()
+        .trim_end()
+        .split_at_checked(2)
+        .ok_or("a name")?;
     fs::remove_dir_all(rt, "s/refs")?;
     fs::remove_dir_all(rt, "s/git-bug")?;
     assert_eq!(rt; objects_opened(rt)?, 4);
     fs::remove_dir_all(rt, "s/refs")?;
     fs::remove_dir_all(rt, "s/git-bug")?;
-    fs::remove_file(rt, format!(in rt.alloc(); "s/objects/{front}/{rest}")?.as_str())?;
+    fs::remove_file(
+        rt,
+        format!(in rt.alloc(); "s/objects/{front}/{rest}")?.as_str(),
+    )?;
     assert_eq!(rt; objects_opened(rt)?, 4);
     Ok(())
 }
@@ -334,10 +350,12 @@ fn objects_opened<R: Testing>(rt: &R) -> Result<usize, Fail> {
     assert!(rt; matches!(ran.status, Ok(Status::Done)));
     let calls = ran.notes.calls(rt.alloc())?;
     let lines = calls_of(rt, calls.as_str())?;
-    Ok(lines
-        .iter()
-        .filter(|line| line.starts_with("open s/objects/") && !line.ends_with("/."))
-        .count())
+    Ok(
+        lines
+            .iter()
+            .filter(|line| line.starts_with("open s/objects/") && !line.ends_with("/."))
+            .count(),
+    )
 }
 
 // What a fetch or a push says is the same has reached the disk, though it puts nothing. It opens no object then.
@@ -353,7 +371,13 @@ fn refs_that_an_exchange_finds_are_synced<R: Testing>(rt: &R) -> Result<(), Fail
         let calls = ran.notes.calls(rt.alloc())?;
         let lines = calls_of(rt, calls.as_str())?;
         let synced = format!(in rt.alloc(); "open {folder}/.")?;
-        assert_eq!(rt; lines.iter().filter(|line| **line == synced.as_str()).count(), 1);
+        assert_eq!(rt;
+            lines
+                .iter()
+                .filter(|line| **line == synced.as_str())
+                .count(),
+            1
+        );
         assert!(rt; !lines.iter().any(|line| line.contains("/objects/")));
     }
     Ok(())
