@@ -1,73 +1,82 @@
 //! What comes into a folder, and goes out of it.
-use crate::folders::{
-    done, exchange, first, head_of, lines, local, rests, tells, tracked, with_a_bug,
-};
-use fixtures::Disk;
-use repo_sync::Exchange::{Fetch, Push};
+use run_fixtures::Step::{Does, Has, Lacks, Read, Refuses, Wrote};
+use run_fixtures::{Script, Step};
 use std::test::Fail;
 
-// A head on a side of a folder is that of `a`.
-fn has_head(disk: &mut Disk, folder: &str, word: &str, is_tracked: bool) -> Result<(), Fail> {
-    let id = first(disk, "a", &local(word))?;
-    let wanted = head_of(disk, "a", &local(word), &id)?;
-    let side = if is_tracked {
-        tracked(disk.alloc, word)?
-    } else {
-        local(word)
-    };
-    if head_of(disk, folder, &side, &id)? == wanted {
-        return Ok(());
-    }
-    Err(Fail::new(format_args!("another head of the {word} in {folder}")))
-}
+// The folder `a`, with a person and a bug of one commit.
+const BEGIN: &[Step] = &[
+    Does(&["a", "user-new", "Ann", "ann@x"], 1, "$A\n"),
+    Does(&["a", "new", "title", "message"], 2, "$B\n"),
+    Has("a/refs/identities/$A", "$P\n"),
+    Has("a/refs/bugs/$B", "$R\n"),
+];
+
+const PUSHED: &[Step] = &[
+    Does(&["a", "push", "hub"], 3, "push identity $A pushed\npush bug $B pushed\n"),
+    Has("hub/refs/identities/$A", "$P\n"),
+    Has("hub/refs/bugs/$B", "$R\n"),
+    Does(&["a", "push", "hub"], 4, "push identity $A same\npush bug $B same\n"),
+    Wrote(0),
+    Read(0),
+];
+
+const FETCHED: &[Step] = &[
+    Does(&["b", "fetch", "o", "hub"], 5, "fetch identity $A fetched\nfetch bug $B fetched\n"),
+    Has("b/refs/remotes/o/identities/$A", "$P\n"),
+    Has("b/refs/remotes/o/bugs/$B", "$R\n"),
+    Lacks("b/refs/identities/$A"),
+    Lacks("b/refs/bugs/$B"),
+    Does(&["b", "fetch", "o", "hub"], 6, "fetch identity $A same\nfetch bug $B same\n"),
+    Wrote(0),
+    Read(0),
+    Does(&["b", "users"], 7, ""),
+];
 
 #[test]
 fn what_is_pushed_is_fetched(rt: HostRuntime) -> Result<(), Fail> {
-    let mut disk = with_a_bug(rt.alloc())?;
-    let pushed = lines(&mut disk, "push", "pushed", "pushed")?;
-    tells(&mut disk, Push, "a", "hub", &pushed)?;
-    has_head(&mut disk, "hub", "identity", false)?;
-    has_head(&mut disk, "hub", "bug", false)?;
-    let same = lines(&mut disk, "push", "same", "same")?;
-    rests(&mut disk, Push, "a", "hub", &same)?;
-    let fetched = lines(&mut disk, "fetch", "fetched", "fetched")?;
-    tells(&mut disk, Fetch, "b", "hub", &fetched)?;
-    has_head(&mut disk, "b", "identity", true)?;
-    has_head(&mut disk, "b", "bug", true)?;
-    let same = lines(&mut disk, "fetch", "same", "same")?;
-    rests(&mut disk, Fetch, "b", "hub", &same)
+    let mut script = Script::new(rt.alloc(), "a")?;
+    for steps in [BEGIN, PUSHED, FETCHED] {
+        script.play(steps)?;
+    }
+    Ok(())
 }
+
+// A push sets no tracking ref, so that what was pushed is fetched.
+const FORWARD: &[Step] = &[
+    Does(&["a", "comment", "$B", "more"], 5, "$D\n"),
+    Has("a/refs/bugs/$B", "$S\n"),
+    Does(&["a", "push", "hub"], 6, "push identity $A same\npush bug $B pushed\n"),
+    Has("hub/refs/bugs/$B", "$S\n"),
+    Does(&["a", "fetch", "o", "hub"], 6, "fetch identity $A fetched\nfetch bug $B fetched\n"),
+    Does(&["hub", "user-set", "$A"], 7, "$A\n"),
+    Does(&["hub", "comment", "$B", "theirs"], 8, "$E\n"),
+    Has("hub/refs/bugs/$B", "$T\n"),
+    Refuses(&["a", "push", "hub"], 9, "push identity $A same\npush bug $B not-forward $T\n"),
+    Wrote(0),
+    Has("hub/refs/bugs/$B", "$T\n"),
+];
 
 #[test]
 fn what_is_new_goes_forward(rt: HostRuntime) -> Result<(), Fail> {
-    let alloc = rt.alloc();
-    let mut disk = with_a_bug(alloc)?;
-    let pushed = lines(&mut disk, "push", "pushed", "pushed")?;
-    tells(&mut disk, Push, "a", "hub", &pushed)?;
-    let bug = first(&mut disk, "a", &local("bug"))?.text();
-    let bug = String::from_utf8_lossy(alloc, &bug)?;
-    done(&mut disk, &["a", "comment", bug.as_str(), "more"], 3)?;
-    let forward = lines(&mut disk, "push", "same", "pushed")?;
-    tells(&mut disk, Push, "a", "hub", &forward)?;
-    has_head(&mut disk, "hub", "bug", false)?;
-    done(&mut disk, &["hub", "user-new", "Bob", "bob@x"], 4)?;
-    done(&mut disk, &["hub", "comment", bug.as_str(), "theirs"], 5)?;
-    let head = first(&mut disk, "a", &local("bug"))?;
-    let theirs = head_of(&mut disk, "hub", &local("bug"), &head)?.ok_or("a head")?;
-    let digits = theirs.text();
-    let digits = String::from_utf8_lossy(alloc, &digits)?;
-    let other = format!(in alloc; "not-forward {digits}")?;
-    let refused = lines(&mut disk, "push", "same", other.as_str())?;
-    tells(&mut disk, Push, "a", "hub", &refused)
+    let mut script = Script::new(rt.alloc(), "a")?;
+    for steps in [BEGIN, PUSHED, FORWARD] {
+        script.play(steps)?;
+    }
+    Ok(())
 }
 
+const NOTHING: &[Step] = &[
+    Does(&["a", "fetch", "o", "hub"], 3, ""),
+    Wrote(0),
+    Does(&["b", "push", "a"], 4, ""),
+    Wrote(0),
+    Does(&["b", "push", "c"], 5, ""),
+    Wrote(0),
+];
+
 #[test]
-fn a_peer_with_nothing_has_no_lines(rt: HostRuntime) -> Result<(), Fail> {
-    let mut disk = with_a_bug(rt.alloc())?;
-    rests(&mut disk, Fetch, "a", "hub", "")?;
-    rests(&mut disk, Push, "b", "a", "")?;
-    if exchange(&mut disk, Push, "b", "c")?.is_ok() {
-        return Ok(());
-    }
-    Err(Fail::new(format_args!("no lines")))
+fn a_folder_with_nothing_has_no_lines(rt: HostRuntime) -> Result<(), Fail> {
+    let mut script = Script::new(rt.alloc(), "a")?;
+    script.play(BEGIN)?;
+    script.play(NOTHING)
 }

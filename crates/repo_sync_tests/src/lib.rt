@@ -1,4 +1,4 @@
-//! Tests of `repo_sync` and of `repo_merge`, over folders in one store in memory.
+//! Tests of exchanges by the program's arguments, over folders in one store in memory.
 #![tactic(auto)]
 
 #[cfg(test)]
@@ -9,9 +9,5 @@ mod commands;
 mod exchanges;
 #[cfg(test)]
 mod faults;
-#[cfg(test)]
-mod folders;
-#[cfg(test)]
-mod merges;
 #[cfg(test)]
 mod stops;

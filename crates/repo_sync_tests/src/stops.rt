@@ -1,21 +1,28 @@
 //! Exchanges that stop after any of their writes, and are run again.
-use crate::folders::{told, with_a_bug};
-use fixtures::Disk;
-use repo_sync::Exchange::{self, Fetch, Push};
+use run_fixtures::Step::Does;
+use run_fixtures::{Script, Step};
+use std::alloc::Global;
 use std::test::Fail;
 
-// After each write of an exchange: where it stopped there, it makes the other writes when it is run again,
-// and then tells that all is the same.
-fn goes_on(disk: &mut Disk, what: Exchange, own: &str, peer: &str) -> Result<(), Fail> {
-    let begun = disk.store.writes();
-    told(disk, what, own, peer)?;
-    let ended = disk.store.writes();
+const BEGIN: &[Step] = &[
+    Does(&["a", "user-new", "Ann", "ann@x"], 1, "$A\n"),
+    Does(&["a", "new", "title", "message"], 2, "$B\n"),
+];
+
+// After each write of an exchange: where it stopped there, it makes the other writes when it is run
+// again, and then it reports that all is the same.
+fn goes_on(alloc: Global, words: &[&str]) -> Result<(), Fail> {
+    let mut script = Script::new(alloc, "a")?;
+    script.play(BEGIN)?;
+    let begun = script.disk.store.writes();
+    script.printed(words, 3)?;
+    let ended = script.disk.store.writes();
     for count in begun..ended {
-        disk.store.cut(disk.alloc, count)?;
-        let again = told(disk, what, own, peer)?;
-        let same = told(disk, what, own, peer)?;
-        let writes = disk.store.writes();
-        if writes != ended || same.contains("ed\n") {
+        script.disk.store.cut(alloc, count)?;
+        let again = script.printed(words, 4)?;
+        let same = script.printed(words, 5)?;
+        let writes = script.disk.store.writes();
+        if writes != ended || same.as_str().contains("ed\n") {
             return Err(Fail::new(format_args!(
                 "cut at {count}: {writes} writes, {again:?}, {same:?}"
             )));
@@ -26,12 +33,10 @@ fn goes_on(disk: &mut Disk, what: Exchange, own: &str, peer: &str) -> Result<(),
 
 #[test]
 fn a_push_goes_on_where_it_stopped(rt: HostRuntime) -> Result<(), Fail> {
-    let mut disk = with_a_bug(rt.alloc())?;
-    goes_on(&mut disk, Push, "a", "hub")
+    goes_on(rt.alloc(), &["a", "push", "hub"])
 }
 
 #[test]
 fn a_fetch_goes_on_where_it_stopped(rt: HostRuntime) -> Result<(), Fail> {
-    let mut disk = with_a_bug(rt.alloc())?;
-    goes_on(&mut disk, Fetch, "b", "a")
+    goes_on(rt.alloc(), &["b", "fetch", "o", "a"])
 }
