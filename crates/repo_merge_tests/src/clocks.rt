@@ -17,11 +17,21 @@ const JUMPS: &[Step] = &[
     Puts("p/git-bug/clocks/bugs-edit", "4"),
     Does(&["p", "new", "title", "message"], 4, "$B\n"),
     Does(&["p", "log", "$B"], 4, "5 $R\n"),
-    Commits('F', &['R'], &["edit-clock-1000005", "ops", "version-4"], &[]),
+    Commits(
+        'F',
+        &['R'],
+        &["edit-clock-1000005", "ops", "version-4"],
+        &[],
+    ),
     Puts("p/refs/bugs/$B", "$F\n"),
     Does(&["b", "pull", "o", "p"], 5, GOOD),
     Has("b/git-bug/clocks/bugs-edit", "1000005"),
-    Commits('J', &['R'], &["edit-clock-1000006", "ops", "version-4"], &[]),
+    Commits(
+        'J',
+        &['R'],
+        &["edit-clock-1000006", "ops", "version-4"],
+        &[],
+    ),
     Puts("p/refs/bugs/$B", "$J\n"),
     Refuses(
         &["c", "pull", "o", "p"],
@@ -40,7 +50,12 @@ const JUMPS: &[Step] = &[
     Wrote(0),
     Commits('K', &['R'], &["edit-clock-6", "ops", "version-4"], &[]),
     Commits('L', &['R'], &["edit-clock-7", "ops", "version-4"], &[]),
-    Commits('M', &['K', 'L'], &["edit-clock-1000008", "ops", "version-4"], &[]),
+    Commits(
+        'M',
+        &['K', 'L'],
+        &["edit-clock-1000008", "ops", "version-4"],
+        &[],
+    ),
     Puts("p/refs/bugs/$B", "$M\n"),
     Does(
         &["c", "pull", "o", "p"],
@@ -67,10 +82,18 @@ const HOSTILE: &[Step] = &[
     Commits(
         'H',
         &[],
-        &["create-clock-1", "edit-clock-9223372036854775807", "ops", "version-4"],
+        &[
+            "create-clock-1",
+            "edit-clock-9223372036854775807",
+            "ops",
+            "version-4",
+        ],
         &[CREATE],
     ),
-    Puts("p/refs/bugs/3912f32747d1e7d315d89cd550e61a80638342c85e80fec8f844c37035613dc8", "$H\n"),
+    Puts(
+        "p/refs/bugs/3912f32747d1e7d315d89cd550e61a80638342c85e80fec8f844c37035613dc8",
+        "$H\n",
+    ),
     Puts("b/git-bug/clocks/bugs-edit", "4"),
     Does(&["b", "new", "title", "message"], 4, "$B\n"),
     Does(&["b", "log", "$B"], 4, "5 $R\n"),
@@ -87,7 +110,11 @@ const HOSTILE: &[Step] = &[
     Does(&["b", "log", "$E"], 6, "4611686018427387904 $S\n"),
     Does(&["b", "comment", "$B", "far"], 7, "$F\n"),
     Does(&["b", "log", "$B"], 7, "5 $R\n1000005 $T\n"),
-    Refuses(&["b", "comment", "3912", "full"], 8, "refused 7 clock full $H\n"),
+    Refuses(
+        &["b", "comment", "3912", "full"],
+        8,
+        "refused 7 clock full $H\n",
+    ),
     Wrote(0),
 ];
 
@@ -104,8 +131,16 @@ const LOWER: &[Step] = &[
     Has("p/refs/bugs/$B", "$R\n"),
     Puts("b/git-bug/clocks/bugs-create", "7"),
     Puts("b/git-bug/clocks/bugs-edit", "8"),
-    Does(&["b", "fetch", "o", "p"], 5, "fetch identity $A fetched\nfetch bug $B fetched\n"),
-    Does(&["b", "merge", "o"], 6, "merge identity $A new\nmerge bug $B new\n"),
+    Does(
+        &["b", "fetch", "o", "p"],
+        5,
+        "fetch identity $A fetched\nfetch bug $B fetched\n",
+    ),
+    Does(
+        &["b", "merge", "o"],
+        6,
+        "merge identity $A new\nmerge bug $B new\n",
+    ),
     Wrote(2),
     Has("b/git-bug/clocks/bugs-create", "7"),
     Has("b/git-bug/clocks/bugs-edit", "8"),

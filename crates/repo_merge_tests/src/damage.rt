@@ -28,7 +28,11 @@ const SAME: &[Step] = &[
     Loses('P'),
     Does(&["b", "merge", "o"], 6, NOTHING),
     Wrote(0),
-    Refuses(&["b", "show", "$B"], 7, "refused 14 damaged b/refs/bugs/$B\n"),
+    Refuses(
+        &["b", "show", "$B"],
+        7,
+        "refused 14 damaged b/refs/bugs/$B\n",
+    ),
 ];
 
 // The tracked heads are below the local ones.
@@ -44,7 +48,11 @@ const BELOW: &[Step] = &[
     Loses('P'),
     Does(&["b", "merge", "o"], 9, NOTHING),
     Wrote(0),
-    Refuses(&["b", "show", "$B"], 10, "refused 14 damaged b/refs/bugs/$B\n"),
+    Refuses(
+        &["b", "show", "$B"],
+        10,
+        "refused 14 damaged b/refs/bugs/$B\n",
+    ),
 ];
 
 #[test]

@@ -119,7 +119,11 @@ const AGAIN: &[Step] = &[
     Does(&["a", "merge", "o"], 15, JOINED),
     Has("a/git-bug/clocks/bugs-edit", "4"),
     Has("a/refs/bugs/$B", "$J\n"),
-    Does(&["a", "log", "$B"], 15, "1 $R\n2 $P\n2 $Q\n3 $G\n3 $H\n4 $J\n"),
+    Does(
+        &["a", "log", "$B"],
+        15,
+        "1 $R\n2 $P\n2 $Q\n3 $G\n3 $H\n4 $J\n",
+    ),
     Does(&["a", "show", "$B"], 16, LABELS),
     Does(&["b", "show", "$B"], 16, LABELS),
 ];

@@ -101,7 +101,10 @@ const NO_VERSION: &[Step] = &[
 ];
 
 const OTHER: &[Step] = &[
-    Puts("p/refs/identities/00000000000000000000000000000000000000000000000000000000000000ff", "$H\n"),
+    Puts(
+        "p/refs/identities/00000000000000000000000000000000000000000000000000000000000000ff",
+        "$H\n",
+    ),
     Refuses(
         &["b", "pull", "o", "p"],
         5,

@@ -23,7 +23,11 @@ const REPEATED: &[Step] = &[
     Does(&["b", "comment", "$B", "the same"], 7, "$O\n"),
     Does(&["a", "log", "$B"], 7, "1 $R\n2 $L\n"),
     Does(&["b", "log", "$B"], 7, "1 $R\n2 $K\n3 $M\n"),
-    Does(&["b", "fetch", "o", "a"], 8, "fetch identity $A same\nfetch bug $B fetched\n"),
+    Does(
+        &["b", "fetch", "o", "a"],
+        8,
+        "fetch identity $A same\nfetch bug $B fetched\n",
+    ),
     Refuses(
         &["b", "merge", "o"],
         9,
@@ -63,7 +67,12 @@ const FAULTS: &[Step] = &[
         "fetch identity $A same\nfetch bug $B fetched\n\
          merge identity $A nothing\nmerge bug $B invalid E11 $S $R\n",
     ),
-    Commits('T', &['R'], &["edit-clock-2", "ops", "version-4"], &[CREATE]),
+    Commits(
+        'T',
+        &['R'],
+        &["edit-clock-2", "ops", "version-4"],
+        &[CREATE],
+    ),
     Puts("a/refs/bugs/$B", "$T\n"),
     Refuses(
         &["b", "pull", "o", "a"],
@@ -80,7 +89,12 @@ const FAULTS: &[Step] = &[
         "fetch identity $A same\nfetch bug $B fetched\n\
          merge identity $A nothing\nmerge bug $B invalid E5 $U 3\n",
     ),
-    Commits('V', &['R'], &["edit-clock-2", "ops", "version-4"], &[NO_TYPE]),
+    Commits(
+        'V',
+        &['R'],
+        &["edit-clock-2", "ops", "version-4"],
+        &[NO_TYPE],
+    ),
     Puts("a/refs/bugs/$B", "$V\n"),
     Refuses(
         &["b", "pull", "o", "a"],
@@ -156,17 +170,37 @@ const REFS: &[Step] = &[
     Has("a/refs/bugs/$B", "$R\n"),
     Has("a/refs/identities/$A", "$P\n"),
     Does(&["b", "user-new", "Bo", "bo@x"], 3, "$C\n"),
-    Does(&["b", "fetch", "o", "a"], 4, "fetch identity $A fetched\nfetch bug $B fetched\n"),
+    Does(
+        &["b", "fetch", "o", "a"],
+        4,
+        "fetch identity $A fetched\nfetch bug $B fetched\n",
+    ),
     Puts("b/refs/bugs/$B", "no ref"),
-    Refuses(&["b", "merge", "o"], 5, "refused 14 damaged b/refs/bugs/$B\n"),
+    Refuses(
+        &["b", "merge", "o"],
+        5,
+        "refused 14 damaged b/refs/bugs/$B\n",
+    ),
     Has("b/refs/identities/$A", "$P\n"),
     Wrote(1),
     Puts("b/refs/remotes/o/bugs/$B", "no ref"),
-    Refuses(&["b", "merge", "o"], 6, "refused 14 damaged b/refs/remotes/o/bugs/$B\n"),
+    Refuses(
+        &["b", "merge", "o"],
+        6,
+        "refused 14 damaged b/refs/remotes/o/bugs/$B\n",
+    ),
     Wrote(0),
     Puts("b/git-bug/user", "no id"),
-    Refuses(&["b", "merge", "o"], 7, "refused 14 damaged b/git-bug/user\n"),
-    Refuses(&["b", "pull", "o", "a"], 8, "refused 14 damaged b/git-bug/user\n"),
+    Refuses(
+        &["b", "merge", "o"],
+        7,
+        "refused 14 damaged b/git-bug/user\n",
+    ),
+    Refuses(
+        &["b", "pull", "o", "a"],
+        8,
+        "refused 14 damaged b/git-bug/user\n",
+    ),
     Wrote(0),
 ];
 

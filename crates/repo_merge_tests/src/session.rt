@@ -8,7 +8,11 @@ const BEGIN: &[Step] = &[
     Does(&["a", "new", "Login fails", "Since monday"], 2, "$B\n"),
     Has("a/git-bug/clocks/bugs-create", "1"),
     Has("a/git-bug/clocks/bugs-edit", "1"),
-    Does(&["a", "push", "hub"], 3, "push identity $A pushed\npush bug $B pushed\n"),
+    Does(
+        &["a", "push", "hub"],
+        3,
+        "push identity $A pushed\npush bug $B pushed\n",
+    ),
     Does(&["b", "user-new", "Bo", "bo@x"], 4, "$C\n"),
     Does(
         &["b", "pull", "origin", "hub"],

@@ -21,7 +21,11 @@ fn play(alloc: Global, folder: &str, steps: &[Step]) -> Result<(), Fail> {
 
 const BAD_PEER: &[Step] = &[
     Puts("hub/refs/bugs/$B", "no ref"),
-    Refuses(&["a", "push", "hub"], 3, "push identity $A pushed\npush bug $B damaged ref\n"),
+    Refuses(
+        &["a", "push", "hub"],
+        3,
+        "push identity $A pushed\npush bug $B damaged ref\n",
+    ),
     Has("hub/refs/bugs/$B", "no ref"),
     Refuses(
         &["b", "fetch", "o", "hub"],
@@ -29,7 +33,11 @@ const BAD_PEER: &[Step] = &[
         "fetch identity $A fetched\nfetch bug $B damaged ref\n",
     ),
     Puts("b/refs/remotes/o/identities/x", "no id"),
-    Refuses(&["b", "fetch", "o", "hub"], 5, "fetch identity $A same\nfetch bug $B damaged ref\n"),
+    Refuses(
+        &["b", "fetch", "o", "hub"],
+        5,
+        "fetch identity $A same\nfetch bug $B damaged ref\n",
+    ),
     Wrote(0),
     Read(0),
 ];
@@ -41,7 +49,11 @@ fn a_bad_ref_of_a_peer_has_its_line(rt: HostRuntime) -> Result<(), Fail> {
 
 const HELD: &[Step] = &[
     Puts("hub/refs/identities/$A", "no ref"),
-    Refuses(&["a", "push", "hub"], 3, "push identity $A damaged ref\npush bug $B held\n"),
+    Refuses(
+        &["a", "push", "hub"],
+        3,
+        "push identity $A damaged ref\npush bug $B held\n",
+    ),
     Wrote(0),
     Lacks("hub/refs/bugs/$B"),
 ];
@@ -53,7 +65,11 @@ fn bugs_are_held_where_an_identity_is_damaged(rt: HostRuntime) -> Result<(), Fai
 
 const TAKEN: &[Step] = &[
     Spoils('P'),
-    Refuses(&["a", "push", "hub"], 3, "push identity $A damaged taken $P\npush bug $B held\n"),
+    Refuses(
+        &["a", "push", "hub"],
+        3,
+        "push identity $A damaged taken $P\npush bug $B held\n",
+    ),
     Lacks("hub/refs/identities/$A"),
     Lacks("hub/refs/bugs/$B"),
 ];
@@ -86,7 +102,11 @@ fn a_damaged_object_of_a_peer_has_its_line(rt: HostRuntime) -> Result<(), Fail> 
 
 const OWN: &[Step] = &[
     Puts("a/refs/bugs/$B", "no ref"),
-    Refuses(&["a", "push", "hub"], 3, "refused 14 damaged a/refs/bugs/$B\n"),
+    Refuses(
+        &["a", "push", "hub"],
+        3,
+        "refused 14 damaged a/refs/bugs/$B\n",
+    ),
     Has("hub/refs/identities/$A", "$P\n"),
 ];
 

@@ -43,7 +43,13 @@ const PERSON: &[Step] = &[Does(&["a", "user-new", "Ann", "ann@x"], 1, "$A\n")];
 fn new(disk: &mut Disk, number: i64) -> Result<(), Fail> {
     let title = format!(in disk.alloc; "title {number}")?;
     let mut sink = sink(disk.alloc);
-    let status = run_at(disk, &mut sink, &["a", "new", title.as_str(), "message"], number, 7)?;
+    let status = run_at(
+        disk,
+        &mut sink,
+        &["a", "new", title.as_str(), "message"],
+        number,
+        7,
+    )?;
     if status == DONE {
         return Ok(());
     }
@@ -64,6 +70,9 @@ fn a_thousand_bugs_are_fetched_once(rt: HostRuntime) -> Result<(), Fail> {
     let second = script.printed(&["b", "fetch", "o", "a"], 9)?;
     assert_eq!(rt; second.as_str(), same.as_str());
     assert_eq!(rt; second.as_str().lines().count(), 1_001);
-    assert_eq!(rt; (script.disk.store.writes(), script.disk.store.reads()), (writes, reads));
+    assert_eq!(rt;
+        (script.disk.store.writes(), script.disk.store.reads()),
+        (writes, reads)
+    );
     Ok(())
 }

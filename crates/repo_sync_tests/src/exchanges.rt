@@ -12,21 +12,37 @@ const BEGIN: &[Step] = &[
 ];
 
 const PUSHED: &[Step] = &[
-    Does(&["a", "push", "hub"], 3, "push identity $A pushed\npush bug $B pushed\n"),
+    Does(
+        &["a", "push", "hub"],
+        3,
+        "push identity $A pushed\npush bug $B pushed\n",
+    ),
     Has("hub/refs/identities/$A", "$P\n"),
     Has("hub/refs/bugs/$B", "$R\n"),
-    Does(&["a", "push", "hub"], 4, "push identity $A same\npush bug $B same\n"),
+    Does(
+        &["a", "push", "hub"],
+        4,
+        "push identity $A same\npush bug $B same\n",
+    ),
     Wrote(0),
     Read(0),
 ];
 
 const FETCHED: &[Step] = &[
-    Does(&["b", "fetch", "o", "hub"], 5, "fetch identity $A fetched\nfetch bug $B fetched\n"),
+    Does(
+        &["b", "fetch", "o", "hub"],
+        5,
+        "fetch identity $A fetched\nfetch bug $B fetched\n",
+    ),
     Has("b/refs/remotes/o/identities/$A", "$P\n"),
     Has("b/refs/remotes/o/bugs/$B", "$R\n"),
     Lacks("b/refs/identities/$A"),
     Lacks("b/refs/bugs/$B"),
-    Does(&["b", "fetch", "o", "hub"], 6, "fetch identity $A same\nfetch bug $B same\n"),
+    Does(
+        &["b", "fetch", "o", "hub"],
+        6,
+        "fetch identity $A same\nfetch bug $B same\n",
+    ),
     Wrote(0),
     Read(0),
     Does(&["b", "users"], 7, ""),
@@ -45,13 +61,25 @@ fn what_is_pushed_is_fetched(rt: HostRuntime) -> Result<(), Fail> {
 const FORWARD: &[Step] = &[
     Does(&["a", "comment", "$B", "more"], 5, "$D\n"),
     Has("a/refs/bugs/$B", "$S\n"),
-    Does(&["a", "push", "hub"], 6, "push identity $A same\npush bug $B pushed\n"),
+    Does(
+        &["a", "push", "hub"],
+        6,
+        "push identity $A same\npush bug $B pushed\n",
+    ),
     Has("hub/refs/bugs/$B", "$S\n"),
-    Does(&["a", "fetch", "o", "hub"], 6, "fetch identity $A fetched\nfetch bug $B fetched\n"),
+    Does(
+        &["a", "fetch", "o", "hub"],
+        6,
+        "fetch identity $A fetched\nfetch bug $B fetched\n",
+    ),
     Does(&["hub", "user-set", "$A"], 7, "$A\n"),
     Does(&["hub", "comment", "$B", "theirs"], 8, "$E\n"),
     Has("hub/refs/bugs/$B", "$T\n"),
-    Refuses(&["a", "push", "hub"], 9, "push identity $A same\npush bug $B not-forward $T\n"),
+    Refuses(
+        &["a", "push", "hub"],
+        9,
+        "push identity $A same\npush bug $B not-forward $T\n",
+    ),
     Wrote(0),
     Has("hub/refs/bugs/$B", "$T\n"),
 ];

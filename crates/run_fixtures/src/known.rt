@@ -22,7 +22,11 @@ impl Known {
     }
 
     fn find(&self, letter: char) -> Option<&str> {
-        let line = self.lines.as_str().lines().find(|line| line.starts_with(letter))?;
+        let line = self
+            .lines
+            .as_str()
+            .lines()
+            .find(|line| line.starts_with(letter))?;
         line.strip_prefix(letter)
     }
 
@@ -103,7 +107,11 @@ impl Known {
         let mut operation = self.get(operation)?.chars();
         let mut mixed = String::new(self.alloc);
         for side in MIXED.chars() {
-            let digit = if side == 'b' { bug.next() } else { operation.next() };
+            let digit = if side == 'b' {
+                bug.next()
+            } else {
+                operation.next()
+            };
             mixed.push(digit.ok_or("a digit")?)?;
         }
         Ok(mixed)

@@ -34,12 +34,7 @@ pub enum Step {
     /// The last byte of this object's file is cut off.
     Cuts(char),
     /// Puts a commit with these parents, files and operations, by the author `$A`.
-    Commits(
-        char,
-        &'static [char],
-        &'static [&'static str],
-        &'static [&'static str],
-    ),
+    Commits(char, &'static [char], &'static [&'static str], &'static [&'static str]),
     /// Puts a commit with these parents and this text of a version.
     Versions(char, &'static [char], &'static str),
 }
@@ -103,7 +98,10 @@ impl Script {
         let status = run_into(&mut self.disk, &mut sink, &all, number)?;
         self.writes = self.disk.store.writes().saturating_sub(writes);
         self.reads = self.disk.store.reads().saturating_sub(reads);
-        Ok((status, String::from_utf8_lossy(self.disk.alloc, sink.bytes())?))
+        Ok((
+            status,
+            String::from_utf8_lossy(self.disk.alloc, sink.bytes())?,
+        ))
     }
 
     /// What a run prints that is done.
