@@ -2,6 +2,7 @@
 use run_fixtures::Step::Does;
 use run_fixtures::{Script, Step};
 use std::alloc::Global;
+use std::process::Abort;
 use std::test::Fail;
 
 const BEGIN: &[Step] = &[
@@ -111,8 +112,18 @@ fn count(text: &str, word: &str) -> usize {
     text.lines().filter(|line| line.starts_with(word)).count()
 }
 
+// What all three say at the end: the edits of each are there.
+fn says_all(rt: &impl Abort, text: &str) {
+    assert_eq!(rt; count(text, "comment "), 10);
+    assert_eq!(rt; count(text, "label y of "), 3);
+    assert_eq!(rt; count(text, "label "), 3);
+    assert_eq!(rt; count(text, "actor "), 3);
+    assert!(rt; text.contains("\ntitle two of "));
+    assert!(rt; text.contains("\nedited 11 "));
+}
+
 #[test]
-fn three_folders_agree_in_every_order(rt: HostRuntime) -> Result<(), Fail> {
+fn three_folders_agree_where_one_collects(rt: HostRuntime) -> Result<(), Fail> {
     let mut script = apart(rt.alloc())?;
     let begun = script.disk.store.writes();
     let mut text = String::new(rt.alloc());
@@ -120,15 +131,21 @@ fn three_folders_agree_in_every_order(rt: HostRuntime) -> Result<(), Fail> {
         script.disk.store.cut(rt.alloc(), begun)?;
         by_one(&mut script, *order)?;
         see(&mut script, &mut text)?;
+    }
+    says_all(&rt, text.as_str());
+    Ok(())
+}
+
+#[test]
+fn three_folders_agree_where_two_join_first(rt: HostRuntime) -> Result<(), Fail> {
+    let mut script = apart(rt.alloc())?;
+    let begun = script.disk.store.writes();
+    let mut text = String::new(rt.alloc());
+    for order in ORDERS {
         script.disk.store.cut(rt.alloc(), begun)?;
         by_two(&mut script, *order)?;
         see(&mut script, &mut text)?;
     }
-    assert_eq!(rt; count(text.as_str(), "comment "), 10);
-    assert_eq!(rt; count(text.as_str(), "label y of "), 3);
-    assert_eq!(rt; count(text.as_str(), "label "), 3);
-    assert_eq!(rt; count(text.as_str(), "actor "), 3);
-    assert!(rt; text.as_str().contains("\ntitle two of "));
-    assert!(rt; text.as_str().contains("\nedited 11 "));
+    says_all(&rt, text.as_str());
     Ok(())
 }
