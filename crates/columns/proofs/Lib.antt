@@ -1,0 +1,4 @@
+mod StepLemmas
+mod FrontLemmas
+mod CellLemmas
+mod Examples
