@@ -1,3 +1,4 @@
+pub mod BothSideLemmas
 pub mod ClockLemmas
 pub mod DoneLemmas
 mod Examples
@@ -18,3 +19,4 @@ pub mod ToldLemmas
 pub mod TouchLemmas
 pub mod TurnOfLemmas
 pub mod TurnWriteLemmas
+pub mod WholeLemmas

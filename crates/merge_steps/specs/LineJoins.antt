@@ -48,3 +48,12 @@ pub record RefusedLine (folder : List ℕ) (remote : RemoteName) (line : MergeLi
   pub are_authors : AreIds (files_of mid) folder side.Identities authors
   pub holds : EntityFaultHolds bug_kind (objects_after mid folder) line.id (both_heads local tracked) authors why
   pub same : head_at (files_of new) folder side.Bugs line.id ≡ head_at (files_of old) folder side.Bugs line.id
+
+-- a merge joined a bug: exactly the operation commits that lay below its local head, or below none, and below the tracked one when the merge
+-- began lie below its local head when it ends
+pub record JoinedBug (folder : List ℕ) (remote : RemoteName) (id : Id) (old new : History) : Type 0 where
+  pub local : Option Name
+  pub is_local : IsHeadAt (files_of old) folder side.Bugs id local
+  pub tracked : Name
+  pub is_tracked : head_at (files_of old) folder (side.RemoteBugs remote) id ≡ Head tracked
+  pub joins : IsJoinOf folder id local tracked old new

@@ -13,6 +13,6 @@ pub use laws::{
     merges_write_of_their_kinds, refused_identities_have_a_cause, refused_merges_have_a_fault,
 };
 pub use line::{MergeLine, MergeOutcome, Pulled, count_refused};
-pub use line_laws::lines_of_bugs_are_joins;
+pub use line_laws::{lines_of_bugs_are_joins, merges_of_sound_folders_leave_both_sides};
 pub use stop::{MergeStop, TurnStop};
 pub use text::lines_text;
