@@ -7,4 +7,5 @@ pub mod PlaceLemmas
 pub mod PushKeptLemmas
 pub mod PushKindLemmas
 mod PutLemmas
+mod SameLemmas
 mod StandLemmas
