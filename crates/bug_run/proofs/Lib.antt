@@ -2,6 +2,7 @@ pub mod AlikeLemmas
 pub mod AnswerLemmas
 pub mod ExchangeLemmas
 pub mod ExchangeWriteLemmas
+pub mod HeadlineLemmas
 pub mod LineLemmas
 pub mod MergeLawLemmas
 pub mod ReadLemmas

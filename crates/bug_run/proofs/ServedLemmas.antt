@@ -85,7 +85,7 @@ run_served call old new before after answer request tells asks sound none is =
 -- ---- a bug as it is shown
 
 -- a run that is done answered a text, and printed all of it
-done_was : (tells takes : Bool) (before after : List ℕ) (result : Result Answer Stop) → Printed tells takes (text_of result) (status_of result) before after status.Done
+pub done_was : (tells takes : Bool) (before after : List ℕ) (result : Result Answer Stop) → Printed tells takes (text_of result) (status_of result) before after status.Done
     → (said : Answer) × (result ≡ Ok said) × (IsTrue tells → after ≡ before ++ said.text)
 done_was tells takes before after (Ok said) (inl h) = (said, refl, h.1)
 done_was tells takes before after (Ok said) (inr (inl h)) = absurd (cc (h.0))

@@ -4,6 +4,7 @@
 mod answer;
 mod exchange;
 mod exchange_laws;
+mod headline;
 mod laws;
 mod merge_laws;
 mod moment;
@@ -16,6 +17,7 @@ mod usage;
 pub use exchange_laws::{
     exchanges_of_sound_folders_have_lines, exchanges_print_their_lines, failed_lines_are_cut_short,
 };
+pub use headline::{same_commits_are_printed_the_same, the_headline};
 pub use laws::{
     answers_are_determined, answers_depend_on_what_words_find, edits_read_few_objects,
     edits_tell_what_they_made, runs_from_nothing_are_sound, runs_keep_folders,

@@ -3,6 +3,7 @@ ghost use Rattle.std.specs.Prelude.{◌≡◌, ◌↔◌, IsTrue, IsErrOf, IsOk,
 ghost use Rattle.gb_store.specs.Faults.{KeepsFaults};
 ghost use Rattle.gb_store.specs.Files.{files_of};
 ghost use Rattle.gb_store.specs.Moments.{WroteByIf};
+ghost use Rattle.bug_run.specs.Headline.{HeadlineHolds, OwnIsSound};
 ghost use Rattle.bug_run.specs.Printed.{HasLines, Printed};
 ghost use Rattle.bug_run.specs.Reads.{ReadsAsked, ReadsCommand};
 ghost use Rattle.bug_run.specs.Run.{CommandAnswers, RunAnswers, RunStaysSound, RunWrites, call_of, env_at, status_of, text_of};
@@ -38,6 +39,10 @@ pub fn run<S: Store, K: Sink>(
         (asked_of (map string_bytes words.now)) moment)
         (S.history disk.old) (S.history disk.new)
         (K.written out.old) (K.written out.new) result }
+    ensures headline { IsTrue S.tells → IsTrue K.tells
+        → OwnIsSound (asked_of (map string_bytes words.now)) (files_of (S.history disk.old))
+        → HeadlineHolds (asked_of (map string_bytes words.now)) moment
+        (S.history disk.old) (S.history disk.new) (K.written out.old) (K.written out.new) result }
     ensures wrote { WroteByIf S.tells (RunWrites (call_of S.tells K.tells K.takes_memory
         (asked_of (map string_bytes words.now)) moment))
         (S.history disk.old) (S.history disk.new) }

@@ -10,6 +10,7 @@ use Rattle.bug_run.specs.declared.status.Status.TheVariants as status
 use Rattle.words.specs.Words.{asked_of}
 use Rattle.words.specs.declared.words.Asked.{Asked}
 use Rattle.words.specs.declared.words.Asked.TheVariants as asked
+use Rattle.bug_run.proofs.HeadlineLemmas.{run_headline}
 use Rattle.bug_run.proofs.ReadLemmas.{command_narrower, exchange_narrower, done_was_ok, lines_were_ok}
 use Rattle.bug_run.proofs.RunLemmas.{run_stays_sound, run_wrote}
 use Rattle.bug_run.proofs.top.run.Goals as goal
@@ -22,6 +23,11 @@ returns-in-Request-clause-answers g c =
     subst (λ (asks : Asked). AskedAnswers asks call (g.S.Store.history c.args.disk.now) (g.S.Store.history c.perform-outcome.new.disk)
     (g.K.Sink.written c.args.out.now) (g.K.Sink.written c.tell.new.out) c.tell.result) (sym is)
     (c.perform-outcome.result, c.perform-outcome.ensures.answers, c.tell.ensures.answers)
+
+pub returns-in-Request-clause-headline : goal.returns-in-Request-clause-headline
+returns-in-Request-clause-headline g c = λ tells prints own.
+    run_headline (call_of g.S.Store.tells g.K.Sink.tells g.K.Sink.takes_memory (asked_of (map string_bytes c.args.words.now)) c.args.moment) (g.S.Store.history c.args.disk.now)
+    (g.S.Store.history c.perform-outcome.new.disk) (g.K.Sink.written c.args.out.now) (g.K.Sink.written c.tell.new.out) c.tell.result tells prints (returns-in-Request-clause-answers g c) own
 
 pub returns-in-Request-clause-wrote : goal.returns-in-Request-clause-wrote
 returns-in-Request-clause-wrote g c = record {
@@ -56,6 +62,11 @@ returns-in-Exchange-clause-answers g c =
     (g.K.Sink.written c.args.out.now) (g.K.Sink.written c.tell-in-Exchange.new.out) c.tell-in-Exchange.result) (sym is)
     (c.exchange-outcome.result, c.exchange-outcome.ensures.answers, c.tell-in-Exchange.ensures.answers)
 
+pub returns-in-Exchange-clause-headline : goal.returns-in-Exchange-clause-headline
+returns-in-Exchange-clause-headline g c = λ tells prints own.
+    run_headline (call_of g.S.Store.tells g.K.Sink.tells g.K.Sink.takes_memory (asked_of (map string_bytes c.args.words.now)) c.args.moment) (g.S.Store.history c.args.disk.now)
+    (g.S.Store.history c.exchange-outcome.new.disk) (g.K.Sink.written c.args.out.now) (g.K.Sink.written c.tell-in-Exchange.new.out) c.tell-in-Exchange.result tells prints (returns-in-Exchange-clause-answers g c) own
+
 pub returns-in-Exchange-clause-wrote : goal.returns-in-Exchange-clause-wrote
 returns-in-Exchange-clause-wrote g c = record {
   wrote = λ tells.
@@ -89,6 +100,11 @@ returns-in-Merge-clause-answers g c =
     (g.K.Sink.written c.args.out.now) (g.K.Sink.written c.tell-in-Merge.new.out) c.tell-in-Merge.result) (sym is)
     (c.merge_tracked-outcome.result, c.merge_tracked-outcome.ensures.answers, c.tell-in-Merge.ensures.answers)
 
+pub returns-in-Merge-clause-headline : goal.returns-in-Merge-clause-headline
+returns-in-Merge-clause-headline g c = λ tells prints own.
+    run_headline (call_of g.S.Store.tells g.K.Sink.tells g.K.Sink.takes_memory (asked_of (map string_bytes c.args.words.now)) c.args.moment) (g.S.Store.history c.args.disk.now)
+    (g.S.Store.history c.merge_tracked-outcome.new.disk) (g.K.Sink.written c.args.out.now) (g.K.Sink.written c.tell-in-Merge.new.out) c.tell-in-Merge.result tells prints (returns-in-Merge-clause-answers g c) own
+
 pub returns-in-Merge-clause-wrote : goal.returns-in-Merge-clause-wrote
 returns-in-Merge-clause-wrote g c = record {
   wrote = λ tells.
@@ -120,6 +136,11 @@ returns-in-Refused-clause-answers g c =
     subst (λ (asks : Asked). AskedAnswers asks call old old (g.K.Sink.written c.args.out.now) (g.K.Sink.written c.print_refusal.new.out) c.print_refusal.result) (sym is)
     ((λ tells. refl), c.print_refusal.ensures.answers)
 
+pub returns-in-Refused-clause-headline : goal.returns-in-Refused-clause-headline
+returns-in-Refused-clause-headline g c = λ tells prints own.
+    run_headline (call_of g.S.Store.tells g.K.Sink.tells g.K.Sink.takes_memory (asked_of (map string_bytes c.args.words.now)) c.args.moment) (g.S.Store.history c.args.disk.now)
+    (g.S.Store.history c.args.disk.now) (g.K.Sink.written c.args.out.now) (g.K.Sink.written c.print_refusal.new.out) c.print_refusal.result tells prints (returns-in-Refused-clause-answers g c) own
+
 pub returns-in-Refused-clause-sound : goal.returns-in-Refused-clause-sound
 returns-in-Refused-clause-sound g c = λ tells.
     let call = call_of g.S.Store.tells g.K.Sink.tells g.K.Sink.takes_memory (asked_of (map string_bytes c.args.words.now)) c.args.moment in
@@ -137,6 +158,11 @@ returns-in-Nothing-clause-answers g c =
     let text : c.as_bytes.result.now ≡ usage_text = search rules in
     subst (λ (asks : Asked). AskedAnswers asks call old old before after c.print.result) (sym is)
     ((λ tells. refl), subst (λ (t : List ℕ). Printed g.K.Sink.tells g.K.Sink.takes_memory t status.Usage before after c.print.result) text c.print.ensures.printed)
+
+pub returns-in-Nothing-clause-headline : goal.returns-in-Nothing-clause-headline
+returns-in-Nothing-clause-headline g c = λ tells prints own.
+    run_headline (call_of g.S.Store.tells g.K.Sink.tells g.K.Sink.takes_memory (asked_of (map string_bytes c.args.words.now)) c.args.moment) (g.S.Store.history c.args.disk.now)
+    (g.S.Store.history c.args.disk.now) (g.K.Sink.written c.args.out.now) (g.K.Sink.written c.print.new.out) c.print.result tells prints (returns-in-Nothing-clause-answers g c) own
 
 pub returns-in-Nothing-clause-sound : goal.returns-in-Nothing-clause-sound
 returns-in-Nothing-clause-sound g c = λ tells.
