@@ -1,0 +1,10 @@
+pub mod Answers
+pub mod Cutting
+pub mod Folds
+pub mod Matching
+pub mod Meaning
+pub mod More
+pub mod Printing
+pub mod Quotes
+pub mod Reading
+pub mod Words
