@@ -65,12 +65,15 @@ module _ (call : Call) (old new : History) (before after : List ℕ) (answer : S
         → (IsTrue call.sink_tells → after ≡ before ++ text_of result) → ShowEnds folder sought old new before after answer
     show_whole (Ok said) done told text =
         let shown = done.0.0 in
-        inl (told ∙ ap status_for done.0.1, record {
-          text = said.text;
-          shows = record { bug = shown.0; finds = shown.1; ops = shown.2.ops; in_order = shown.2.are; people = shown.2.people; are_people = shown.2.are_people; shows = shown.2.is };
-          printed = text prints;
-          unwritten = done.1;
-        })
+        inl (
+          told ∙ ap status_for done.0.1,
+          record {
+            text = said.text;
+            shows = record { bug = shown.0; finds = shown.1; ops = shown.2.ops; in_order = shown.2.are; people = shown.2.people; are_people = shown.2.are_people; shows = shown.2.is };
+            printed = text prints;
+            unwritten = done.1;
+          },
+        )
     show_whole (Err stop.Memory) done told text = inr (inr (inl told))
     show_whole (Err stop.Disk) done told text = inr (inr (inr (inl told)))
     show_whole (Err (stop.Refused r)) ((why, shows, named), same) told text =
@@ -121,8 +124,8 @@ module _ (call : Call) (old new : History) (before after : List ℕ) (answer : S
         let fetched = fetch_writes pair.own pair.peer remote (apart pair) old done.mid (Ok told.0.fetched) done.first in
         let merged = merge_wrote pair.own remote call.moment.now done.mid new (Ok told.0.merged) (in_time call.moment) done.then in
         let there : IsSound pair.own (files_of done.mid) =
-            (keeps_sound pair.own old done.mid (fetch_keeps_parts pair.own pair.peer remote old done.mid fetched) sound).each done.mid
-            (last_moment (FetchWrites pair.own pair.peer remote) old done.mid fetched) in
+        (keeps_sound pair.own old done.mid (fetch_keeps_parts pair.own pair.peer remote old done.mid fetched) sound).each done.mid
+        (last_moment (FetchWrites pair.own pair.peer remote) old done.mid fetched) in
         record {
           pulled = told.0;
           done = done;

@@ -1,6 +1,5 @@
 -- Cells, computed.
 use Rattle.std.specs.Prelude.{◌≡◌, ◌++◌, codes, [], ◌∷◌, encode_utf8_all}
-use Rattle.std.specs.Char.{encode_utf8}
 use Rattle.std.proofs.Common.{refl}
 use Rattle.unicode_width.proofs.Computing.{unicode_width}
 use Rattle.columns.specs.Cells.{cell_of}

@@ -5,7 +5,7 @@ use Rattle.std.specs.List.{repeat}
 use Rattle.std.proofs.Common.{refl}
 use Rattle.hex.proofs.OnLiterals.{hex_on_literals}
 use Rattle.gb_text.specs.declared.id.Id.{Id}
-use Rattle.bug_ops.specs.declared.op.BugStatus.TheVariants.{Closed, Opened}
+use Rattle.bug_ops.specs.declared.op.BugStatus.TheVariants.{Closed}
 use Rattle.bug_ops.specs.declared.snapshot.Excerpt.{Excerpt}
 use Rattle.list_texts.specs.Boards.{board_text_of, header, number_cell}
 use Rattle.list_texts.specs.Lists.{list_text_of}

@@ -117,7 +117,7 @@ line_id folder remote now old new lines done line c bug =
     elim (Contains-append_cases (lines_of word.Identity done.first.turns) (lines_of word.Bug done.turns) line (subst (λ (ls : List MergeLine). Contains ls line) done.are_lines c)) [
       | inl mine ↦ let from = Contains-from_map (line_of word.Identity) done.first.turns line mine in absurd (cc (ap (λ (l : MergeLine). l.word) from.2 ∙ bug))
       | inr mine ↦ let from = Contains-from_map (line_of word.Bug) done.turns line mine in
-            subst (λ (l : MergeLine). IsId l.id) from.2 (ids_of_turns (files_of old) folder (side.RemoteBugs remote) done.tracked.bugs done.turns done.tracked.are_bugs done.then.are from.0 from.1)
+          subst (λ (l : MergeLine). IsId l.id) from.2 (ids_of_turns (files_of old) folder (side.RemoteBugs remote) done.tracked.bugs done.turns done.tracked.are_bugs done.then.are from.0 from.1)
     ]
 
 -- a line of a merge that does not refuse a bug

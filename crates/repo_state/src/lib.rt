@@ -34,7 +34,8 @@ pub use listing::{all_refs, identity_refs};
 pub use operations::ops_of;
 pub use people::{names, people_among};
 pub use refs::{
-    EntityRef, damaged, entity, head, head_change, heads, ids, set_head, stands, whole,
+    EntityRef, damaged, entity, entries, head, head_change, head_of, heads, ids, set_head, stands,
+    whole,
 };
 pub use side::{HeadEntry, Side};
 pub use stop::{FindStop, Missed, ReadStop};

@@ -241,8 +241,8 @@ fn read_ref<S: Store>(
     ref_store::get(alloc, disk, folder, place.as_str())
 }
 
-// The refs of a side, in the order of ids.
-pub(crate) fn entries<S: Store>(
+/// The refs of a side that stand, in the order of ids, with what was found of each.
+pub fn entries<S: Store>(
     alloc: Global,
     disk: &mut S,
     folder: &Folder,
@@ -286,8 +286,8 @@ fn heads_of(
     Ok(heads)
 }
 
-// The head of a ref.
-pub(crate) fn head_of(
+/// The head of a ref that was found, or `Damaged` with its path where it is no ref text.
+pub fn head_of(
     alloc: Global,
     folder: &Folder,
     side: &Side,

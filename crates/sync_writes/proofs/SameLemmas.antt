@@ -102,7 +102,7 @@ module _ (closed : Bool) (source target : List ℕ) (apart : Overlap source targ
         → IsCopied closed (objects_after late source) (objects_after late target) (objects_after end target) head.name → file_at end path ≡ file
     part_of start end late alike path file part copied =
         let followed : IsFollowed closed (objects_after late source) (objects_after late target) head.name part.one =
-            subst (λ (files : Files). IsFollowed closed (objects_in files source) (objects_in files target) head.name part.one) alike part.followed in
+        subst (λ (files : Files). IsFollowed closed (objects_in files source) (objects_in files target) head.name part.one) alike part.followed in
         let stands = copied part.one followed in
         let held : text_at (objects_after late source) part.one.name ≡ Some part.text = subst (λ (files : Files). text_at (objects_in files source) part.one.name ≡ Some part.text) alike part.held in
         let text : stands.text ≡ part.text = same_Some stands.text part.text (sym stands.held ∙ held) in
@@ -382,9 +382,9 @@ module _ (verb : Exchange) (Step : EntityWord → Bool → Turn → History → 
     done_same : (lines ≡ others) × (files_of new ≡ files_of newer)
     done_same = (
       one.are_lines
-      ∙ ap (λ (turns : List Turn). lines_of verb word.Identity turns ++ later_lines) persons.0
-      ∙ ap (λ (turns : List Turn). lines_of verb word.Identity two.person_turns ++ lines_of verb word.Bug turns) bugs.0
-      ∙ sym two.are_lines,
+          ∙ ap (λ (turns : List Turn). lines_of verb word.Identity turns ++ later_lines) persons.0
+          ∙ ap (λ (turns : List Turn). lines_of verb word.Identity two.person_turns ++ lines_of verb word.Bug turns) bugs.0
+          ∙ sym two.are_lines,
       bugs.1,
     )
 

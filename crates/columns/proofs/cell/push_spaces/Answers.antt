@@ -1,4 +1,4 @@
-use Rattle.std.proofs.Common.{◌≡◌, ◌+◌, ◌++◌, codes, string_bytes, sym, ap, ◌∙◌, append_assoc}
+use Rattle.std.proofs.Common.{◌++◌, codes, string_bytes, sym, ap, ◌∙◌, append_assoc}
 use Rattle.columns.specs.Cells.{spaces}
 use Rattle.columns.proofs.CellLemmas.{spaces_more}
 use Rattle.columns.proofs.cell.push_spaces.Goals as goal

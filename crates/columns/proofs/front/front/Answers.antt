@@ -1,11 +1,11 @@
-use Rattle.std.proofs.Common.{◌≡◌, ℕ, ◌+◌, ◌≤◌, ◌<◌, List, [], ◌∷◌, ◌++◌, length, get_or, take, drop, chars, encode_utf8_all, refl, sym, ap, ◌∙◌, subst, arith}
+use Rattle.std.proofs.Common.{◌≡◌, ◌+◌, ◌≤◌, ◌<◌, length, take, chars, refl, sym, ap, ◌∙◌, subst, arith}
 use Rattle.std.specs.Str.{IsCharBoundary}
 use Rattle.std.proofs.lemmas.Iterator.{YieldsList-from_chars}
 use Rattle.std.proofs.lemmas.Iterator.Consumers.{YieldsList-end, YieldsList-turn}
 use Rattle.std.proofs.lemmas.List.{length_push}
-use Rattle.columns.specs.Cells.{front_of, front_on}
+use Rattle.columns.specs.Cells.{front_of}
 use Rattle.columns.specs.Widths.{width}
-use Rattle.columns.proofs.FrontLemmas.{all_of, boundary, characters, ends, fits_front, goes, has_front, next_place, one_more, size, spelled, spells_front, stops, up_to, within}
+use Rattle.columns.proofs.FrontLemmas.{all_of, boundary, characters, ends, fits_front, goes, has_front, next_place, one_more, spells_front, stops, up_to, within}
 use Rattle.columns.proofs.StepLemmas.{no_width}
 use Rattle.columns.proofs.front.front.Goals as goal
 

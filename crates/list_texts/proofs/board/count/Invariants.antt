@@ -1,5 +1,5 @@
 -- Those that count before.
-use Rattle.std.proofs.Common.{◌≡◌, ◌≤◌, take}
+use Rattle.std.proofs.Common.{◌≡◌, take}
 use Rattle.std.specs.List.{count_by}
 use Rattle.list_texts.specs.Boards.{row_has}
 use Rattle.list_texts.proofs.board.count.Given as goal
