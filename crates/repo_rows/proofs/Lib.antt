@@ -1,0 +1,2 @@
+mod LawLemmas
+pub mod RowLemmas
