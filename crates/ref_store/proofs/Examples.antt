@@ -4,7 +4,9 @@ use Rattle.std.proofs.Common.{refl}
 use Rattle.hex.proofs.OnLiterals.{hex_on_literals}
 use Rattle.gb_text.specs.declared.id.Name.{Name}
 use Rattle.ref_store.specs.Listing.{id_place}
-use Rattle.ref_store.specs.Refs.{Absent, Bad, Head, ref_of}
+use Rattle.packed_refs.specs.Lines.{lines_of}
+use Rattle.packed_refs.specs.Packed.{head_of, last_head, refs_of_lines}
+use Rattle.ref_store.specs.Refs.{Absent, Bad, Head, or_packed, packed_in, ref_of}
 
 -- the name of the blob of no bytes
 abbrev head : Name
@@ -58,3 +60,24 @@ ref_symbolic = refl
 ref_place : id_place (codes "refs/bugs") (record { bytes = 10 ∷ 10 ∷ 10 ∷ 10 ∷ 10 ∷ 10 ∷ 10 ∷ 10 ∷ 10 ∷ 10 ∷ 10 ∷ 10 ∷ 10 ∷ 10 ∷ 10 ∷ 10 ∷ 10 ∷ 10 ∷ 10 ∷ 10 ∷ 10 ∷ 10 ∷ 10 ∷ 10 ∷ 10 ∷ 10 ∷ 10 ∷ 10 ∷ 10 ∷ 10 ∷ 10 ∷ 10 ∷ [] }) ≡ codes "refs/bugs/0a0a0a0a0a0a0a0a0a0a0a0a0a0a0a0a0a0a0a0a0a0a0a0a0a0a0a0a0a0a0a0a"
 unfolding hex_on_literals
 ref_place = refl
+
+-- packed refs
+packed_none : packed_in None ≡ []
+unfolding hex_on_literals
+packed_none = refl
+
+packed_bad_line : packed_in (Some (codes "e69de29bb2d1d6434b8b29ae775ad8c2e48c5391 refs/x\nx\n")) ≡ []
+unfolding hex_on_literals lines_of refs_of_lines
+packed_bad_line = refl
+
+packed_counts : or_packed (ref_of None) (head_of (codes "refs/x") (packed_in (Some (codes "e69de29bb2d1d6434b8b29ae775ad8c2e48c5391 refs/x\n")))) ≡ Head head
+unfolding hex_on_literals lines_of refs_of_lines last_head
+packed_counts = refl
+
+loose_counts : or_packed (ref_of (Some (codes "e69de29bb2d1d6434b8b29ae775ad8c2e48c5391\n"))) (head_of (codes "refs/x") (packed_in (Some (codes "4b825dc642cb6eb9a060e54bf8d69288fbee4904 refs/x\n")))) ≡ Head head
+unfolding hex_on_literals lines_of refs_of_lines last_head
+loose_counts = refl
+
+bad_counts : or_packed (ref_of (Some (codes "x"))) (head_of (codes "refs/x") (packed_in (Some (codes "e69de29bb2d1d6434b8b29ae775ad8c2e48c5391 refs/x\n")))) ≡ Bad
+unfolding hex_on_literals lines_of refs_of_lines last_head
+bad_counts = refl

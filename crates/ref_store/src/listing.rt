@@ -1,19 +1,21 @@
 //! The refs of ids directly in a directory of a folder.
-ghost use Rattle.std.specs.Prelude.{◌≡◌, List as Items, ℕ, IsTrue, IsErrOf, IfOk, Err, false};
-ghost use Rattle.std.specs.List.{filter_map};
+ghost use Rattle.std.specs.Prelude.{◌≡◌, ◌++◌, List as Items, ℕ, IsTrue, IsErrOf, IfOk, Err, false, map};
+ghost use Rattle.std.specs.BTreeMap.{IsFromIterResult};
 ghost use Rattle.gb_store.specs.Faults.{KeepsFaults};
 ghost use Rattle.gb_store.specs.Files.{files_of};
 ghost use Rattle.gb_store.specs.ObjectPath.{is_object_path};
 ghost use Rattle.gb_text.specs.Folder.{joined};
-ghost use Rattle.ref_store.specs.Refs.{ref_at};
-ghost use Rattle.ref_store.specs.Listing.{IsRefList, entry_named, found_of, id_place};
+ghost use Rattle.ref_store.specs.Listing.{AreLast, IsRefList, entry_of, id_cmp, id_place, packed_entry, pair_of};
 ghost use Rattle.ref_store.specs.declared.fault.RefFault.TheVariants as fault;
 
 use crate::fault::RefFault;
-use crate::read::get;
+use crate::loose::loose_entries;
+use crate::packed::packed_heads;
 use gb_store::Store;
 use gb_text::{Folder, Id, List, Memory, Name, Text, push_id};
-use std::alloc::Global;
+use packed_refs::PackedHead;
+use std::alloc::{AllocError, Global};
+use std::collections::BTreeMap;
 
 /// What stands at the place of a ref.
 #[derive(Clone, Copy, Debug, PartialEq, Eq)]
@@ -44,9 +46,8 @@ pub fn place_of(alloc: Global, dir: &str, id: &Id) -> Result<Text, Memory>
     Ok(Text::from_string(place))
 }
 
-/// One entry for each id that a file right in the dir has as its name, in the order of ids. A file
+/// One entry for each id whose ref is right in the dir, loose or packed, in the order of ids. A file
 /// that is no ref text is an entry too; files with other names are passed over.
-#[tactic(auto, using(crate::proofs::ListLemmas::listing_is_ref_list))]
 pub fn list<S: Store>(
     alloc: Global,
     disk: &mut S,
@@ -63,86 +64,57 @@ pub fn list<S: Store>(
 {
     let at = folder.join(alloc, dir)?;
     let names = disk.list(alloc, at.as_str())?;
-    let entries = entries_of(alloc, disk, folder, dir, names.as_slice())?;
-    Ok(List::from_vec(entries))
+    let loose = loose_entries(alloc, disk, folder, dir, names.as_slice())?;
+    let packed = packed_heads(alloc, disk, folder, dir)?;
+    Ok(List::from_vec(join(alloc, packed.as_slice(), loose.as_slice())?))
 }
 
-// The entries of the names of some files, in their order.
-fn entries_of<S: Store>(
+// The entries of packed and of loose refs, in the order of ids: a loose one counts where both have an
+// id, and the last packed one where several have it.
+fn join(alloc: Global, packed: &[PackedHead], loose: &[RefEntry]) -> Result<Vec<RefEntry>, Memory>
+    ensures { IfOk result (λ joined. AreLast (map packed_entry packed.now ++ loose.now) joined.items) }
+{
+    let entries = all_entries(alloc, packed, loose)?;
+    entries_of(alloc, last_of(alloc, entries.as_slice())?)
+}
+
+// The entries of packed refs, and then those of loose refs.
+fn all_entries(
     alloc: Global,
-    disk: &mut S,
-    folder: &Folder,
-    dir: &str,
-    names: &[Text],
-) -> Result<Vec<RefEntry>, RefFault>
-    ensures entries { IsTrue S.tells
-        → IfOk result (λ entries. entries.items
-        ≡ filter_map (entry_named (files_of (S.history disk.old)) folder.now dir.now) names.now) }
-    ensures never_bad { (at : Items ℕ) → result ≡ Err (fault.BadRef at) → ⊥ }
-    ensures unwritten { IsTrue S.tells → S.history disk.new ≡ S.history disk.old }
-    ensures reads { S.object_reads disk.new ≡ S.object_reads disk.old }
-    ensures caused { KeepsFaults S.never_fails S.faults
-        (IsErrOf result RefFault.Disk) disk.old disk.new }
+    packed: &[PackedHead],
+    loose: &[RefEntry],
+) -> Result<Vec<RefEntry>, Memory>
+    ensures { IfOk result (λ all. all.items ≡ map packed_entry packed.now ++ loose.now) }
+{
+    let entries = packed.iter().map(|one| packed_entry(one));
+    Ok(entries.chain(loose.iter().copied()).collect(alloc)?)
+}
+
+// What the last entry of each id says.
+fn last_of(alloc: Global, entries: &[RefEntry]) -> Result<BTreeMap<Id, RefFound>, AllocError>
+    ensures { IfOk result (IsFromIterResult id_cmp (map pair_of entries.now)) }
+{
+    let pairs = entries.iter().map(|entry| (entry.id, entry.found));
+    pairs.collect(alloc)
+}
+
+// The entries of a map, in its order.
+fn entries_of(alloc: Global, last: BTreeMap<Id, RefFound>) -> Result<Vec<RefEntry>, Memory>
+    ensures { IfOk result (λ entries. entries.items ≡ map entry_of last.entries) }
 {
     let mut entries = Vec::new(alloc);
-    for name in names {
-        if let Some(entry) = entry_at(alloc, disk, folder, dir, name)? {
-            entries.push(entry)?;
-        }
+    for (id, found) in last {
+        entries.push(RefEntry { id, found })?;
     }
     Ok(entries)
 }
 
-// The entry of a file's name: none where the name is no id, or the file is gone.
-fn entry_at<S: Store>(
-    alloc: Global,
-    disk: &mut S,
-    folder: &Folder,
-    dir: &str,
-    name: &Text,
-) -> Result<Option<RefEntry>, RefFault>
-    ensures entry { IsTrue S.tells
-        → IfOk result (λ entry. entry
-        ≡ entry_named (files_of (S.history disk.old)) folder.now dir.now name.now) }
-    ensures never_bad { (at : Items ℕ) → result ≡ Err (fault.BadRef at) → ⊥ }
-    ensures unwritten { IsTrue S.tells → S.history disk.new ≡ S.history disk.old }
-    ensures reads { S.object_reads disk.new ≡ S.object_reads disk.old }
-    ensures caused { KeepsFaults S.never_fails S.faults
-        (IsErrOf result RefFault.Disk) disk.old disk.new }
+// The entry of a packed ref.
+fn packed_entry(one: &PackedHead) -> RefEntry
+    ensures { result ≡ packed_entry one.now }
 {
-    match Id::read(name.as_str().as_bytes()) {
-        Some(id) => {
-            let found = found_at(alloc, disk, folder, dir, &id)?;
-            Ok(found.map(|found| RefEntry { id, found }))
-        }
-        None => Ok(None),
-    }
-}
-
-// What stands at the place of an id's ref.
-#[tactic(auto, using(crate::proofs::IdPathLemmas::reads_none))]
-fn found_at<S: Store>(
-    alloc: Global,
-    disk: &mut S,
-    folder: &Folder,
-    dir: &str,
-    id: &Id,
-) -> Result<Option<RefFound>, RefFault>
-    ensures found { IsTrue S.tells
-        → IfOk result (λ found. found
-        ≡ found_of (ref_at (files_of (S.history disk.old)) folder.now (id_place dir.now id.now))) }
-    ensures never_bad { (at : Items ℕ) → result ≡ Err (fault.BadRef at) → ⊥ }
-    ensures unwritten { IsTrue S.tells → S.history disk.new ≡ S.history disk.old }
-    ensures reads { S.object_reads disk.new ≡ S.object_reads disk.old }
-    ensures caused { KeepsFaults S.never_fails S.faults
-        (IsErrOf result RefFault.Disk) disk.old disk.new }
-{
-    let place = place_of(alloc, dir, id)?;
-    match get(alloc, disk, folder, place.as_str()) {
-        Ok(Some(head)) => Ok(Some(RefFound::Head(head))),
-        Ok(None) => Ok(None),
-        Err(RefFault::BadRef(_)) => Ok(Some(RefFound::Bad)),
-        Err(RefFault::Memory) => Err(RefFault::Memory),
-        Err(RefFault::Disk) => Err(RefFault::Disk),
+    RefEntry {
+        id: one.id,
+        found: RefFound::Head(one.head),
     }
 }

@@ -3,7 +3,7 @@ ghost use Rattle.std.specs.Prelude.{◌≡◌, ◌≢◌, IsTrue, IfOk, IsErrOf,
 ghost use Rattle.gb_text.specs.Folder.{joined};
 ghost use Rattle.gb_store.specs.Faults.{KeepsFaults};
 ghost use Rattle.gb_store.specs.Files.{files_of};
-ghost use Rattle.ref_store.specs.Refs.{Answers, ref_at};
+ghost use Rattle.ref_store.specs.Refs.{Answers, packed_place, ref_at};
 
 use gb_store::{MemStore, Store, writes_change_their_path};
 use gb_text::{Folder, List, Name};
@@ -22,7 +22,8 @@ fn set_and_get<S: Store>(
 ) -> Result<(Option<Name>, Option<Name>), RefFault>
     requires { path.now ≢ other.now }
     ensures set { IsTrue S.tells → IfOk result (λ found. found.0 ≡ Some head.now) }
-    ensures kept { IsTrue S.tells → IfOk result (λ found. Answers (joined folder.now other.now)
+    ensures kept { IsTrue S.tells → path.now ≢ packed_place
+        → IfOk result (λ found. Answers (joined folder.now other.now)
         (ref_at (files_of (S.history disk.old)) folder.now other.now) (Ok found.1)) }
     ensures caused { KeepsFaults S.never_fails S.faults (IsErrOf result RefFault.Disk)
         disk.old disk.new }
