@@ -24,10 +24,10 @@ module _ {X : Type 0} where
   Contains-take n xs x c = subst (λ (l : List X). Contains l x) (take-append-drop n xs) (Contains-append_left (take n xs) (drop n xs) x c)
 
   -- the first of a list without repetition does not come again
-  AreDistinct-head : (x : X) (xs : List X) → AreDistinct (x ∷ xs) → Contains xs x → ⊥
+  pub AreDistinct-head : (x : X) (xs : List X) → AreDistinct (x ∷ xs) → Contains xs x → ⊥
   AreDistinct-head x xs once c = once zero (suc c.0) x (omega arith) (omega (arith, c.1)) (sym c.2)
 
-  AreDistinct-tail : (x : X) (xs : List X) → AreDistinct (x ∷ xs) → AreDistinct xs
+  pub AreDistinct-tail : (x : X) (xs : List X) → AreDistinct (x ∷ xs) → AreDistinct xs
   AreDistinct-tail x xs once = λ i j d before within. once (suc i) (suc j) d (omega arith) (omega arith)
 
   AreDistinct-cons : (x : X) (xs : List X) → (Contains xs x → ⊥) → AreDistinct xs → AreDistinct (x ∷ xs)

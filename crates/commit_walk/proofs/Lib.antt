@@ -1,3 +1,4 @@
+pub mod AboveLemmas
 pub mod BelowLemmas
 pub mod BothLemmas
 pub mod ChainLemmas

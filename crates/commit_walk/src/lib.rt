@@ -1,6 +1,7 @@
 //! Walks over commits: all below some heads, and along a chain by the single parent.
 #![tactic(auto)]
 
+mod above;
 mod below;
 mod both;
 mod chain;
@@ -11,6 +12,7 @@ mod passing;
 mod queue;
 mod reach;
 
+pub use above::{Above, walk_above};
 pub use below::{MOST_COMMITS, Met, walk};
 pub use both::{Both, lies_below, walk_both};
 pub use chain::{Link, walk_chain};
