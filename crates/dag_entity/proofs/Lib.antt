@@ -27,5 +27,7 @@ pub mod PairLemmas
 pub mod RankLemmas
 pub mod ReadLemmas
 pub mod ShortLemmas
+pub mod SinceLaws
+pub mod SinceLemmas
 pub mod SplitLemmas
 pub mod UnionLemmas

@@ -6,14 +6,14 @@ use Rattle.std.proofs.lemmas.List.Elements.{Contains-push_cases}
 use Rattle.gb_text.specs.declared.id.Name.{Name}
 use Rattle.object_store.specs.Held.{Objects}
 use Rattle.object_store.specs.Typed.{commit_at}
-use Rattle.commit_walk.specs.Below.{AreBelow, names_of}
+use Rattle.commit_walk.specs.Below.{AreBelow, IsCommit, names_of}
 use Rattle.commit_walk.specs.Distinct.{AreDistinct}
 use Rattle.commit_walk.specs.declared.below.Met.{Met}
 use Rattle.commit_walk.proofs.DistinctLemmas.{Contains-map}
 use Rattle.commit_pack.specs.Packs.{pack_under}
 use Rattle.op_kind.specs.Meaning.{Meaning}
 use Rattle.dag_entity.specs.Loading.{AreAllLoaded, AreLoadedOf, CannotLoad, IsLoadedOf, Lineage, LoadFails, lineage_of_loaded, lineage_of_met, loaded_names}
-use Rattle.dag_entity.specs.Nodes.{IsNodeBelow}
+use Rattle.dag_entity.specs.Nodes.{IsNode, IsNodeBelow}
 use Rattle.dag_entity.specs.Stops.{Refused}
 use Rattle.dag_entity.specs.declared.entity.Loaded.{Loaded}
 use Rattle.dag_entity.specs.declared.fault.EntityFault.{EntityFault}
@@ -59,6 +59,19 @@ module _ {Op State Row : Type 0} (k : Meaning Op State Row) (objects : Objects) 
   same_names loaded lineages =
       sym (map-map (λ (l : Lineage). l.name) (lineage_of_loaded {Op = Op}) loaded) ∙ ap (map (λ (l : Lineage). l.name)) lineages ∙ map-map (λ (l : Lineage). l.name) lineage_of_met walk
 
+  -- a commit that was loaded is a node
+  pub loaded_node : ((met : Met) → Contains walk met → IsCommit objects met) → (one : Loaded Op) → IsLoadedOf k objects walk one → IsNode k objects one
+  loaded_node each one of =
+      let commit = each of.met of.among in
+      let name : one.placed.commit ≡ of.met.name = ap (λ (l : Lineage). l.name) of.is.lineage in
+      let parents : one.parents ≡ of.met.parents = ap (λ (l : Lineage). l.parents) of.is.lineage in
+      record {
+        commit = commit.commit;
+        held = ap (commit_at objects) name ∙ commit.held;
+        parents = parents ∙ commit.parents;
+        pack = ap (pack_under k objects) (sym commit.tree) ∙ of.is.has;
+      }
+
   -- the commits of a whole walk were loaded
   pub all_loaded : (heads : List Name) (loaded : List (Loaded Op)) → AreBelow objects heads walk → map lineage_of_loaded loaded ≡ map lineage_of_met walk
       → AreLoadedOf k objects walk loaded → AreAllLoaded k objects heads loaded
@@ -71,16 +84,4 @@ module _ {Op State Row : Type 0} (k : Meaning Op State Row) (objects : Objects) 
       }
     where
       node_below : (one : Loaded Op) → IsLoadedOf k objects walk one → Contains (names_of walk) one.placed.commit → IsNodeBelow k objects heads one
-      node_below one of c =
-          let commit = whole.each of.met of.among in
-          let name : one.placed.commit ≡ of.met.name = ap (λ (l : Lineage). l.name) of.is.lineage in
-          let parents : one.parents ≡ of.met.parents = ap (λ (l : Lineage). l.parents) of.is.lineage in
-          record {
-            below = whole.only one.placed.commit c;
-            is = record {
-              commit = commit.commit;
-              held = ap (commit_at objects) name ∙ commit.held;
-              parents = parents ∙ commit.parents;
-              pack = ap (pack_under k objects) (sym commit.tree) ∙ of.is.has;
-            };
-          }
+      node_below one of c = record { below = whole.only one.placed.commit c; is = loaded_node whole.each one of }

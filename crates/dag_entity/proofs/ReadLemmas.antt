@@ -9,7 +9,7 @@ use Rattle.gb_text.specs.declared.id.Name.{Name}
 use Rattle.git_object.specs.declared.commit.Commit.{Commit}
 use Rattle.object_store.specs.Held.{Objects}
 use Rattle.commit_walk.specs.Answers.{ReadsBelow, WalkRefused}
-use Rattle.commit_walk.specs.Below.{AreBelow, IsBelow, IsClosed, names_of}
+use Rattle.commit_walk.specs.Below.{AreBelow, IsBelow, IsClosed, IsCommit, names_of}
 use Rattle.commit_walk.specs.declared.below.Met.{Met}
 use Rattle.commit_walk.specs.declared.fault.WalkFault.TheVariants as walk
 use Rattle.commit_walk.specs.declared.fault.WalkStop.{WalkStop}
@@ -88,7 +88,7 @@ module _ {Op State Row : Type 0} (k : Meaning Op State Row) (objects : Objects) 
     walk_refused (stop.Fault (walk.NotCommit name)) h = h
     walk_refused (stop.Fault walk.TooMany) h = inl (refl, inl h)
 
-    pack_fault_holds : (name : Name) (commit : Commit) (is : IsCommitBelow objects heads name commit) (f : CommitPackFault) → CommitPackFaultHolds k objects commit.tree f → Holds (pack_stop name f)
+    pub pack_fault_holds : (name : Name) (commit : Commit) (is : IsCommitBelow objects heads name commit) (f : CommitPackFault) → CommitPackFaultHolds k objects commit.tree f → Holds (pack_stop name f)
     unfolding EntityFaultHolds
     pack_fault_holds name commit is pack.Memory h = absurd h
     pack_fault_holds name commit is pack.Disk h = absurd h
@@ -103,15 +103,20 @@ module _ {Op State Row : Type 0} (k : Meaning Op State Row) (objects : Objects) 
     pack_fault_holds name commit is (pack.BadOperation i f) h = record { commit = commit; is = is; holds = h }
     pack_fault_holds name commit is (pack.TooLarge n) h = inr (inl (name, record { commit = commit; is = is; holds = h }))
 
-    pub load_refused : (walk : List Met) (f : EntityFault) → AreBelow objects heads walk → Refused (CannotLoad k objects walk) f → Refused Holds f
-    load_refused walk f whole h = Refused-map (CannotLoad k objects walk) Holds each f h
+    -- what keeps commits below the heads from being loaded
+    pub loads_refused : (walk : List Met) (f : EntityFault) → ((met : Met) → Contains walk met → IsCommit objects met) → ((name : Name) → Contains (names_of walk) name → IsBelow objects heads name)
+        → Refused (CannotLoad k objects walk) f → Refused Holds f
+    loads_refused walk f commits below h = Refused-map (CannotLoad k objects walk) Holds each f h
       where
         each : (g : EntityFault) → CannotLoad k objects walk g → Holds g
         each g cannot =
-            let commit = whole.each cannot.met cannot.among in
-            let below = whole.only cannot.met.name (Contains-map (λ (m : Met). m.name) walk cannot.met cannot.among) in
-            let is : IsCommitBelow objects heads cannot.met.name commit.commit = record { below = below; held = commit.held } in
+            let commit = commits cannot.met cannot.among in
+            let here = below cannot.met.name (Contains-map (λ (m : Met). m.name) walk cannot.met cannot.among) in
+            let is : IsCommitBelow objects heads cannot.met.name commit.commit = record { below = here; held = commit.held } in
             subst Holds (sym cannot.is) (pack_fault_holds cannot.met.name commit.commit is cannot.stop (subst (λ (t : Name). CommitPackFaultHolds k objects t cannot.stop) commit.tree cannot.holds))
+
+    pub load_refused : (walk : List Met) (f : EntityFault) → AreBelow objects heads walk → Refused (CannotLoad k objects walk) f → Refused Holds f
+    load_refused walk f whole h = loads_refused walk f whole.each whole.only h
 
   -- ---- how many objects were read
 

@@ -10,4 +10,5 @@ pub mod Judging
 pub mod Loading
 pub mod Nodes
 pub mod Order
+pub mod Since
 pub mod Stops

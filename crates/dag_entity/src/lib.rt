@@ -17,6 +17,8 @@ mod order;
 mod order_laws;
 mod read;
 mod report_laws;
+mod since;
+mod since_laws;
 
 pub use agree_laws::{
     agreeing_stores_have_the_same_commits, agreeing_stores_have_the_same_faults,
@@ -52,3 +54,5 @@ pub use read::{read_entity, read_walked};
 pub use report_laws::{
     faults_of_operations_report_what_was_found, faults_of_packs_report_what_was_found,
 };
+pub use since::{Since, read_since};
+pub use since_laws::{a_chain_adds_its_operations, a_chain_goes_down};

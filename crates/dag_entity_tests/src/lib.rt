@@ -15,3 +15,5 @@ mod faults;
 mod graphs;
 #[cfg(test)]
 mod large;
+#[cfg(test)]
+mod since;
