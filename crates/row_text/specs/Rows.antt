@@ -11,6 +11,7 @@ use Rattle.op_kind.specs.Shapes.{Shape, Values, both, values_in}
 use Rattle.op_kind.specs.Shapes.Shape.{nothing, and}
 use Rattle.op_kind.specs.Written.{fields_text, texts_text}
 use Rattle.bug_ops.specs.BugForms.{ArePairs, IsTitle, id_text, status_number}
+use Rattle.bug_ops.specs.declared.snapshot.Excerpt.{Excerpt}
 use Rattle.row_text.specs.RowForms.{AreIds, AreRowLabels, head_form, head_text, id_form, ids_form, ids_text, labels_form, metadata_form, number_form, status_form, title_form, version_form, version_text}
 use Rattle.row_text.specs.declared.fields.TheConstants.{MEMBERS}
 use Rattle.row_text.specs.declared.row.HeadRow.{HeadRow}
@@ -108,6 +109,10 @@ unfoldable pub row_text : HeadRow → List ℕ
 row_text h = fields_text (row_members h)
 
 -- ---- rules
+
+-- each number is at most 2^63 - 1
+abbrev pub HaveTimes : Excerpt → Type 0
+HaveTimes row = (row.create ≤ GREATEST_TIME) × (row.edit ≤ GREATEST_TIME) × (row.first ≤ GREATEST_TIME) × (row.last ≤ GREATEST_TIME) × (row.comments ≤ GREATEST_TIME)
 
 -- the head and the ids are such, and each number is at most 2^63 - 1
 pub record RowRules (h : HeadRow) : Type 0 where

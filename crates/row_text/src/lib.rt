@@ -8,6 +8,7 @@ mod lists;
 mod members;
 mod read;
 mod row;
+mod rules;
 mod write;
 
 pub use laws::{read_rows_satisfy_the_rules, rows_have_each_member_once, written_rows_read_back};

@@ -4,7 +4,7 @@ use Rattle.std.specs.Prelude.{true}
 use Rattle.std.specs.List.{AllByRecursion}
 use Rattle.std.specs.Option.{unwrap_or}
 use Rattle.gb_text.specs.declared.id.Id.{Id}
-use Rattle.op_kind.specs.Fold.{state_from}
+use Rattle.op_kind.specs.Fold.{row_from, state_from}
 use Rattle.op_kind.specs.declared.place.Common.{Common}
 use Rattle.bug_ops.specs.BugTable.{common_of_op}
 use Rattle.bug_ops.specs.Kind.{bug_kind}
@@ -122,6 +122,10 @@ pub more_is_step : (ops : List BugOp) (p : BugOp) → IsBugList ops → IsLater 
 more_is_step [] p bug later = absurd bug
 more_is_step (o ∷ ops) p bug later = step_is o ops p later
 
+-- The row of one operation more is one step further.
+pub row_step : (ops : List BugOp) (p : BugOp) → IsBugList ops → IsLater p → bug_kind.row_after (snapshot_of ops).row p ≡ (snapshot_of (ops ++ p ∷ [])).row
+row_step ops p bug later = ap (λ (s : Snapshot). s.row) (more_is_step ops p bug later)
+
 -- the snapshot is an old one but for its actors, and for the clock and the time of its last operation
 abbrev pub IsActedOn : Snapshot → Snapshot → Type 0
 IsActedOn old new = new ≡ record old { row = record old.row { actors = new.row.actors; edit = new.row.edit; last = new.row.last } }
@@ -148,6 +152,19 @@ all_later (o ∷ ops) p all later = (all.0, all_later ops p all.1 later)
 pub more_are_bug : (ops : List BugOp) (p : BugOp) → IsBugList ops → IsLater p → IsBugList (ops ++ p ∷ [])
 more_are_bug [] p bug later = absurd bug
 more_are_bug (o ∷ ops) p bug later = record { first = bug.first; metadata = bug.metadata; rest = all_later ops p bug.rest later }
+
+-- So is that of several more, one step for each.
+pub row_steps : (ops more : List BugOp) → IsBugList ops → AllByRecursion IsLater more → row_from bug_kind (snapshot_of ops).row more ≡ (snapshot_of (ops ++ more)).row
+row_steps ops [] bug all = ap (λ (l : List BugOp). (snapshot_of l).row) (sym (append-nil ops))
+row_steps ops (p ∷ ps) bug all =
+    ap (λ r. row_from bug_kind r ps) (row_step ops p bug all.0)
+    ∙ row_steps (ops ++ p ∷ []) ps (more_are_bug ops p bug all.0) all.1
+    ∙ ap (λ (l : List BugOp). (snapshot_of l).row) (append_assoc ops (p ∷ []) ps)
+
+-- Several that may follow can be added.
+pub several_are_bug : (ops more : List BugOp) → IsBugList ops → AllByRecursion IsLater more → IsBugList (ops ++ more)
+several_are_bug ops [] bug all = subst IsBugList (sym (append-nil ops)) bug
+several_are_bug ops (p ∷ ps) bug all = subst IsBugList (append_assoc ops (p ∷ []) ps) (several_are_bug (ops ++ p ∷ []) ps (more_are_bug ops p bug all.0) all.1)
 
 -- The number of comments of fewer than 2^64 operations is exact.
 pub count_is : (ops : List BugOp) → length ops < 2 ^ 64 → (snapshot_of ops).row.comments ≡ length (snapshot_of ops).list

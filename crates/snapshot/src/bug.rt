@@ -1,6 +1,6 @@
 //! Bugs of their operations.
-ghost use Rattle.std.specs.Prelude.{◌≡◌, IfOk};
-ghost use Rattle.op_kind.specs.Fold.{state_from};
+ghost use Rattle.std.specs.Prelude.{◌≡◌, IfOk, OnOk};
+ghost use Rattle.op_kind.specs.Fold.{row_from, state_from};
 ghost use Rattle.bug_ops.specs.Kind.{bug_kind};
 ghost use Rattle.snapshot.specs.LastMention.{IsBugList, snapshot_of};
 
@@ -50,4 +50,15 @@ pub fn excerpt_of(alloc: Global, snapshot: &Snapshot) -> Result<Excerpt, Memory>
         comments: row.comments,
         metadata: copy_pairs(alloc, row.metadata.as_slice())?,
     })
+}
+
+/// Takes a row of a bug further by some operations. They are gone over once, and the row once for each.
+/// After `Memory` nothing is said of the row, which is to be dropped.
+pub fn follow(alloc: Global, row: &mut Excerpt, ops: &[BugOp]) -> Result<(), Memory>
+    ensures { OnOk result (row.new ≡ row_from bug_kind row.old ops.now) }
+{
+    for op in ops {
+        BugOp::row_apply(alloc, row, op)?;
+    }
+    Ok(())
 }

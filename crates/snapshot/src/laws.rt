@@ -5,7 +5,7 @@ ghost use Rattle.std.specs.List.Sorted.{IsStrictlySortedBy};
 ghost use Rattle.std.specs.Option.{option_or, unwrap_or};
 ghost use Rattle.gb_text.specs.declared.id.Id.{Id as IdValue};
 ghost use Rattle.gb_text.specs.declared.id.Name.{Name as NameValue};
-ghost use Rattle.op_kind.specs.Fold.{state_from};
+ghost use Rattle.op_kind.specs.Fold.{row_from, state_from};
 ghost use Rattle.op_kind.specs.Pairs.{AreInKeyOrder};
 ghost use Rattle.op_kind.specs.declared.place.Common.{Common as CommonValue};
 ghost use Rattle.op_kind.specs.declared.place.Pair.{Pair as PairValue};
@@ -26,6 +26,17 @@ ghost use Rattle.snapshot.specs.LastMention.{first_of_each, first_value};
 pub fn one_more_operation_is_one_step()
     ensures { (ops : List OpValue) (op : OpValue) → IsBugList ops → IsLater op
         → bug_kind.state_after (snapshot_of ops) op ≡ snapshot_of (ops ++ op ∷ []) }
+{}
+
+/// More operations are followed by the row of a bug: it is the row before them, one step further for
+/// each, in their order. They are those of a bug again.
+pub fn more_operations_are_followed_by_the_row()
+    ensures one { (ops : List OpValue) (op : OpValue) → IsBugList ops → IsLater op
+        → bug_kind.row_after (snapshot_of ops).row op ≡ (snapshot_of (ops ++ op ∷ [])).row }
+    ensures all { (ops more : List OpValue) → IsBugList ops → AllByRecursion IsLater more
+        → row_from bug_kind (snapshot_of ops).row more ≡ (snapshot_of (ops ++ more)).row }
+    ensures bug { (ops more : List OpValue) → IsBugList ops → AllByRecursion IsLater more
+        → IsBugList (ops ++ more) }
 {}
 
 /// Folding the operations of a bug gives what they say by their last mentions.
