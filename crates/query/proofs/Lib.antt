@@ -5,7 +5,7 @@ mod CutLemmas
 mod CuttingLemmas
 mod Examples
 mod FoldLemmas
-mod MeaningLemmas
+pub mod MeaningLemmas
 mod MoreLemmas
 mod OccursLemmas
 mod QuoteLemmas

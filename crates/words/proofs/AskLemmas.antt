@@ -15,8 +15,9 @@ use Rattle.bug_edits.proofs.GivenLemmas.{both}
 use Rattle.bug_edits.proofs.ReadLemmas.{row_named, some_is}
 use Rattle.words.specs.Arguments.{arguments_of}
 use Rattle.words.specs.Verbs.{verb_of}
-use Rattle.words.specs.Words.{asked_by, asked_in, asked_of, by_verb, command_of, merge_by_verb, merge_command_of, of_bug, peer_by_verb, peer_command_of}
+use Rattle.words.specs.Words.{asked_by, asked_in, asked_of, by_verb, command_of, list_by_verb, list_command_of, merge_by_verb, merge_command_of, of_bug, peer_by_verb, peer_command_of}
 use Rattle.words.specs.declared.edit.Edit.TheVariants as edits
+use Rattle.words.specs.declared.words.Asked.{Asked}
 use Rattle.words.specs.declared.words.Asked.TheVariants as asked
 use Rattle.words.specs.declared.words.BadWord.TheVariants.{BadFolder, BadText}
 use Rattle.words.specs.declared.words.Command.{Command}
@@ -46,28 +47,32 @@ each bug e some = edit_command (name_of_edit (row_of e).name) bug (given_texts (
 
 -- ---- the order of refusals
 
+-- what is asked, by the arguments after the name, if none of them is refused
+abbrev pub asked_from : List ℕ → List ℕ → Option (List (List ℕ)) → Asked
+asked_from folder name given =
+    asked_by (folder_of folder) (option_and_then (command_of name) given) (option_and_then (peer_command_of name) given) (option_and_then (merge_command_of name) given)
+    (option_and_then (list_command_of name) given)
+
 pub refused_argument : (folder name : List ℕ) (rest : List (List ℕ)) → arguments_of rest ≡ None → asked_of (folder ∷ name ∷ rest) ≡ asked.Nothing
-refused_argument folder name rest none =
-    ap (λ o. asked_by (folder_of folder) (option_and_then (command_of name) o) (option_and_then (peer_command_of name) o) (option_and_then (merge_command_of name) o)) none
+refused_argument folder name rest none = ap (asked_from folder name) none
 
 -- what is asked, by the arguments that are taken
 pub asked_with : (folder name : List ℕ) (rest arguments : List (List ℕ)) → arguments_of rest ≡ Some arguments
-    → asked_of (folder ∷ name ∷ rest) ≡ asked_by (folder_of folder) (command_of name arguments) (peer_command_of name arguments) (merge_command_of name arguments)
-asked_with folder name rest arguments are =
-    ap (λ o. asked_by (folder_of folder) (option_and_then (command_of name) o) (option_and_then (peer_command_of name) o) (option_and_then (merge_command_of name) o)) are
+    → asked_of (folder ∷ name ∷ rest) ≡ asked_from folder name (Some arguments)
+asked_with folder name rest arguments are = ap (asked_from folder name) are
 
 pub asks_nothing : (folder name : List ℕ) (rest arguments : List (List ℕ)) → arguments_of rest ≡ Some arguments → command_of name arguments ≡ None → peer_command_of name arguments ≡ None
-    → merge_command_of name arguments ≡ None → asked_of (folder ∷ name ∷ rest) ≡ asked.Nothing
-asks_nothing folder name rest arguments are none no_peer no_merge =
+    → merge_command_of name arguments ≡ None → list_command_of name arguments ≡ None → asked_of (folder ∷ name ∷ rest) ≡ asked.Nothing
+asks_nothing folder name rest arguments are none no_peer no_merge no_list =
     asked_with folder name rest arguments are
-    ∙ ap₂ (λ c p. asked_by (folder_of folder) c p (merge_command_of name arguments)) none no_peer
-    ∙ ap (asked_by (folder_of folder) None None) no_merge
+    ∙ ap₂ (λ c p. asked_by (folder_of folder) c p (merge_command_of name arguments) (list_command_of name arguments)) none no_peer
+    ∙ ap₂ (asked_by (folder_of folder) None None) no_merge no_list
 
 -- what is asked in one folder, by a command that is given
 asked_here : (folder name : List ℕ) (rest arguments : List (List ℕ)) (read : Result Command ℕ) → arguments_of rest ≡ Some arguments → command_of name arguments ≡ Some read
     → asked_of (folder ∷ name ∷ rest) ≡ asked_in (folder_of folder) read
 asked_here folder name rest arguments read are is =
-    asked_with folder name rest arguments are ∙ ap (λ o. asked_by (folder_of folder) o (peer_command_of name arguments) (merge_command_of name arguments)) is
+    asked_with folder name rest arguments are ∙ ap (λ o. asked_by (folder_of folder) o (peer_command_of name arguments) (merge_command_of name arguments) (list_command_of name arguments)) is
 
 pub bad_folder : (folder name : List ℕ) (rest arguments : List (List ℕ)) → arguments_of rest ≡ Some arguments → IsSome (command_of name arguments) → folder_of folder ≡ None
     → asked_of (folder ∷ name ∷ rest) ≡ asked.Refused BadFolder
@@ -98,10 +103,10 @@ no_verb bytes words folder name text least is_folder is_name is_text none =
     let rest = map bytes (take (length words - 2) (drop 2 words)) in
     by (arguments_of rest) ∙ ap (λ xs. asked_of (map bytes xs)) (sym (begin_with_two words folder name least is_folder is_name))
   where
-    by : (o : Option (List (List ℕ))) → asked.Nothing
-        ≡ asked_by (folder_of (bytes folder)) (option_and_then (command_of (bytes name)) o) (option_and_then (peer_command_of (bytes name)) o) (option_and_then (merge_command_of (bytes name)) o)
+    by : (given : Option (List (List ℕ))) → asked.Nothing ≡ asked_from (bytes folder) (bytes name) given
     by None = refl
     by (Some arguments) =
         ap
-        (λ v. asked_by (folder_of (bytes folder)) (option_and_then (λ w. by_verb w arguments) v) (option_and_then (λ w. peer_by_verb w arguments) v) (option_and_then (λ w. merge_by_verb w arguments) v))
+        (λ v. asked_by (folder_of (bytes folder)) (option_and_then (λ w. by_verb w arguments) v) (option_and_then (λ w. peer_by_verb w arguments) v) (option_and_then (λ w. merge_by_verb w arguments) v)
+        (option_and_then (λ w. list_by_verb w arguments) v))
         (sym (ap verb_of (sym is_text) ∙ none))

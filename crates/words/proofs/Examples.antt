@@ -1,11 +1,15 @@
 -- Worked examples of what arguments ask, computed.
-use Rattle.std.specs.Prelude.{◌≡◌, ℕ, List, codes, map, [], ◌∷◌}
+use Rattle.std.specs.Prelude.{◌≡◌, ℕ, true, List, codes, map, [], ◌∷◌}
 use Rattle.std.specs.List.{repeat}
 use Rattle.std.specs.Str.{chars, is_utf8}
 use Rattle.std.proofs.Common.{refl}
 use Rattle.words.specs.Words.{asked_of}
+use Rattle.query.specs.Reading.{no_words}
+use Rattle.words.specs.declared.list.BadQuery.TheVariants.{BadValue, OpenQuote, UnknownField}
+use Rattle.words.specs.declared.list.Layout.TheVariants.{Board, Lines}
+use Rattle.words.specs.declared.words.Asked.TheVariants as asked
 use Rattle.words.specs.declared.words.Asked.TheVariants.{Exchange, Merge, Nothing, Refused, Request}
-use Rattle.words.specs.declared.words.BadWord.TheVariants.{BadFolder, BadRemoteName, BadText, SameFolder}
+use Rattle.words.specs.declared.words.BadWord.TheVariants.{BadFolder, BadQuery, BadRemoteName, BadText, SameFolder}
 use Rattle.words.specs.declared.words.Command.TheVariants.{Log, Users}
 use Rattle.words.specs.declared.words.PeerCommand.TheVariants.{Fetch, Pull, Push}
 
@@ -26,10 +30,10 @@ log_of_two = refl
 no_label : asked_of (codes "f" ∷ codes "label-add" ∷ codes "b" ∷ []) ≡ Nothing
 no_label = refl
 
-of_other_commands : map (λ (word : List ℕ). asked_of (codes "f" ∷ word ∷ codes "b" ∷ [])) (codes "ls" ∷ codes "Merge" ∷ codes "Edit" ∷ codes "Log" ∷ codes "log " ∷ [] ∷ []) ≡ repeat 6 (Nothing ∷ [])
+of_other_commands : map (λ (word : List ℕ). asked_of (codes "f" ∷ word ∷ codes "b" ∷ [])) (codes "Ls" ∷ codes "Merge" ∷ codes "Edit" ∷ codes "Log" ∷ codes "log " ∷ [] ∷ []) ≡ repeat 6 (Nothing ∷ [])
 of_other_commands = refl
 
-of_other_commands_alone : map (λ (word : List ℕ). asked_of (codes "f" ∷ word ∷ [])) (codes "ls" ∷ codes "user" ∷ codes "user-ls" ∷ codes "board" ∷ [] ∷ []) ≡ repeat 5 (Nothing ∷ [])
+of_other_commands_alone : map (λ (word : List ℕ). asked_of (codes "f" ∷ word ∷ [])) (codes "list" ∷ codes "user" ∷ codes "user-ls" ∷ codes "boards" ∷ [] ∷ []) ≡ repeat 5 (Nothing ∷ [])
 of_other_commands_alone = refl
 
 -- `-` and what follows `--` are arguments; what else begins with `-` is none
@@ -128,3 +132,36 @@ bad_folder_before_remote = refl
 bad_remote_of_a_merge : map (λ (remote : List ℕ). asked_of (codes "f" ∷ codes "merge" ∷ remote ∷ [])) (codes "o/p" ∷ codes ".." ∷ [] ∷ []) ≡ repeat 3 (Refused BadRemoteName ∷ [])
 unfolding chars
 bad_remote_of_a_merge = refl
+
+-- ---- lists
+
+lists_alone : map (λ (name : List ℕ). asked_of (codes "f/" ∷ name ∷ [])) (codes "ls" ∷ codes "board" ∷ [])
+    ≡ map (λ layout. asked.List (record { folder = codes "f"; layout = layout; query = no_words })) (Lines ∷ Board ∷ [])
+unfolding chars
+lists_alone = refl
+
+-- a value in quotes may lie in several arguments, and an argument may have several values
+list_of_a_value : asked_of (codes "f" ∷ codes "ls" ∷ codes "label:\"a" ∷ codes "b\"" ∷ []) ≡ asked.List (record { folder = codes "f"; layout = Lines; query = record no_words { labels = codes "a b" ∷ [] } })
+unfolding chars
+list_of_a_value = refl
+
+list_of_two_values : asked_of (codes "f" ∷ codes "ls" ∷ codes "no:label label:a" ∷ []) ≡ asked.List (record { folder = codes "f"; layout = Lines; query = record no_words { labels = codes "a" ∷ []; no_label = true } })
+unfolding chars
+list_of_two_values = refl
+
+list_after_dashes : asked_of (codes "f" ∷ codes "ls" ∷ codes "--" ∷ codes "-" ∷ codes "-a" ∷ []) ≡ Refused (BadQuery (UnknownField 0))
+unfolding chars
+list_after_dashes = refl
+
+bad_queries : map (λ (rest : List (List ℕ)). asked_of (codes "f" ∷ codes "ls" ∷ rest))
+    ((codes "status:openn" ∷ []) ∷ (codes "label:\"x" ∷ []) ∷ (codes "no:label" ∷ codes "x:y" ∷ []) ∷ (codes "x" ∷ codes "-" ∷ []) ∷ [])
+    ≡ map (λ bad. Refused (BadQuery bad)) (BadValue 0 ∷ OpenQuote 6 ∷ UnknownField 9 ∷ UnknownField 0 ∷ [])
+unfolding chars
+bad_queries = refl
+
+no_lists : map (λ (rest : List (List ℕ)). asked_of (codes "f" ∷ codes "ls" ∷ rest)) ((codes "-a" ∷ []) ∷ (codes "no:label" ∷ codes "--all" ∷ []) ∷ []) ≡ repeat 2 (Nothing ∷ [])
+no_lists = refl
+
+bad_folder_before_query : asked_of (codes "f/.." ∷ codes "ls" ∷ codes "status:openn" ∷ []) ≡ Refused BadFolder
+unfolding chars
+bad_folder_before_query = refl

@@ -8,7 +8,7 @@ use Rattle.remote_name.specs.RemoteTexts.{is_remote_name}
 use Rattle.remote_name.specs.declared.remote.RemoteName.{RemoteName}
 use Rattle.remote_name.proofs.RemoteLemmas.{no_remote, the_remote}
 use Rattle.words.specs.Arguments.{arguments_of}
-use Rattle.words.specs.Words.{asked_by, asked_of, command_of, exchange_in, exchange_of, merge_command_of, peer_command_of}
+use Rattle.words.specs.Words.{asked_by, asked_of, command_of, exchange_in, exchange_of, list_command_of, merge_command_of, peer_command_of}
 use Rattle.words.specs.declared.pair.FolderPair.{FolderPair}
 use Rattle.words.specs.declared.words.Asked.TheVariants as asked
 use Rattle.words.specs.declared.words.BadWord.TheVariants.{BadFolder, BadRemoteName, SameFolder}
@@ -43,7 +43,7 @@ exchanged : (folder name : List ℕ) (rest arguments : List (List ℕ)) (p : Lis
     → asked_of (folder ∷ name ∷ rest) ≡ exchange_in (folder_of folder) (folder_of p.0) p.1
 exchanged folder name rest arguments p are is =
     asked_with folder name rest arguments are
-    ∙ ap₂ (λ c o. asked_by (folder_of folder) c o (merge_command_of name arguments)) (no_command name arguments (subst IsSome (sym is) refl)) is
+    ∙ ap₂ (λ c o. asked_by (folder_of folder) c o (merge_command_of name arguments) (list_command_of name arguments)) (no_command name arguments (subst IsSome (sym is) refl)) is
 
 pub bad_own : (folder name : List ℕ) (rest arguments : List (List ℕ)) → arguments_of rest ≡ Some arguments → IsSome (peer_command_of name arguments) → folder_of folder ≡ None
     → asked_of (folder ∷ name ∷ rest) ≡ asked.Refused BadFolder

@@ -4,6 +4,7 @@ pub mod ClapLemmas
 pub mod Examples
 pub mod ExchangeLemmas
 pub mod KindLemmas
+pub mod ListLemmas
 pub mod MergeLemmas
 pub mod PairLemmas
 pub mod RuleLemmas

@@ -6,7 +6,7 @@ use Rattle.remote_name.specs.RemoteTexts.{is_remote_name}
 use Rattle.remote_name.specs.declared.remote.RemoteName.{RemoteName}
 use Rattle.remote_name.proofs.RemoteLemmas.{no_remote, the_remote}
 use Rattle.words.specs.Arguments.{arguments_of}
-use Rattle.words.specs.Words.{asked_by, asked_of, command_of, merge_command_of, merge_in, peer_command_of}
+use Rattle.words.specs.Words.{asked_by, asked_of, command_of, list_command_of, merge_command_of, merge_in, peer_command_of}
 use Rattle.words.specs.declared.words.Asked.TheVariants as asked
 use Rattle.words.specs.declared.words.BadWord.TheVariants.{BadFolder, BadRemoteName}
 use Rattle.words.proofs.AskLemmas.{asked_with}
@@ -35,8 +35,8 @@ merged : (folder name : List ℕ) (rest arguments : List (List ℕ)) (remote : O
 merged folder name rest arguments remote are is =
     let some = subst IsSome (sym is) refl in
     asked_with folder name rest arguments are
-    ∙ ap₂ (λ c p. asked_by (folder_of folder) c p (merge_command_of name arguments)) (no_command name arguments some) (no_peer name arguments some)
-    ∙ ap (asked_by (folder_of folder) None None) is
+    ∙ ap₂ (λ c p. asked_by (folder_of folder) c p (merge_command_of name arguments) (list_command_of name arguments)) (no_command name arguments some) (no_peer name arguments some)
+    ∙ ap (λ m. asked_by (folder_of folder) None None m (list_command_of name arguments)) is
 
 pub bad_folder : (folder name : List ℕ) (rest arguments : List (List ℕ)) → arguments_of rest ≡ Some arguments → IsSome (merge_command_of name arguments) → folder_of folder ≡ None
     → asked_of (folder ∷ name ∷ rest) ≡ asked.Refused BadFolder

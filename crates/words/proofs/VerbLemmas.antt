@@ -10,8 +10,8 @@ use Rattle.bug_edits.specs.declared.edit.BugEdit.{BugEdit}
 use Rattle.bug_edits.specs.declared.names.EditName.{EditName}
 use Rattle.bug_edits.proofs.ReadLemmas.{counted_edits_give, counted_of, each_name, found_passes, name_back, name_is, of_a_name, some_is}
 use Rattle.words.specs.Verbs.{name_of, of_edit, other_of, verb_among, verb_of}
-use Rattle.words.specs.WordRules.{IsCounted, IsCountedMerge, IsCountedPeer, counted_commands, counted_peer_commands}
-use Rattle.words.specs.Words.{NamesCommand, by_verb, command_of, edit_of_bug, merge_by_verb, merge_command_of, peer_by_verb, peer_command_of}
+use Rattle.words.specs.WordRules.{IsCounted, IsCountedMerge, IsCountedPeer, NamesList, counted_commands, counted_peer_commands}
+use Rattle.words.specs.Words.{NamesCommand, by_verb, command_of, edit_of_bug, list_by_verb, list_command_of, merge_by_verb, merge_command_of, peer_by_verb, peer_command_of}
 use Rattle.words.specs.declared.verb.TheConstants.{FIRST_VERBS, LAST_VERBS}
 use Rattle.words.specs.declared.verb.Verb.{Verb}
 use Rattle.words.specs.declared.verb.Verb.TheVariants as verb
@@ -55,6 +55,8 @@ read_back (verb.OfBug edit) = ap (λ o. option_or o (of_edit (name_read (name_of
 read_back verb.Edit = refl
 read_back verb.Show = refl
 read_back verb.Log = refl
+read_back verb.Ls = refl
+read_back verb.Board = refl
 read_back verb.Fetch = refl
 read_back verb.Merge = refl
 read_back verb.Pull = refl
@@ -135,6 +137,18 @@ only_counted_merges name arguments some =
     let by = of_a_verb (λ v. merge_by_verb v arguments) name remote.0 remote.1 in
     subst (λ n. IsCountedMerge n (length arguments)) (sym by.1)
     (subst (λ o. IfSome o (λ r. IsCountedMerge (name_of by.0) (length arguments))) by.2 (counted_merge by.0 arguments))
+
+-- and a list has a name of one, whatever its arguments
+names_list : (v : Verb) (arguments : List (List ℕ)) → IsSome (list_by_verb v arguments) → NamesList (name_of v)
+names_list verb.Ls arguments some = inl refl
+names_list verb.Board arguments some = inr refl
+names_list _ arguments some = cc some
+
+pub only_named_lists : (name : List ℕ) (arguments : List (List ℕ)) → IsSome (list_command_of name arguments) → NamesList name
+only_named_lists name arguments some =
+    let list = some_is (list_command_of name arguments) some in
+    let by = of_a_verb (λ v. list_by_verb v arguments) name list.0 list.1 in
+    subst NamesList (sym by.1) (names_list by.0 arguments (subst IsSome (sym by.2) refl))
 
 -- ---- the other way
 

@@ -28,6 +28,10 @@ IsCountedPeer name count = Contains counted_peer_commands (name, count)
 abbrev pub IsCountedMerge : List ℕ → ℕ → Type 0
 IsCountedMerge name count = (name ≡ codes "merge") × (count ≡ 1)
 
+-- a name is that of a list of bugs, which takes any number of arguments
+abbrev pub NamesList : List ℕ → Type 0
+NamesList name = (name ≡ codes "ls") ⊎ (name ≡ codes "board")
+
 -- ---- rules of arguments
 
 -- an argument is a line

@@ -1,5 +1,6 @@
 -- What arguments ask: a command, each argument read by its rule, in a folder; or what they alone refuse.
-use Rattle.std.specs.Prelude.{ℕ, IsSome, List, [], ◌∷◌, Option, Some, None, option_and_then, option_map, Result, Ok, Err}
+use Rattle.std.specs.Prelude.{ℕ, IsSome, List, [], ◌∷◌, codes, Option, Some, None, option_and_then, option_map, Result, Ok, Err}
+use Rattle.std.specs.List.{join_by}
 use Rattle.gb_text.specs.Folder.{folder_of}
 use Rattle.gb_text.specs.Ruled.{line_of, message_of, title_of}
 use Rattle.gb_text.specs.declared.ruled.Line.{Line}
@@ -7,17 +8,26 @@ use Rattle.gb_text.specs.declared.ruled.Title.{Title}
 use Rattle.bug_edits.specs.EditTable.{edit_from}
 use Rattle.bug_edits.specs.Given.{at, made, made_of_two}
 use Rattle.bug_edits.specs.declared.edit.BugEdit.{BugEdit}
+use Rattle.query.specs.Reading.{query_of}
+use Rattle.query.specs.declared.fault.QueryFault.{QueryFault}
+use Rattle.query.specs.declared.fault.QueryFault.TheVariants as fault
+use Rattle.query.specs.declared.query.Query.{Query}
 use Rattle.remote_name.specs.Remotes.{remote_of}
 use Rattle.remote_name.specs.declared.remote.RemoteName.{RemoteName}
 use Rattle.words.specs.Arguments.{arguments_of}
 use Rattle.words.specs.Pairs.{pair_of}
 use Rattle.words.specs.declared.pair.FolderPair.{FolderPair}
 use Rattle.words.specs.declared.edit.Edit.TheVariants.{New, OfBug, OfComment, UserEdit, UserNew, UserSet}
+use Rattle.words.specs.declared.list.BadQuery.{BadQuery}
+use Rattle.words.specs.declared.list.BadQuery.TheVariants.{BadValue, OpenQuote, UnknownField}
+use Rattle.words.specs.declared.list.Layout.{Layout}
+use Rattle.words.specs.declared.list.Layout.TheVariants.{Board, Lines}
 use Rattle.words.specs.Verbs.{verb_of}
 use Rattle.words.specs.declared.verb.Verb.{Verb}
 use Rattle.words.specs.declared.verb.Verb.TheVariants as verb
 use Rattle.words.specs.declared.words.Asked.{Asked}
 use Rattle.words.specs.declared.words.Asked.TheVariants as asked
+use Rattle.words.specs.declared.words.BadWord.TheVariants as bad_word
 use Rattle.words.specs.declared.words.BadWord.TheVariants.{BadFolder, BadRemoteName, BadText, SameFolder}
 use Rattle.words.specs.declared.words.Command.{Command}
 use Rattle.words.specs.declared.words.Command.TheVariants.{Edit, Log, Show, Users}
@@ -126,18 +136,57 @@ merge_in None remote = asked.Refused BadFolder
 merge_in (Some folder) None = asked.Refused BadRemoteName
 merge_in (Some folder) (Some remote) = asked.Merge (record { folder = folder; remote = remote })
 
+-- ---- lists of bugs
+
+-- the arguments as one text, with one space between each two
+abbrev pub spaced : List (List ℕ) → List ℕ
+spaced arguments = join_by (λ argument. argument) (codes " ") arguments
+
+-- a query that is read of a text, or why it is refused; memory is no fault of a text
+abbrev pub query_or_bad : Result Query QueryFault → Option (Result Query BadQuery)
+query_or_bad (Ok query) = Some (Ok query)
+query_or_bad (Err fault.Memory) = None
+query_or_bad (Err (fault.UnknownField place)) = Some (Err (UnknownField place))
+query_or_bad (Err (fault.BadValue place)) = Some (Err (BadValue place))
+query_or_bad (Err (fault.OpenQuote place)) = Some (Err (OpenQuote place))
+
+-- a list in a layout, by the query that the arguments give
+abbrev pub list_of : Layout → List (List ℕ) → Option (Layout × Result Query BadQuery)
+list_of layout arguments = option_map (λ query. (layout, query)) (query_or_bad (query_of (spaced arguments)))
+
+-- The layout and the query of this command, if it is a list. The query may be refused.
+abbrev pub list_by_verb : Verb → List (List ℕ) → Option (Layout × Result Query BadQuery)
+list_by_verb verb.Ls arguments = list_of Lines arguments
+list_by_verb verb.Board arguments = list_of Board arguments
+list_by_verb _ _ = None
+
+-- the same of the name of a command, if there is one
+abbrev pub list_command_of : List ℕ → List (List ℕ) → Option (Layout × Result Query BadQuery)
+list_command_of name arguments = option_and_then (λ v. list_by_verb v arguments) (verb_of name)
+
+-- the same with the arguments that the rest gives, if none of it is refused
+abbrev pub list_command_from : List ℕ → List (List ℕ) → Option (Layout × Result Query BadQuery)
+list_command_from name rest = option_and_then (list_command_of name) (arguments_of rest)
+
+-- in a folder: a bad one is refused before a bad query
+abbrev pub list_in : Option (List ℕ) → Layout → Result Query BadQuery → Asked
+list_in None layout query = asked.Refused BadFolder
+list_in (Some folder) layout (Err bad) = asked.Refused (bad_word.BadQuery bad)
+list_in (Some folder) layout (Ok query) = asked.List (record { folder = folder; layout = layout; query = query })
+
 -- ---- what is asked
 
--- by what the arguments after the folder give: a command in the folder, or one with a peer, or a merge, or none of these
-abbrev pub asked_by : Option (List ℕ) → Option (Result Command ℕ) → Option (List ℕ × Option PeerCommand) → Option (Option RemoteName) → Asked
-asked_by folder None None None = asked.Nothing
-asked_by folder None None (Some remote) = merge_in folder remote
-asked_by folder None (Some p) merge = exchange_in folder (folder_of p.0) p.1
-asked_by folder (Some command) p merge = asked_in folder command
+-- by what the arguments after the folder give: a command in the folder, or one with a peer, or a merge, or a list, or none of these
+abbrev pub asked_by : Option (List ℕ) → Option (Result Command ℕ) → Option (List ℕ × Option PeerCommand) → Option (Option RemoteName) → Option (Layout × Result Query BadQuery) → Asked
+asked_by folder None None None None = asked.Nothing
+asked_by folder None None None (Some list) = list_in folder list.0 list.1
+asked_by folder None None (Some remote) list = merge_in folder remote
+asked_by folder None (Some p) merge list = exchange_in folder (folder_of p.0) p.1
+asked_by folder (Some command) p merge list = asked_in folder command
 
 -- What arguments ask: of a folder, the name of a command and the rest. Nothing where they give no command.
 abbrev pub asked_of : List (List ℕ) → Asked
-asked_of (folder ∷ name ∷ rest) = asked_by (folder_of folder) (command_from name rest) (peer_command_from name rest) (merge_command_from name rest)
+asked_of (folder ∷ name ∷ rest) = asked_by (folder_of folder) (command_from name rest) (peer_command_from name rest) (merge_command_from name rest) (list_command_from name rest)
 asked_of _ = asked.Nothing
 
 -- the second argument is the name of a command

@@ -12,26 +12,33 @@ ghost use Rattle.bug_edits.specs.EditWords.{IsFirstBad, all_keep, is_message_wor
 ghost use Rattle.bug_edits.specs.Given.{HasTitles, given_texts};
 ghost use Rattle.bug_edits.specs.declared.edit.BugEdit.{BugEdit as BugEditValue};
 ghost use Rattle.bug_edits.specs.declared.edit.BugEdit.TheVariants as bug_edit;
+ghost use Rattle.query.specs.Reading.{no_words, query_of};
+ghost use Rattle.query.specs.declared.fault.QueryFault.TheVariants as query_fault;
+ghost use Rattle.query.specs.declared.query.Query.{Query as QueryValue};
 ghost use Rattle.remote_name.specs.RemoteTexts.{is_remote_name};
 ghost use Rattle.remote_name.specs.declared.remote.RemoteName.{RemoteName as RemoteNameValue};
 ghost use Rattle.words.specs.Arguments.{IsFlag, IsPlain, Shape, arguments_of};
 ghost use Rattle.words.specs.Overlaps.{overlaps};
 ghost use Rattle.words.specs.Pairs.{pair_of};
 ghost use Rattle.words.specs.Verbs.{name_of, verb_of};
-ghost use Rattle.words.specs.WordRules.{IsCounted, IsCountedMerge, IsCountedPeer, IsRead, words_keep};
-ghost use Rattle.words.specs.Words.{NamesCommand, asked_of, command_of, merge_command_of, of_bug, peer_command_of};
+ghost use Rattle.words.specs.WordRules.{IsCounted, IsCountedMerge, IsCountedPeer, IsRead, NamesList, words_keep};
+ghost use Rattle.words.specs.Words.{NamesCommand, asked_of, command_of, list_command_of, merge_command_of, of_bug, peer_command_of, spaced};
 ghost use Rattle.words.specs.declared.edit.Edit.TheVariants as edits;
+ghost use Rattle.words.specs.declared.list.BadQuery.{BadQuery as BadQueryValue};
+ghost use Rattle.words.specs.declared.list.BadQuery.TheVariants as bad_query;
+ghost use Rattle.words.specs.declared.list.Layout.{Layout as LayoutValue};
+ghost use Rattle.words.specs.declared.list.Layout.TheVariants.{Board, Lines};
 ghost use Rattle.words.specs.declared.pair.FolderPair.{FolderPair as FolderPairValue};
 ghost use Rattle.words.specs.declared.verb.Verb.{Verb as VerbValue};
 ghost use Rattle.words.specs.declared.words.Asked.TheVariants as asked;
-ghost use Rattle.words.specs.declared.words.BadWord.TheVariants.{BadFolder, BadRemoteName, BadText, SameFolder};
+ghost use Rattle.words.specs.declared.words.BadWord.TheVariants.{BadFolder, BadQuery, BadRemoteName, BadText, SameFolder};
 ghost use Rattle.words.specs.declared.words.Command.{Command as CommandValue};
 ghost use Rattle.words.specs.declared.words.Command.TheVariants as ask;
 ghost use Rattle.words.specs.declared.words.PeerCommand.{PeerCommand as PeerCommandValue};
 ghost use Rattle.words.specs.declared.words.PeerCommand.TheVariants as peer_ask;
 
 /// The commands by their names and their numbers of arguments, those with a peer apart, and the
-/// merge. No other arguments give a command.
+/// merge, and the lists, which take any number of them. No other arguments give a command.
 pub fn only_these_are_commands()
     ensures named { (name : List ℕ) (arguments : List (List ℕ))
         → IsSome (command_of name arguments) → IsCounted name (length arguments) }
@@ -45,12 +52,16 @@ pub fn only_these_are_commands()
         → IsSome (merge_command_of name arguments) → IsCountedMerge name (length arguments) }
     ensures merges_each { (name : List ℕ) (arguments : List (List ℕ))
         → IsCountedMerge name (length arguments) → IsSome (merge_command_of name arguments) }
+    ensures lists_named { (name : List ℕ) (arguments : List (List ℕ))
+        → IsSome (list_command_of name arguments) → NamesList name }
+    ensures lists_each { (name : List ℕ) (arguments : List (List ℕ))
+        → NamesList name → IsSome (list_command_of name arguments) }
     ensures unnamed { (folder : List ℕ)
         → (asked_of [] ≡ asked.Nothing) × (asked_of (folder ∷ []) ≡ asked.Nothing) }
 {}
 
-/// The name of a command with a peer is that of no command in one folder, and the name of a merge
-/// is that of neither, whatever the arguments.
+/// The name of a command with a peer is that of no command in one folder, the name of a merge is
+/// that of neither, and the name of a list is that of none of these, whatever the arguments.
 pub fn no_name_is_of_two_kinds()
     ensures peers { (name : List ℕ) (arguments others : List (List ℕ))
         → IsSome (command_of name arguments) → IsSome (peer_command_of name others) → ⊥ }
@@ -58,6 +69,12 @@ pub fn no_name_is_of_two_kinds()
         → IsSome (command_of name arguments) → IsSome (merge_command_of name others) → ⊥ }
     ensures peer_merges { (name : List ℕ) (arguments others : List (List ℕ))
         → IsSome (peer_command_of name arguments) → IsSome (merge_command_of name others) → ⊥ }
+    ensures lists { (name : List ℕ) (arguments others : List (List ℕ))
+        → IsSome (command_of name arguments) → IsSome (list_command_of name others) → ⊥ }
+    ensures peer_lists { (name : List ℕ) (arguments others : List (List ℕ))
+        → IsSome (peer_command_of name arguments) → IsSome (list_command_of name others) → ⊥ }
+    ensures merge_lists { (name : List ℕ) (arguments others : List (List ℕ))
+        → IsSome (merge_command_of name arguments) → IsSome (list_command_of name others) → ⊥ }
 {}
 
 /// Arguments that do not begin with `-`, and `-` alone, are taken as they are. The first `--` is dropped,
@@ -128,6 +145,42 @@ pub fn peer_commands_ask_for_what_they_name()
         → merge_command_of (codes "merge") (remote ∷ []) ≡ Some None }
 {}
 
+/// What a list asks for, which is its layout and the query that its arguments read as, joined by one
+/// space. Without arguments it is the query of no words. Of a bad query the fault is known, and its
+/// place in that text.
+pub fn lists_ask_for_what_they_name()
+    ensures lines { (arguments : List (List ℕ)) (query : QueryValue)
+        → query_of (spaced arguments) ≡ Ok query
+        → list_command_of (codes "ls") arguments ≡ Some (Lines, Ok query) }
+    ensures board { (arguments : List (List ℕ)) (query : QueryValue)
+        → query_of (spaced arguments) ≡ Ok query
+        → list_command_of (codes "board") arguments ≡ Some (Board, Ok query) }
+    ensures alone { (list_command_of (codes "ls") [] ≡ Some (Lines, Ok no_words))
+        × (list_command_of (codes "board") [] ≡ Some (Board, Ok no_words)) }
+    ensures unknown_field { (arguments : List (List ℕ)) (place : ℕ)
+        → query_of (spaced arguments) ≡ Err (query_fault.UnknownField place)
+        → (list_command_of (codes "ls") arguments
+        ≡ Some (Lines, Err (bad_query.UnknownField place)))
+        × (list_command_of (codes "board") arguments
+        ≡ Some (Board, Err (bad_query.UnknownField place))) }
+    ensures bad_value { (arguments : List (List ℕ)) (place : ℕ)
+        → query_of (spaced arguments) ≡ Err (query_fault.BadValue place)
+        → (list_command_of (codes "ls") arguments
+        ≡ Some (Lines, Err (bad_query.BadValue place)))
+        × (list_command_of (codes "board") arguments
+        ≡ Some (Board, Err (bad_query.BadValue place))) }
+    ensures open_quote { (arguments : List (List ℕ)) (place : ℕ)
+        → query_of (spaced arguments) ≡ Err (query_fault.OpenQuote place)
+        → (list_command_of (codes "ls") arguments
+        ≡ Some (Lines, Err (bad_query.OpenQuote place)))
+        × (list_command_of (codes "board") arguments
+        ≡ Some (Board, Err (bad_query.OpenQuote place))) }
+    ensures one { (argument : List ℕ) → spaced (argument ∷ []) ≡ argument }
+    ensures more { (argument next : List ℕ) (others : List (List ℕ))
+        → spaced (argument ∷ next ∷ others)
+        ≡ argument ++ codes " " ++ spaced (next ∷ others) }
+{}
+
 /// What each edit of a bug asks for: the first argument finds the bug, or the comment.
 pub fn edits_of_bugs_ask_for_what_they_name()
     ensures each { (bug : List ℕ) (edit : BugEditValue) → HasTitles (row_of edit).words
@@ -162,15 +215,16 @@ pub fn edits_of_bugs_ask_for_what_they_name()
 {}
 
 /// Arguments that give no command ask nothing, whatever the folder: one of them is refused, or those
-/// that are taken are not a command's. Of a command in one folder that is no merge a bad folder is
-/// refused first, whatever its arguments. Otherwise the place of an argument that breaks its rule is
-/// reported, among those that are taken. Otherwise the command is asked for, in that folder.
+/// that are taken are not a command's. Of a command in one folder that is no merge and no list a bad
+/// folder is refused first, whatever its arguments. Otherwise the place of an argument that breaks its
+/// rule is reported, among those that are taken. Otherwise the command is asked for, in that folder.
 pub fn requests_are_read_in_order()
     ensures refused { (folder name : List ℕ) (rest : List (List ℕ))
         → arguments_of rest ≡ None → asked_of (folder ∷ name ∷ rest) ≡ asked.Nothing }
     ensures nothing { (folder name : List ℕ) (rest arguments : List (List ℕ))
         → arguments_of rest ≡ Some arguments → command_of name arguments ≡ None
         → peer_command_of name arguments ≡ None → merge_command_of name arguments ≡ None
+        → list_command_of name arguments ≡ None
         → asked_of (folder ∷ name ∷ rest) ≡ asked.Nothing }
     ensures folder { (folder name : List ℕ) (rest arguments : List (List ℕ))
         → arguments_of rest ≡ Some arguments
@@ -234,6 +288,24 @@ pub fn merges_are_read_in_order()
         → folder_of folder ≡ Some read → merge_command_of name arguments ≡ Some (Some remote)
         → asked_of (folder ∷ name ∷ rest)
         ≡ asked.Merge (record { folder = read; remote = remote }) }
+{}
+
+/// Of a list a bad folder is refused first, whatever its arguments. Otherwise a bad query is refused.
+/// Otherwise the list is asked for, in that folder, in its layout and of that query.
+pub fn lists_are_read_in_order()
+    ensures folder { (folder name : List ℕ) (rest arguments : List (List ℕ))
+        → arguments_of rest ≡ Some arguments
+        → IsSome (list_command_of name arguments) → folder_of folder ≡ None
+        → asked_of (folder ∷ name ∷ rest) ≡ asked.Refused BadFolder }
+    ensures query { (folder name : List ℕ) (rest arguments : List (List ℕ)) (read : List ℕ)
+        (layout : LayoutValue) (bad : BadQueryValue) → arguments_of rest ≡ Some arguments
+        → folder_of folder ≡ Some read → list_command_of name arguments ≡ Some (layout, Err bad)
+        → asked_of (folder ∷ name ∷ rest) ≡ asked.Refused (BadQuery bad) }
+    ensures list { (folder name : List ℕ) (rest arguments : List (List ℕ)) (read : List ℕ)
+        (layout : LayoutValue) (query : QueryValue) → arguments_of rest ≡ Some arguments
+        → folder_of folder ≡ Some read → list_command_of name arguments ≡ Some (layout, Ok query)
+        → asked_of (folder ∷ name ∷ rest)
+        ≡ asked.List (record { folder = read; layout = layout; query = query }) }
 {}
 
 /// Two folders make a pair if and only if they do not overlap. The pair has these two, in this order,

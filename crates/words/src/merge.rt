@@ -13,7 +13,7 @@ use std::alloc::Global;
 /// of them or none. A remote that is no name is refused after a bad folder.
 pub(crate) fn merge(alloc: Global, folder: &str, arguments: &[&str]) -> Result<Asked, Memory>
     ensures read { IfOk result (λ asked. asked ≡ asked_by (folder_of folder.now) None None
-        (merge_by_verb verb.Merge (map (λ s. s.now) arguments.now))) }
+        (merge_by_verb verb.Merge (map (λ s. s.now) arguments.now)) None) }
     ensures memory { OnErr result
         (IsSome (merge_by_verb verb.Merge (map (λ s. s.now) arguments.now))) }
 {

@@ -14,7 +14,7 @@ use std::alloc::Global;
 /// more of them or fewer. A remote that is no name is refused after the folders.
 pub(crate) fn fetch(alloc: Global, own: &str, arguments: &[&str]) -> Result<Asked, Memory>
     ensures read { IfOk result (λ asked. asked ≡ asked_by (folder_of own.now) None
-        (peer_by_verb verb.Fetch (map (λ s. s.now) arguments.now)) None) }
+        (peer_by_verb verb.Fetch (map (λ s. s.now) arguments.now)) None None) }
     ensures memory { OnErr result
         (IsSome (peer_by_verb verb.Fetch (map (λ s. s.now) arguments.now))) }
 {
@@ -32,7 +32,7 @@ pub(crate) fn fetch(alloc: Global, own: &str, arguments: &[&str]) -> Result<Aske
 /// more of them or fewer. A remote that is no name is refused after the folders.
 pub(crate) fn pull(alloc: Global, own: &str, arguments: &[&str]) -> Result<Asked, Memory>
     ensures read { IfOk result (λ asked. asked ≡ asked_by (folder_of own.now) None
-        (peer_by_verb verb.Pull (map (λ s. s.now) arguments.now)) None) }
+        (peer_by_verb verb.Pull (map (λ s. s.now) arguments.now)) None None) }
     ensures memory { OnErr result
         (IsSome (peer_by_verb verb.Pull (map (λ s. s.now) arguments.now))) }
 {
@@ -50,7 +50,7 @@ pub(crate) fn pull(alloc: Global, own: &str, arguments: &[&str]) -> Result<Asked
 /// them or none.
 pub(crate) fn push(alloc: Global, own: &str, arguments: &[&str]) -> Result<Asked, Memory>
     ensures read { IfOk result (λ asked. asked ≡ asked_by (folder_of own.now) None
-        (peer_by_verb verb.Push (map (λ s. s.now) arguments.now)) None) }
+        (peer_by_verb verb.Push (map (λ s. s.now) arguments.now)) None None) }
     ensures memory { OnErr result
         (IsSome (peer_by_verb verb.Push (map (λ s. s.now) arguments.now))) }
 {

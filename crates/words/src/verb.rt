@@ -19,6 +19,8 @@ pub enum Verb {
     Edit,
     Show,
     Log,
+    Ls,
+    Board,
     Fetch,
     Merge,
     Pull,
@@ -35,10 +37,12 @@ pub const FIRST_VERBS: [Verb; 5] = [
 ];
 
 /// The commands of which people are told after the edits of a bug, in this order.
-pub const LAST_VERBS: [Verb; 7] = [
+pub const LAST_VERBS: [Verb; 9] = [
     Verb::Edit,
     Verb::Show,
     Verb::Log,
+    Verb::Ls,
+    Verb::Board,
     Verb::Fetch,
     Verb::Merge,
     Verb::Pull,
@@ -73,6 +77,8 @@ impl Verb {
             Verb::Edit => "edit",
             Verb::Show => "show",
             Verb::Log => "log",
+            Verb::Ls => "ls",
+            Verb::Board => "board",
             Verb::Fetch => "fetch",
             Verb::Merge => "merge",
             Verb::Pull => "pull",
@@ -81,7 +87,7 @@ impl Verb {
     }
 
     /// The arguments after the name, for people. Two dots say that the last may be given several
-    /// times.
+    /// times; a query may also be left out.
     pub fn takes(self) -> &'static str {
         match self {
             Verb::UserNew | Verb::UserEdit => "NAME EMAIL",
@@ -90,6 +96,7 @@ impl Verb {
             Verb::OfBug(edit) => edit.takes(),
             Verb::Edit => "COMMENT MESSAGE",
             Verb::UserSet | Verb::Show | Verb::Log => "ID",
+            Verb::Ls | Verb::Board => "QUERY..",
             Verb::Fetch | Verb::Pull => "REMOTE PEER",
             Verb::Merge => "REMOTE",
             Verb::Push => "PEER",

@@ -1,12 +1,13 @@
 //! What arguments ask, each read into its type.
 ghost use Rattle.std.specs.Prelude.{◌≡◌, IfOk, OnErr, IsSome, None, map, string_bytes};
 ghost use Rattle.gb_text.specs.Folder.{folder_of};
-ghost use Rattle.words.specs.Words.{NamesCommand, asked_by, asked_of, by_verb, edited_comment};
+ghost use Rattle.words.specs.Words.{NamesCommand, asked_by, asked_of, by_verb, edited_comment, list_by_verb};
 ghost use Rattle.words.specs.Words.{merge_by_verb, new_bug, of_bug, peer_by_verb, person};
 ghost use Rattle.words.specs.declared.verb.Verb.TheVariants as verb;
 
 use crate::arguments::read_arguments;
 use crate::edit::Edit;
+use crate::list::{BadQuery, Layout, ListRequest, list};
 use crate::merge::merge;
 use crate::pair::FolderPair;
 use crate::peer::{fetch, pull, push};
@@ -73,6 +74,8 @@ pub enum BadWord {
     SameFolder,
     /// The argument for a remote is not the name of one.
     BadRemoteName,
+    /// The query of a list is refused.
+    BadQuery(BadQuery),
 }
 
 /// What arguments ask.
@@ -88,6 +91,8 @@ pub enum Asked {
     Exchange(PeerRequest),
     /// They ask for a merge of what was fetched from a remote.
     Merge(MergeRequest),
+    /// They ask for a list of bugs.
+    List(ListRequest),
 }
 
 /// What arguments ask: a folder, the name of a command, and as many arguments as the command takes,
@@ -95,7 +100,8 @@ pub enum Asked {
 /// they are; one before it that begins with `-` and is longer gives no command. A bad folder is
 /// refused first, and then the first argument that breaks its rule. Of a command with a peer, a bad
 /// folder of the peer is refused next, then folders that overlap, and a remote that is no name last.
-/// Of a merge, a remote that is no name is refused after a bad folder.
+/// Of a merge, a remote that is no name is refused after a bad folder. The arguments of a list, any
+/// number of them, are joined by one space into a query: a bad one is refused after a bad folder.
 /// Memory runs out only if the name is that of a command, and perhaps before it is known that its
 /// arguments give none.
 pub fn read_words(alloc: Global, words: &[String]) -> Result<Asked, Memory>
@@ -124,9 +130,12 @@ fn asked_by_verb(
     ensures { IfOk result (λ asked. asked
         ≡ asked_by (folder_of folder.now) (by_verb verb (map (λ s. s.now) arguments.now))
         (peer_by_verb verb (map (λ s. s.now) arguments.now))
-        (merge_by_verb verb (map (λ s. s.now) arguments.now))) }
+        (merge_by_verb verb (map (λ s. s.now) arguments.now))
+        (list_by_verb verb (map (λ s. s.now) arguments.now))) }
 {
     match verb {
+        Verb::Ls => list(alloc, folder, Layout::Lines, arguments),
+        Verb::Board => list(alloc, folder, Layout::Board, arguments),
         Verb::Fetch => fetch(alloc, folder, arguments),
         Verb::Merge => merge(alloc, folder, arguments),
         Verb::Pull => pull(alloc, folder, arguments),
@@ -135,14 +144,14 @@ fn asked_by_verb(
     }
 }
 
-// A command in one folder that is no merge, if there is one: a bad folder is refused before an
-// argument.
+// A command in one folder that is no merge and no list, if there is one: a bad folder is refused
+// before an argument.
 fn asked_in(
     alloc: Global,
     folder: &str,
     command: Option<Result<Command, u64>>,
 ) -> Result<Asked, Memory>
-    ensures { IfOk result (λ asked. asked ≡ asked_by (folder_of folder.now) command None None) }
+    ensures { IfOk result (λ asked. asked ≡ asked_by (folder_of folder.now) command None None None) }
 {
     let Some(command) = command else {
         return Ok(Asked::Nothing);
@@ -171,7 +180,7 @@ pub(crate) fn read_folder(alloc: Global, word: &str) -> Result<Option<Folder>, M
 // are not those of one in one folder.
 type Reading = Result<Option<Result<Command, u64>>, Memory>;
 
-// This command, with these arguments. Those with a peer, and a merge, are none of these.
+// This command, with these arguments. A list, those with a peer, and a merge are none of these.
 fn by_verb(alloc: Global, verb: Verb, arguments: &[&str]) -> Reading
     ensures read { IfOk result (λ read. read ≡ by_verb verb (map (λ s. s.now) arguments.now)) }
     ensures memory { OnErr result (IsSome (by_verb verb (map (λ s. s.now) arguments.now))) }
@@ -186,7 +195,7 @@ fn by_verb(alloc: Global, verb: Verb, arguments: &[&str]) -> Reading
         Verb::Edit => edit_of_comment(alloc, arguments),
         Verb::Show => show(alloc, arguments),
         Verb::Log => log(alloc, arguments),
-        Verb::Fetch | Verb::Merge | Verb::Pull | Verb::Push => Ok(None),
+        Verb::Ls | Verb::Board | Verb::Fetch | Verb::Merge | Verb::Pull | Verb::Push => Ok(None),
     }
 }
 

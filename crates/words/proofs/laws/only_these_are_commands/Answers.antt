@@ -1,4 +1,5 @@
-use Rattle.words.proofs.VerbLemmas.{counted_gives, counted_merges_give, counted_peers_give, only_counted, only_counted_merges, only_counted_peers}
+use Rattle.words.proofs.ListLemmas.{named_lists_give}
+use Rattle.words.proofs.VerbLemmas.{counted_gives, counted_merges_give, counted_peers_give, only_counted, only_counted_merges, only_counted_peers, only_named_lists}
 use Rattle.words.proofs.laws.only_these_are_commands.Goals as goal
 
 pub returns-clause-named : goal.returns-clause-named
@@ -18,3 +19,9 @@ returns-clause-merges_named c = only_counted_merges
 
 pub returns-clause-merges_each : goal.returns-clause-merges_each
 returns-clause-merges_each c = counted_merges_give
+
+pub returns-clause-lists_named : goal.returns-clause-lists_named
+returns-clause-lists_named c = only_named_lists
+
+pub returns-clause-lists_each : goal.returns-clause-lists_each
+returns-clause-lists_each c = named_lists_give
