@@ -6,6 +6,8 @@ use Rattle.std.proofs.Common.{refl}
 use Rattle.hex.proofs.OnLiterals.{hex_on_literals}
 use Rattle.gb_text.specs.declared.id.Id.{Id}
 use Rattle.gb_store.specs.Files.{Files, Put}
+use Rattle.packed_refs.specs.Packed.{last_head}
+use Rattle.ref_store.specs.Refs.{ref_at}
 use Rattle.ref_store.specs.declared.read.TheConstants.{MOST_BYTES}
 use Rattle.repo_state.specs.Clocks.{clock_at, clock_write, see_writes}
 use Rattle.repo_state.specs.Comments.{bug_digits}
@@ -56,15 +58,15 @@ place_of_a_remote_identity = refl
 
 -- what a word finds: all 64 digits, where a ref stands
 word_found : Finds (all_say head_digits) (codes "f") side.Bugs id_digits (One id)
-unfolding hex_on_literals
+unfolding hex_on_literals ref_at last_head
 word_found = finds_one id refl refl
 
 word_of_a_bad_ref : Finds (all_say (codes "x")) (codes "f") side.Bugs id_digits (One id)
-unfolding hex_on_literals
+unfolding hex_on_literals ref_at last_head
 word_of_a_bad_ref = finds_one id refl refl
 
 word_of_no_ref : Finds no_files (codes "f") side.Bugs id_digits Nothing
-unfolding hex_on_literals
+unfolding hex_on_literals ref_at last_head
 word_of_no_ref = finds_no_ref id refl refl
 
 word_with_a_line_feed : Finds (all_say head_digits) (codes "f") side.Bugs (id_digits ++ codes "\n") Nothing
@@ -116,11 +118,11 @@ user_of_no_file : user_at no_files (codes "f") ≡ NoUser
 user_of_no_file = refl
 
 user_of_digits : user_of (all_say head_digits) (codes "f") (Some id_digits) ≡ User id
-unfolding hex_on_literals
+unfolding hex_on_literals ref_at last_head
 user_of_digits = refl
 
 user_of_a_line : user_of (all_say head_digits) (codes "f") (Some (id_digits ++ codes "\n")) ≡ User id
-unfolding hex_on_literals
+unfolding hex_on_literals ref_at last_head
 user_of_a_line = refl
 
 user_of_two_line_feeds : user_of (all_say head_digits) (codes "f") (Some (id_digits ++ codes "\n\n")) ≡ BadUser
@@ -128,11 +130,11 @@ unfolding hex_on_literals
 user_of_two_line_feeds = refl
 
 user_of_a_bad_ref : user_of (all_say (codes "x")) (codes "f") (Some id_digits) ≡ User id
-unfolding hex_on_literals
+unfolding hex_on_literals ref_at last_head
 user_of_a_bad_ref = refl
 
 user_of_no_ref : user_of no_files (codes "f") (Some id_digits) ≡ BadUser
-unfolding hex_on_literals
+unfolding hex_on_literals ref_at last_head
 user_of_no_ref = refl
 
 user_of_nothing : user_of (all_say head_digits) (codes "f") (Some []) ≡ BadUser

@@ -20,6 +20,7 @@ pub mod PeopleLemmas
 pub mod PlaceLemmas
 pub mod PrefixLemmas
 pub mod SeekLemmas
+pub mod SinceLemmas
 pub mod UndamagedLemmas
 pub mod UserFileLemmas
 pub mod WordLemmas

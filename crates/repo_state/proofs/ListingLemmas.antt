@@ -1,6 +1,6 @@
 -- The refs of a side are the ids whose refs stand, and the heads of the refs that read.
-use Rattle.std.proofs.Common.{◌≡◌, ◌⊎◌, ℕ, inl, inr, zero, suc, List, [], ◌∷◌, ◌++◌, map, Option, None, Some, Err, refl, sym, ◌∙◌, ap, subst, arith}
-use Rattle.std.specs.Prelude.{Contains, IfOk, IsSome, IsTrue, Result, Ok, true}
+use Rattle.std.proofs.Common.{◌≡◌, ◌⊎◌, ℕ, inl, inr, zero, suc, List, [], ◌∷◌, ◌++◌, map, Some, Err, refl, sym, ◌∙◌, ap, subst, arith}
+use Rattle.std.specs.Prelude.{Contains, IfOk, IsTrue, Result, Ok}
 use Rattle.std.specs.List.{AllByRecursion}
 use Rattle.std.specs.declared.cmp.Ordering.{Ordering}
 use Rattle.std.specs.declared.cmp.Ordering.TheVariants.{Equal, Greater, Less}
@@ -13,16 +13,14 @@ use Rattle.std.specs.List.Sorted.{IsStrictlySortedBy}
 use Rattle.std.specs.Ordering.{is_eq, nat_cmp, ordering_reverse}
 use Rattle.std.proofs.lemmas.Map.Text.{is_eq-slice_cmp}
 use Rattle.std.proofs.lemmas.Slice.Eq.{bytes_eq-Decides}
-use Rattle.gb_text.specs.Digits.{IsId, name_of}
-use Rattle.gb_text.specs.Folder.{joined}
-use Rattle.gb_text.specs.LineEnd.{line_of}
+use Rattle.gb_text.specs.Digits.{IsId}
 use Rattle.gb_text.specs.declared.id.Id.{Id}
 use Rattle.gb_text.specs.declared.id.Name.{Name}
 use Rattle.gb_store.specs.Files.{Files}
 use Rattle.gb_store.specs.declared.fault.StoreFault.{StoreFault}
 use Rattle.object_batch.proofs.ClashLemmas.{Contains-cons_cases, Contains-first}
-use Rattle.ref_store.specs.Listing.{IsIdList, IsRefList, found_of, id_place}
-use Rattle.ref_store.specs.Refs.{Ref, Absent, Head, Bad, head_or_bad, ref_of}
+use Rattle.ref_store.specs.Listing.{IsIdList, IsRefList, found_of}
+use Rattle.ref_store.specs.Refs.{Ref, Absent, Head, Bad}
 use Rattle.ref_store.specs.declared.listing.RefEntry.{RefEntry}
 use Rattle.ref_store.specs.declared.listing.RefFound.{RefFound}
 use Rattle.ref_store.specs.declared.listing.RefFound.TheVariants as found
@@ -110,27 +108,11 @@ bad_found Absent e = cc
 bad_found (Head other) e = cc
 bad_found Bad e = refl
 
--- a ref is there where a file is
-file_is_there : (file : Option (List ℕ)) → IsSome file → is_there (ref_of file) ≡ true
-file_is_there None some = cc
-file_is_there (Some text) some = each (name_of (line_of text))
-  where
-    each : (o : Option Name) → is_there (head_or_bad o) ≡ true
-    each None = refl
-    each (Some name) = refl
-
-there_is_file : (file : Option (List ℕ)) → is_there (ref_of file) ≡ true → IsSome file
-there_is_file None there = cc
-there_is_file (Some text) there = refl
-
--- the ids that have files are those whose refs stand
+-- the ids of a dir are those whose refs exist
 pub ids_are_listed : (files : Files) (folder : List ℕ) (of : Side) (ids : List Id) → IsIdList files folder (dir_of of) ids → AreIds files folder of ids
 ids_are_listed files folder of ids are = record {
   rising = are.rising;
-  members = λ id. (
-    λ has. let is = (are.members id).0 has in (is.0, file_is_there (files (joined folder (id_place (dir_of of) id))) is.1),
-    λ h. (are.members id).1 (h.0, there_is_file (files (joined folder (id_place (dir_of of) id))) h.1),
-  );
+  members = are.members;
 }
 
 pub all_listed : (files : Files) (folder : List ℕ) (of : Side) (dir : List ℕ) (r : Result (List Id) StoreFault) → dir ≡ dir_of of → IfOk r (IsIdList files folder dir) → IfOk r (AreIds files folder of)

@@ -13,9 +13,11 @@ use Rattle.gb_text.specs.Folder.{joined}
 use Rattle.gb_text.specs.declared.id.Id.{Id}
 use Rattle.gb_text.specs.declared.id.Name.{Name}
 use Rattle.gb_store.specs.ObjectPath.{object_place}
+use Rattle.excerpt_cache.specs.Rows.{row_place}
 use Rattle.git_object.specs.Grammar.{Lacks}
 use Rattle.git_object.specs.Reading.{cut_at}
 use Rattle.git_object.proofs.CutLaws.{cut_again}
+use Rattle.ref_store.specs.Refs.{packed_place}
 use Rattle.ref_store.proofs.MapLemmas.{joined-same}
 use Rattle.repo_state.specs.Clocks.{clock_place}
 use Rattle.remote_name.specs.RemoteTexts.{is_remote_byte}
@@ -87,6 +89,49 @@ clock-other folder clock.BugsCreate clock.BugsCreate differ = absurd (differ ref
 clock-other folder clock.BugsCreate clock.BugsEdit differ = apart folder (clock_place clock.BugsCreate) (clock_place clock.BugsEdit) 20 (λ e. omega arith)
 clock-other folder clock.BugsEdit clock.BugsCreate differ = apart folder (clock_place clock.BugsEdit) (clock_place clock.BugsCreate) 20 (λ e. omega arith)
 clock-other folder clock.BugsEdit clock.BugsEdit differ = absurd (differ refl)
+
+-- a row and an object
+pub row-not_object : (folder : List ℕ) (id : Id) (name : Name) → joined folder (row_place id) ≢ joined folder (object_place name)
+row-not_object folder id name = apart folder (row_place id) (object_place name) 0 (λ e. omega arith)
+
+-- a row and the user
+pub row-not_user : (folder : List ℕ) (id : Id) → joined folder (row_place id) ≢ joined folder user_place
+row-not_user folder id = apart folder (row_place id) user_place 8 (λ e. omega arith)
+
+-- a row and a clock
+pub row-not_clock : (folder : List ℕ) (id : Id) (which : ClockFile) → joined folder (row_place id) ≢ joined folder (clock_place which)
+row-not_clock folder id clock.BugsCreate = apart folder (row_place id) (clock_place clock.BugsCreate) 9 (λ e. omega arith)
+row-not_clock folder id clock.BugsEdit = apart folder (row_place id) (clock_place clock.BugsEdit) 9 (λ e. omega arith)
+
+-- a ref and a row
+pub ref-not_row : (folder : List ℕ) (of : Side) (id other : Id) → joined folder (ref_place of id) ≢ joined folder (row_place other)
+ref-not_row folder side.Bugs id other = apart folder (ref_place side.Bugs id) (row_place other) 0 (λ e. omega arith)
+ref-not_row folder side.Identities id other = apart folder (ref_place side.Identities id) (row_place other) 0 (λ e. omega arith)
+ref-not_row folder (side.RemoteBugs remote) id other = apart folder (ref_place (side.RemoteBugs remote) id) (row_place other) 0 (λ e. omega arith)
+ref-not_row folder (side.RemoteIdentities remote) id other = apart folder (ref_place (side.RemoteIdentities remote) id) (row_place other) 0 (λ e. omega arith)
+
+-- packed refs and a ref
+pub ref-not_packed : (folder : List ℕ) (of : Side) (id : Id) → joined folder (ref_place of id) ≢ joined folder packed_place
+ref-not_packed folder side.Bugs id = apart folder (ref_place side.Bugs id) packed_place 0 (λ e. omega arith)
+ref-not_packed folder side.Identities id = apart folder (ref_place side.Identities id) packed_place 0 (λ e. omega arith)
+ref-not_packed folder (side.RemoteBugs remote) id = apart folder (ref_place (side.RemoteBugs remote) id) packed_place 0 (λ e. omega arith)
+ref-not_packed folder (side.RemoteIdentities remote) id = apart folder (ref_place (side.RemoteIdentities remote) id) packed_place 0 (λ e. omega arith)
+
+-- packed refs and an object
+pub object-not_packed : (folder : List ℕ) (name : Name) → joined folder (object_place name) ≢ joined folder packed_place
+object-not_packed folder name = apart folder (object_place name) packed_place 0 (λ e. omega arith)
+
+-- packed refs and the user
+pub user-not_packed : (folder : List ℕ) → joined folder user_place ≢ joined folder packed_place
+user-not_packed folder = apart folder user_place packed_place 0 (λ e. omega arith)
+
+-- packed refs and a clock
+pub clock-not_packed : (folder : List ℕ) (which : ClockFile) → joined folder (clock_place which) ≢ joined folder packed_place
+clock-not_packed folder which = apart folder (clock_place which) packed_place 0 (λ e. omega (arith, sym (clock-first which) ∙ e))
+
+-- packed refs and a row
+pub row-not_packed : (folder : List ℕ) (id : Id) → joined folder (row_place id) ≢ joined folder packed_place
+row-not_packed folder id = apart folder (row_place id) packed_place 0 (λ e. omega arith)
 
 -- the refs of one side stand at one place only for one id
 pub ref_place-same : (of : Side) (one two : Id) → IsId one → IsId two → ref_place of one ≡ ref_place of two → one ≡ two

@@ -14,6 +14,10 @@ use Rattle.dag_entity.specs.Faults.{EntityFaultHolds}
 use Rattle.dag_entity.specs.declared.entity.Entity.{Entity}
 use Rattle.dag_entity.specs.declared.fault.EntityFault.{EntityFault}
 use Rattle.dag_entity.specs.declared.fault.EntityFault.TheVariants as fault
+use Rattle.dag_entity.specs.Since.{HasNoChainTo, IsChainTo, ReadsChain}
+use Rattle.dag_entity.specs.declared.entity.Placed.{Placed}
+use Rattle.dag_entity.specs.declared.since.Since.{Since}
+use Rattle.dag_entity.specs.declared.since.Since.TheVariants as since
 use Rattle.repo_state.specs.Answers.{DamagedRef}
 use Rattle.repo_state.specs.Finds.{FindsEntity}
 use Rattle.repo_state.specs.Sides.{AreIds, has_ref, head_at, ref_place}
@@ -78,6 +82,21 @@ abbrev pub BugAnswers : Files → List ℕ → HeadEntry → Result (Entity BugO
 BugAnswers files folder bug (Ok entity) = IsBug files folder bug entity
 BugAnswers files folder bug (Err s) = BugRefused files folder bug s
 
+-- what a bug has since a known commit: nothing, where that is its head; the packs above it, where steps by the single parent lead there;
+-- and otherwise its entity. Or why there is none
+abbrev pub BugSince : Files → List ℕ → HeadEntry → Name → Result (Since BugOp) ReadStop → Type 0
+BugSince files folder bug known (Ok since.Same) = bug.name ≡ known
+BugSince files folder bug known (Ok (since.Chain packs)) = IsChainTo bug_kind (objects_in files folder) bug.name known packs
+BugSince files folder bug known (Ok (since.Whole entity)) = HasNoChainTo bug_kind (objects_in files folder) bug.name known × IsBug files folder bug entity
+BugSince files folder bug known (Err s) = BugRefused files folder bug s
+
+-- a fact of the packs of an entity that was read
+abbrev pub IfWhole : Result (Since BugOp) ReadStop → (List (Placed BugOp) → Type 0) → Type 0
+IfWhole (Ok since.Same) P = ⊤
+IfWhole (Ok (since.Chain packs)) P = ⊤
+IfWhole (Ok (since.Whole entity)) P = P entity.packs
+IfWhole (Err s) P = ⊤
+
 -- the entity of the bug with this id at its head, or why there is none
 abbrev pub ReadsBug : Files → List ℕ → Id → Result (Entity BugOp) FindStop → Type 0
 ReadsBug files folder id (Ok entity) = (head : Name) × (head_at files folder side.Bugs id ≡ Head head) × IsBug files folder (record { id = id; name = head }) entity
@@ -98,6 +117,10 @@ StopOf folder id _ s = DamagedRef folder side.Bugs id s
 -- at most three objects were read for each of some commits below the head of this bug
 abbrev pub ReadsBelow : Files → List ℕ → HeadEntry → ℕ → ℕ → Type 0
 ReadsBelow files folder bug before after = ReadsEach (objects_in files folder) (bug.name ∷ []) 3 before after
+
+-- and where steps by the single parent lead from its head to a known commit, at most three for each commit above that
+abbrev pub ReadsAbove : Files → List ℕ → HeadEntry → Name → ℕ → ℕ → Type 0
+ReadsAbove files folder bug known before after = ReadsChain bug_kind (objects_in files folder) bug.name known before after
 
 -- no object was read, or so many below the head of the bug with this id
 abbrev pub ReadsAtHead : Files → List ℕ → Id → ℕ → ℕ → Type 0

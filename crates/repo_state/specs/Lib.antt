@@ -4,8 +4,10 @@ pub mod Clocks
 pub mod Comments
 pub mod Finds
 pub mod Listed
+pub mod Packed
 pub mod People
 pub mod Places
+pub mod Rows
 pub mod Seeking
 pub mod Sides
 pub mod Sound

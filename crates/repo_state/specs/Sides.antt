@@ -1,5 +1,5 @@
 -- The refs of a folder: where those of each side are stored, and what they read as.
-use Rattle.std.specs.Prelude.{◌≡◌, ◌↔◌, ℕ, List, ◌++◌, codes, map, Contains, Bool, true, false, IsTrue}
+use Rattle.std.specs.Prelude.{◌≡◌, ◌↔◌, ℕ, List, ◌++◌, codes, map, Contains, Bool, IsTrue}
 use Rattle.std.specs.declared.cmp.Ordering.TheVariants.{Less}
 use Rattle.std.specs.Cmp.Lexicographic.{slice_cmp}
 use Rattle.std.specs.List.Sorted.{IsStrictlySortedBy}
@@ -9,7 +9,8 @@ use Rattle.gb_text.specs.Folder.{joined}
 use Rattle.gb_text.specs.declared.id.Id.{Id}
 use Rattle.gb_store.specs.Files.{Files}
 use Rattle.ref_store.specs.Listing.{id_place}
-use Rattle.ref_store.specs.Refs.{Ref, Absent, Head, Bad, ref_at}
+pub use Rattle.ref_store.specs.Refs.{is_there}
+use Rattle.ref_store.specs.Refs.{Ref, Head, Bad, ref_at}
 use Rattle.repo_state.specs.declared.side.Side.{Side}
 use Rattle.repo_state.specs.declared.side.Side.TheVariants as side
 use Rattle.repo_state.specs.declared.side.HeadEntry.{HeadEntry}
@@ -28,12 +29,6 @@ ref_place of id = id_place (dir_of of) id
 -- the ref of an id
 abbrev pub head_at : Files → List ℕ → Side → Id → Ref
 head_at files folder of id = ref_at files folder (ref_place of id)
-
--- a ref stands, whatever it holds
-abbrev pub is_there : Ref → Bool
-is_there Absent = false
-is_there (Head name) = true
-is_there Bad = true
 
 -- a ref of the id stands
 abbrev pub has_ref : Files → List ℕ → Side → Id → Bool

@@ -1,5 +1,5 @@
 -- Sound folders: the parts of soundness, by name, and what keeps them.
-use Rattle.std.specs.Prelude.{◌≡◌, ◌≢◌, ⊤, ℕ, List, [], ◌∷◌, Some}
+use Rattle.std.specs.Prelude.{◌≡◌, ◌≢◌, ⊤, ℕ, true, List, [], ◌∷◌, Some}
 use Rattle.gb_text.specs.Digits.{IsId, IsName}
 use Rattle.gb_text.specs.declared.id.Id.{Id}
 use Rattle.gb_text.specs.declared.id.Name.{Name}
@@ -10,7 +10,7 @@ use Rattle.git_object.specs.declared.object.Object.{Object}
 use Rattle.object_store.specs.Held.{Objects as Held, object_at, objects_in}
 use Rattle.object_batch.specs.Needs.{IsWhole}
 use Rattle.object_store.specs.Typed.{commit_at}
-use Rattle.ref_store.specs.Refs.{Ref, Absent, Head, Bad}
+use Rattle.ref_store.specs.Refs.{Ref, Absent, Head, Bad, packed_reads}
 use Rattle.bug_ops.specs.Kind.{bug_kind}
 use Rattle.op_kind.specs.Meaning.{Meaning}
 use Rattle.dag_entity.specs.Faults.{EntityFaultHolds}
@@ -21,9 +21,11 @@ use Rattle.dag_entity.specs.declared.fault.EntityFault.TheVariants.{AuthorUnknow
 use Rattle.identity.specs.Persons.{IsChain}
 use Rattle.repo_state.specs.Bugs.{IsLocal}
 use Rattle.repo_state.specs.Places.{bug_places}
+use Rattle.repo_state.specs.Rows.{IsExcerpt, stored_row}
 use Rattle.repo_state.specs.Sides.{head_at}
 use Rattle.repo_state.specs.Users.{BadUser, user_at}
 use Rattle.remote_name.specs.declared.remote.RemoteName.{RemoteName}
+use Rattle.row_text.specs.declared.row.HeadRow.{HeadRow}
 use Rattle.repo_state.specs.declared.side.Side.TheVariants as side
 
 -- each file at the path of a name is an object that the name holds, and all that an object names is held, as of
@@ -81,6 +83,12 @@ IsSoundBug objects id ref = IsSoundEntity bug_kind objects id ref
 abbrev pub IsAuthoredBug : List ℕ → Files → Id → Ref → Type 0
 IsAuthoredBug folder files id ref = IsAuthoredEntity bug_kind folder files id ref
 
+-- a row of a bug is true, though perhaps old: nothing is wrong with the entity at the head that it names, but perhaps that an author is
+-- unknown, and it is what lists show of the bug there
+pub record IsTrueRow (objects : Held) (id : Id) (row : HeadRow) : Type 0 where
+  pub no_fault : HasNoFault objects id row.head
+  pub is : IsExcerpt objects row.head row.row
+
 -- ---- the parts of a sound folder
 
 -- its objects are whole
@@ -109,6 +117,14 @@ HasSoundTracking folder files = (remote : RemoteName) → (id : Id) → IsId id
 abbrev pub HasSoundUser : List ℕ → Files → Type 0
 HasSoundUser folder files = user_at files folder ≡ BadUser → ⊥
 
+-- each row that is stored of a bug, and reads, is true
+abbrev pub HasTrueRows : List ℕ → Files → Type 0
+HasTrueRows folder files = (id : Id) → IsId id → (row : HeadRow) → stored_row files folder id ≡ Some row → IsTrueRow (objects_in files folder) id row
+
+-- its packed refs read: their file does not exist, or is a packed text that is not too long
+abbrev pub HasPackedRefs : List ℕ → Files → Type 0
+HasPackedRefs folder files = packed_reads files folder ≡ true
+
 -- The parts by name. Each stands by itself: what would have a premise on another part is one part with it.
 pub data Part : Type 0 where
   Objects : Part
@@ -117,6 +133,8 @@ pub data Part : Type 0 where
   Authors : Part
   Tracking : Part
   User : Part
+  Rows : Part
+  Packed : Part
 
 -- a folder has a part of soundness
 abbrev pub HasPart : Part → List ℕ → Files → Type 0
@@ -126,6 +144,8 @@ HasPart Bugs folder files = HasSoundBugs folder files
 HasPart Authors folder files = HasKnownAuthors folder files
 HasPart Tracking folder files = HasSoundTracking folder files
 HasPart User folder files = HasSoundUser folder files
+HasPart Rows folder files = HasSoundBugs folder files × HasTrueRows folder files
+HasPart Packed folder files = HasPackedRefs folder files
 
 -- A sound folder has each part.
 abbrev pub IsSound : List ℕ → Files → Type 0

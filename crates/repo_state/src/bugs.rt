@@ -5,7 +5,7 @@ ghost use Rattle.bug_ops.specs.Kind.{bug_kind};
 ghost use Rattle.dag_entity.specs.Entities.{KeepsRules};
 ghost use Rattle.gb_store.specs.Faults.{KeepsFaults};
 ghost use Rattle.gb_store.specs.Files.{files_of};
-ghost use Rattle.repo_state.specs.Bugs.{BugAnswers, ReadsAtHead, ReadsBelow, ReadsBug, StopOf};
+ghost use Rattle.repo_state.specs.Bugs.{BugAnswers, BugSince, IfWhole, ReadsAbove, ReadsAtHead, ReadsBelow, ReadsBug, StopOf};
 ghost use Rattle.repo_state.specs.Listed.{AreIdentityRefs};
 
 use crate::listing::identity_refs;
@@ -13,9 +13,9 @@ use crate::refs::{damaged, head, ids_of};
 use crate::side::{HeadEntry, Side};
 use crate::stop::{FindStop, Missed, ReadStop};
 use bug_ops::BugOp;
-use dag_entity::{Entity, EntityFault, read_entity};
+use dag_entity::{Entity, EntityFault, Since, read_entity, read_since};
 use gb_store::Store;
-use gb_text::{Folder, Id};
+use gb_text::{Folder, Id, Name};
 use ref_store::RefEntry;
 use std::alloc::Global;
 
@@ -96,6 +96,46 @@ pub fn bug_among<S: Store>(
     let heads = [bug.name];
     match read_entity::<BugOp, S>(alloc, disk, folder, &bug.id, &heads, authors.as_slice()) {
         Ok(entity) => Ok(entity),
+        Err(fault) => Err(stop_of(alloc, folder, bug, fault)),
+    }
+}
+
+/// What a bug has at this head since a known commit. If steps from a commit to its only parent lead from the
+/// head to that commit, these are the packs above it, of which nothing is judged; otherwise the entity at
+/// the head, whose authors are to be among these identities, which are all local ones. `Damaged`, with
+/// the path of the bug's ref, only if something is wrong with the entity.
+pub fn bug_since<S: Store>(
+    alloc: Global,
+    disk: &mut S,
+    folder: &Folder,
+    bug: &HeadEntry,
+    known: &Name,
+    identities: &[RefEntry],
+) -> Result<Since<BugOp>, ReadStop>
+    ensures answers { IsTrue S.tells
+        → AreIdentityRefs (files_of (S.history disk.old)) folder.now identities.now
+        → BugSince (files_of (S.history disk.old)) folder.now bug.now known.now result }
+    ensures rules { IfWhole result (KeepsRules bug_kind) }
+    ensures unwritten { IsTrue S.tells → S.history disk.new ≡ S.history disk.old }
+    ensures reads { IsTrue S.tells → ReadsBelow (files_of (S.history disk.old)) folder.now bug.now
+        (S.object_reads disk.old) (S.object_reads disk.new) }
+    ensures above { IsTrue S.tells → ReadsAbove (files_of (S.history disk.old)) folder.now bug.now
+        known.now (S.object_reads disk.old) (S.object_reads disk.new) }
+    ensures caused { KeepsFaults S.never_fails S.faults (IsErrOf result ReadStop.Disk)
+        disk.old disk.new }
+{
+    let authors = ids_of(alloc, identities)?;
+    let id = &bug.id;
+    match read_since::<BugOp, S>(
+        alloc,
+        disk,
+        folder,
+        id,
+        &bug.name,
+        known,
+        authors.as_slice(),
+    ) {
+        Ok(since) => Ok(since),
         Err(fault) => Err(stop_of(alloc, folder, bug, fault)),
     }
 }

@@ -10,6 +10,7 @@ mod fitting;
 mod laws;
 mod listing;
 mod operations;
+mod packed;
 mod people;
 mod refs;
 mod seeking;
@@ -17,7 +18,7 @@ mod side;
 mod stop;
 mod user_file;
 
-pub use bugs::{bug_among, bug_at, read_bug};
+pub use bugs::{bug_among, bug_at, bug_since, read_bug};
 pub use clocks::{ClockFile, clock, clock_changes, see};
 pub use comment_laws::{
     comments_are_found_by_their_first_digits, longer_words_find_the_same_comment,
@@ -32,6 +33,7 @@ pub use laws::{
 };
 pub use listing::{all_refs, identity_refs};
 pub use operations::ops_of;
+pub use packed::check_packed;
 pub use people::{names, people_among};
 pub use refs::{
     EntityRef, damaged, entity, entries, head, head_change, head_of, heads, ids, set_head, stands,
@@ -39,4 +41,4 @@ pub use refs::{
 };
 pub use side::{HeadEntry, Side};
 pub use stop::{FindStop, Missed, ReadStop};
-pub use user_file::{set_user, user, user_change, user_head};
+pub use user_file::{has_user_file, set_user, user, user_change, user_head};

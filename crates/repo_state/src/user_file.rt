@@ -1,5 +1,5 @@
 //! The user of a folder.
-ghost use Rattle.std.specs.Prelude.{◌≡◌, IsTrue, IsErrOf, IfOk, Some};
+ghost use Rattle.std.specs.Prelude.{◌≡◌, IsTrue, IsErrOf, IfOk, Some, is_some};
 ghost use Rattle.gb_text.specs.Folder.{joined};
 ghost use Rattle.gb_store.specs.Faults.{KeepsFaults};
 ghost use Rattle.gb_store.specs.Files.{files_of};
@@ -53,6 +53,39 @@ pub fn user_head<S: Store>(
     match user_ref(alloc, disk, folder)? {
         Some(user) => Ok(Some(whole(alloc, folder, &Side::Identities, &user)?)),
         None => Ok(None),
+    }
+}
+
+/// Whether the folder has a user file, whatever that holds.
+pub fn has_user_file<S: Store>(
+    alloc: Global,
+    disk: &mut S,
+    folder: &Folder,
+) -> Result<bool, StoreFault>
+    ensures answers { IsTrue S.tells → IfOk result (λ has. has
+        ≡ is_some (files_of (S.history disk.old) (joined folder.now user_place))) }
+    ensures unwritten { IsTrue S.tells → S.history disk.new ≡ S.history disk.old }
+    ensures reads { S.object_reads disk.new ≡ S.object_reads disk.old }
+    ensures caused { KeepsFaults S.never_fails S.faults (IsErrOf result StoreFault.Failed)
+        disk.old disk.new }
+{
+    let path = folder.join(alloc, USER_PLACE)?;
+    has_file(alloc, disk, &path)
+}
+
+// Whether there is a file at a path.
+fn has_file<S: Store>(alloc: Global, disk: &mut S, path: &Text) -> Result<bool, StoreFault>
+    ensures answers { IsTrue S.tells → IfOk result (λ has. has
+        ≡ is_some (files_of (S.history disk.old) path.now)) }
+    ensures unwritten { IsTrue S.tells → S.history disk.new ≡ S.history disk.old }
+    ensures reads { S.object_reads disk.new ≡ reads_after path.now (S.object_reads disk.old) }
+    ensures caused { KeepsFaults S.never_fails S.faults (IsErrOf result StoreFault.Failed)
+        disk.old disk.new }
+{
+    match disk.read(alloc, path.as_str(), MOST_BYTES)? {
+        Content::Absent => Ok(false),
+        Content::Long => Ok(true),
+        Content::Whole(_) => Ok(true),
     }
 }
 
