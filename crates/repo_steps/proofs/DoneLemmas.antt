@@ -1,7 +1,10 @@
 -- What a command that nothing keeps from being done leaves: its writes are of their kinds, and make its step.
 use Rattle.std.proofs.Common.{◌≡◌, ◌<◌, ◌≤◌, ℕ, false, IsTrue, List, [], ◌∷◌, ◌++◌, length, reverse, Contains, Option, Some, None, option_and_then, Ok, inl, inr, refl, sym, ◌∙◌, ap, subst}
 use Rattle.std.specs.Option.{option_map}
-use Rattle.repo_steps.proofs.Names.{Contains-one, IsId, joined, Id, Name, Line, Message, Title, Files, History, files_of, Wrote, Wrote-none, Wrote-one, Wrote-then, Objects, objects_in, MayBePut, Absent, Head, ref_of, GREATEST_TIME, bug_kind, BugOp, MOST_COMMITS, ops_in, Entity, IsLocal, head_edit, has_ref, head_at, is_there, ref_place, UserFound, BadUser, NoUser, User, user_at, user_entry, user_place, user_write, Env, HeadEntry, IsId-version_id, ref-not_user, same_or_other, user-not_object, HasFound, Growth, comment_growth, edit_growth, addition_objects, addition_writes, bug_says, later_addition, later_by, longer_bug, new_bug, op_ids, root_addition, some_id, create_op, op_id, AllPass, Doing, doing_of, Picked, HasUser, edited_user, first_user_write, new_made, new_objects, new_text, new_user, set_user, user_writes, version_writes, IsWrite, BugBegins, BugGrows, OnlyChanges, Steps, first_user, first_user_place, new_version, Addition, Edit, IsLocal-user}
+use Rattle.repo_steps.proofs.Names.{Contains-one, IsId, joined, Id, Name, Line, Message, Title, Files, History, files_of, Wrote, Wrote-none, Wrote-one, Wrote-then, Objects, objects_in, MayBePut, Absent, Head, GREATEST_TIME, bug_kind, BugOp, MOST_COMMITS, ops_in, Entity, IsLocal, head_edit, has_ref, head_at, is_there, ref_place, UserFound, BadUser, NoUser, User, user_at, user_entry, user_place, user_write, Env, HeadEntry, IsId-version_id, ref-not_user, same_or_other, user-not_object, HasFound, Growth, comment_growth, edit_growth, addition_objects, addition_writes, bug_says, later_addition, later_by, longer_bug, new_bug, op_ids, root_addition, some_id, create_op, op_id, AllPass, Doing, doing_of, Picked, HasUser, edited_user, first_user_write, new_made, new_objects, new_text, new_user, set_user, user_writes, version_writes, IsWrite, BugBegins, BugGrows, OnlyChanges, Steps, first_user, first_user_place, new_version, Addition, Edit, IsLocal-user}
+use Rattle.ref_store.specs.Refs.{ref_at}
+use Rattle.ref_store.proofs.MapLemmas.{joined-same}
+use Rattle.repo_state.proofs.PlaceLemmas.{ref-not_packed}
 use Rattle.identity.specs.Extending.{IsLonger}
 use Rattle.repo_state.specs.Users.{entry_by, entry_of_user, id_line}
 use Rattle.repo_state.specs.declared.side.Side.TheVariants as side
@@ -35,11 +38,12 @@ module _ (folder : List ℕ) (id : Id) (head : Name) (old new : Files) (only : O
   -- each ref that stood stands
   stand : (other : Id) → IsTrue (has_ref old folder side.Identities other) → IsTrue (has_ref new folder side.Identities other)
   stand other stood = elim (same_or_other (joined folder (ref_place side.Identities other)) (joined folder (ref_place side.Identities id))) [
-    | inl path ↦ ap is_there (ap (λ (p : List ℕ). ref_of (new p)) path ∙ is)
+    | inl path ↦ ap is_there (ap (ref_at new folder) (joined-same folder (ref_place side.Identities other) (ref_place side.Identities id) path) ∙ is)
     | inr differ ↦
-        ap (λ (file : Option (List ℕ)). is_there (ref_of file))
+        ap is_there
         (ref_left folder (ref_place side.Identities id ∷ []) old new only side.Identities other
-        (λ place among e. differ (e ∙ ap (joined folder) (sym (Contains-one (ref_place side.Identities id) place among)))))
+        (λ place among e. differ (e ∙ ap (joined folder) (sym (Contains-one (ref_place side.Identities id) place among))))
+        (λ place among e. ref-not_packed folder side.Identities id (sym (e ∙ ap (joined folder) (sym (Contains-one (ref_place side.Identities id) place among))))))
         ∙ stood
   ]
 

@@ -48,7 +48,7 @@ pub use Rattle.object_store.specs.declared.read.TheConstants.{MOST_BYTES}
 pub use Rattle.op_kind.specs.declared.place.Place.{Place}
 pub use Rattle.op_pack.specs.Packs.{place_of}
 pub use Rattle.ref_store.proofs.MapLemmas.{set_ref_reads, written-other}
-pub use Rattle.ref_store.specs.Refs.{Head, ref_of, Absent}
+pub use Rattle.ref_store.specs.Refs.{Head, Absent}
 pub use Rattle.ref_store.specs.Setting.{ref_write}
 pub use Rattle.repo_state.proofs.BugLemmas.{head_edit, one_entity}
 pub use Rattle.repo_state.proofs.BugSoundLemmas.{IsBug-over}

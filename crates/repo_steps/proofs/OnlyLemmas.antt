@@ -2,7 +2,10 @@
 use Rattle.std.proofs.Common.{◌≡◌, ◌≢◌, ℕ, false, IsTrue, List, [], ◌∷◌, ◌++◌, reverse, Contains, None, refl, sym, ◌∙◌, ap, append_assoc, subst, arith}
 use Rattle.std.proofs.lemmas.List.{reverse-append}
 use Rattle.std.proofs.lemmas.List.Elements.{Contains-append_left, Contains-append_right}
-use Rattle.repo_steps.proofs.Names.{Absent, Head, joined, Id, Name, Files, History, files_of, written, EachWrite, Wrote, at_moment, Change, object_name, objects_in, object_write, Contains-first, IsName-object_name, ref_of, has_ref, head_at, is_there, ref_place, OnlyChanges, BadUser, user_at, user_place, Side, written-other, ref-not_object, user-not_object}
+use Rattle.repo_steps.proofs.Names.{Absent, Head, joined, Id, Name, Files, History, files_of, written, EachWrite, Wrote, at_moment, Change, object_name, objects_in, object_write, Contains-first, IsName-object_name, has_ref, head_at, is_there, ref_place, OnlyChanges, BadUser, user_at, user_place, Side, written-other, ref-not_object, user-not_object}
+use Rattle.ref_store.specs.Refs.{packed_place}
+use Rattle.ref_store.proofs.FrameLemmas.{same_ref}
+use Rattle.repo_state.proofs.PlaceLemmas.{object-not_packed}
 use Rattle.gb_store.specs.Files.{Put}
 use Rattle.gb_store.specs.ObjectPath.{object_place}
 use Rattle.ref_store.specs.Refs.{Ref, Bad}
@@ -59,10 +62,12 @@ module _ (folder : List ℕ) where
   -- ---- what is left
 
   module _ (places : List (List ℕ)) (old new : Files) (only : OnlyChanges folder places old new) where
-    -- the ref of an id, at no place that is changed
+    -- the ref of an id, where neither its place nor that of the packed refs is changed
     pub ref_left : (of : Side) (id : Id) → ((place : List ℕ) → Contains places place → joined folder (ref_place of id) ≢ joined folder place)
-        → new (joined folder (ref_place of id)) ≡ old (joined folder (ref_place of id))
-    ref_left of id apart = only.others (joined folder (ref_place of id)) apart (λ is. ref-not_object folder of id is.name is.is)
+        → ((place : List ℕ) → Contains places place → joined folder packed_place ≢ joined folder place) → head_at new folder of id ≡ head_at old folder of id
+    ref_left of id apart packed =
+        same_ref new old folder (ref_place of id) (only.others (joined folder (ref_place of id)) apart (λ is. ref-not_object folder of id is.name is.is))
+        (only.others (joined folder packed_place) packed (λ is. object-not_packed folder is.name (sym is.is)))
 
     -- the user, where the refs of identities stay
     pub user_left : ((place : List ℕ) → Contains places place → joined folder user_place ≢ joined folder place)
@@ -74,12 +79,9 @@ module _ (folder : List ℕ) where
     none_among : (path : List ℕ) (place : List ℕ) → Contains [] place → path ≢ joined folder place
     none_among path place among = absurd (omega (arith, among.1))
 
-    ref_kept : (of : Side) (id : Id) → new (joined folder (ref_place of id)) ≡ old (joined folder (ref_place of id))
-    ref_kept of id = ref_left [] old new only of id (none_among (joined folder (ref_place of id)))
-
     -- a head at no path that changed stays
     pub head_kept : (of : Side) (id : Id) → head_at new folder of id ≡ head_at old folder of id
-    head_kept of id = ap ref_of (ref_kept of id)
+    head_kept of id = ref_left [] old new only of id (none_among (joined folder (ref_place of id))) (none_among (joined folder packed_place))
 
 -- ---- what comes first
 

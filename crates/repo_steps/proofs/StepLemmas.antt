@@ -1,12 +1,15 @@
 -- What a step of a command leaves and prints is determined by the files before it.
 use Rattle.std.proofs.Common.{◌≡◌, ◌≢◌, ℕ, inl, inr, Bool, cond, List, [], ◌∷◌, Contains, Option, Some, None, refl, sym, ◌∙◌, ap, subst, arith}
-use Rattle.repo_steps.proofs.Names.{Title, Line, joined, Id, Name, Files, written, Contains-cons_cases, Head, ref_of, edit_time_of, seen_by, BugOp, Entity, clock_at, clock_in, clock_place, has_ref, head_at, is_there, ref_place, UserFound, BadUser, NoUser, User, user_at, user_place, user_write, ClockFile, Env, HeadEntry, Side, clock-not_object, ref-not_clock, ref-not_object, ref-not_user, same_or_other, user-not_object, addition_head, later_addition, root_addition, create_op, op_id, new_made, BugBegins, BugGrows, OnlyChanges, Steps, first_user, first_user_place, CommentEntry, Growth, comment_growth, edit_growth, Edit}
+use Rattle.repo_steps.proofs.Names.{Title, Line, joined, Id, Name, Files, written, Contains-cons_cases, Head, edit_time_of, seen_by, BugOp, Entity, clock_at, clock_in, clock_place, has_ref, head_at, is_there, ref_place, UserFound, BadUser, NoUser, User, user_at, user_place, user_write, ClockFile, Env, HeadEntry, Side, clock-not_object, ref-not_clock, ref-not_object, ref-not_user, same_or_other, user-not_object, addition_head, later_addition, root_addition, create_op, op_id, new_made, BugBegins, BugGrows, OnlyChanges, Steps, first_user, first_user_place, CommentEntry, Growth, comment_growth, edit_growth, Edit}
 use Rattle.gb_text.specs.Digits.{id_of}
 use Rattle.gb_text.specs.LineEnd.{line_of}
 use Rattle.repo_state.specs.Users.{local_user, user_of}
 use Rattle.repo_state.specs.declared.clocks.ClockFile.TheVariants as file
 use Rattle.repo_state.specs.declared.side.Side.TheVariants as side
-use Rattle.repo_state.proofs.PlaceLemmas.{clock-not_user, clock-other}
+use Rattle.ref_store.specs.Refs.{packed_place, ref_at}
+use Rattle.ref_store.proofs.FrameLemmas.{same_ref}
+use Rattle.ref_store.proofs.MapLemmas.{joined-same}
+use Rattle.repo_state.proofs.PlaceLemmas.{clock-not_packed, clock-not_user, clock-other, object-not_packed, ref-not_packed, user-not_packed}
 use Rattle.repo_state.specs.Finds.{IsDetermined}
 use Rattle.repo_state.proofs.CommentLemmas.{comment_finder_is_determined}
 use Rattle.repo_state.proofs.FoundLemmas.{finds_the_same}
@@ -58,18 +61,23 @@ module _ (folder : List ℕ) (places : List (List ℕ)) (old one two : Files) (f
   clock-same : (which : ClockFile) → IsApart folder (joined folder (clock_place which)) places → clock_at one folder which ≡ clock_at two folder which
   clock-same which apart = ap clock_in (file-same (joined folder (clock_place which)) apart (λ file. clock-not_object folder which file.name file.is))
 
--- where they change one ref, and both leave the same in it, each ref reads the same
+-- where they change one ref and not the packed refs, and both leave the same in it, each ref reads the same
 heads-same : (folder : List ℕ) (set : Side) (id : Id) (rest : List (List ℕ)) (old one two : Files)
-    → ((of : Side) (other : Id) → IsApart folder (joined folder (ref_place of other)) rest)
+    → ((of : Side) (other : Id) → IsApart folder (joined folder (ref_place of other)) rest) → IsApart folder (joined folder packed_place) rest
     → OnlyChanges folder (ref_place set id ∷ rest) old one → OnlyChanges folder (ref_place set id ∷ rest) old two
     → head_at one folder set id ≡ head_at two folder set id
     → (of : Side) (other : Id) → head_at one folder of other ≡ head_at two folder of other
-heads-same folder set id rest old one two no_ref first second heads of other = elim (same_or_other path (joined folder (ref_place set id))) [
-  | inl same ↦ ap (λ (p : List ℕ). ref_of (one p)) same ∙ heads ∙ sym (ap (λ (p : List ℕ). ref_of (two p)) same)
+heads-same folder set id rest old one two no_ref no_packed first second heads of other = elim (same_or_other path (joined folder (ref_place set id))) [
+  | inl same ↦
+      let place : ref_place of other ≡ ref_place set id = joined-same folder (ref_place of other) (ref_place set id) same in
+      ap (ref_at one folder) place ∙ heads ∙ sym (ap (ref_at two folder) place)
   | inr differ ↦
-      ap ref_of
+      same_ref one two folder (ref_place of other)
       (file-same folder (ref_place set id ∷ rest) old one two first second path (apart_more folder path (ref_place set id) rest differ (no_ref of other))
       (λ file. ref-not_object folder of other file.name file.is))
+      (file-same folder (ref_place set id ∷ rest) old one two first second (joined folder packed_place)
+      (apart_more folder (joined folder packed_place) (ref_place set id) rest (λ e. ref-not_packed folder set id (sym e)) no_packed)
+      (λ file. object-not_packed folder file.name (sym file.is)))
 ]
   where
     path : List ℕ
@@ -107,7 +115,8 @@ new-same : (env : Env) (name : Title) (email : Line) (old one two : Files) (firs
 new-same env name email old one two first second here there = record {
   told = ids;
   heads = heads-same env.folder side.Identities first (first_user_place found) old one two
-      (λ of id. apart_first_user env.folder (joined env.folder (ref_place of id)) (ref-not_user env.folder of id) found) here.only only
+      (λ of id. apart_first_user env.folder (joined env.folder (ref_place of id)) (ref-not_user env.folder of id) found)
+      (apart_first_user env.folder (joined env.folder packed_place) (λ e. user-not_packed env.folder (sym e)) found) here.only only
       (here.head ∙ sym there.head ∙ ap (head_at two env.folder side.Identities) (sym ids));
   user = here.user ∙ ap (first_user found) ids ∙ sym there.user;
   clocks = λ which. clock-same env.folder (ref_place side.Identities first ∷ first_user_place found) old one two here.only only which
@@ -151,7 +160,7 @@ edit-same env name email old one two first second here there = record {
     only = subst (λ (id : Id). OnlyChanges env.folder (ref_place side.Identities id ∷ []) old two) ids there.only
 
     heads : (of : Side) (id : Id) → head_at one env.folder of id ≡ head_at two env.folder of id
-    heads = heads-same env.folder side.Identities here.user.id [] old one two (λ of id. apart_none env.folder (joined env.folder (ref_place of id))) here.only only (here.head ∙ sym set)
+    heads = heads-same env.folder side.Identities here.user.id [] old one two (λ of id. apart_none env.folder (joined env.folder (ref_place of id))) (apart_none env.folder (joined env.folder packed_place)) here.only only (here.head ∙ sym set)
 
 set-same : (env : Env) (word : List ℕ) (old one two : Files) (first second : Id) → UserSetSteps env word old one first → UserSetSteps env word old two second → Same env.folder one two first second
 set-same env word old one two first second here there = record {
@@ -193,7 +202,8 @@ begins-same env op old one two first second here there = record {
 
     heads : (of : Side) (id : Id) → head_at one env.folder of id ≡ head_at two env.folder of id
     heads = heads-same env.folder side.Bugs first clocks old one two
-        (λ of id. apart_clocks env.folder (joined env.folder (ref_place of id)) (ref-not_clock env.folder of id)) here.only only set
+        (λ of id. apart_clocks env.folder (joined env.folder (ref_place of id)) (ref-not_clock env.folder of id))
+        (apart_clocks env.folder (joined env.folder packed_place) (λ which e. clock-not_packed env.folder which (sym e))) here.only only set
 
     clocks-same : (which : ClockFile) → clock_at one env.folder which ≡ clock_at two env.folder which
     clocks-same file.BugsCreate = here.create_clock ∙ sym there.create_clock
@@ -243,7 +253,8 @@ grows-same env growth old one two first second finds here there = record {
 
     heads : (of : Side) (id : Id) → head_at one env.folder of id ≡ head_at two env.folder of id
     heads = heads-same env.folder side.Bugs bug.id (clock_place file.BugsEdit ∷ []) old one two
-        (λ of id. apart_one env.folder (joined env.folder (ref_place of id)) (clock_place file.BugsEdit) (ref-not_clock env.folder of id file.BugsEdit)) here.only only set
+        (λ of id. apart_one env.folder (joined env.folder (ref_place of id)) (clock_place file.BugsEdit) (ref-not_clock env.folder of id file.BugsEdit))
+        (apart_one env.folder (joined env.folder packed_place) (clock_place file.BugsEdit) (λ e. clock-not_packed env.folder file.BugsEdit (sym e))) here.only only set
 
     clocks-same : (which : ClockFile) → clock_at one env.folder which ≡ clock_at two env.folder which
     clocks-same file.BugsCreate =

@@ -50,7 +50,7 @@ ghost use Rattle.bug_edits.specs.NewOps.{create_op};
 ghost use Rattle.gb_text.specs.declared.ruled.Message.{Message};
 ghost use Rattle.gb_text.specs.declared.ruled.Title.{Title};
 
-/// Whatever a command answers, each of its writes is of one of the five kinds when it is made.
+/// Whatever a command answers, each of its writes is of one of the six kinds when it is made.
 pub fn edits_write_by_kinds()
     ensures { (env : EnvValue) (command : EditValue) (old new : History)
         (result : Result Id StopValue)

@@ -21,8 +21,9 @@ use Rattle.repo_state.specs.declared.clocks.ClockFile.TheVariants as file
 use Rattle.repo_state.specs.declared.side.Side.TheVariants as side
 use Rattle.repo_state.proofs.KindLemmas.{objects-ref_write}
 use Rattle.repo_writes.specs.Kinds.{IsBelow, IsBugHeadWrite, IsIdentityHeadWrite, IsUnder, IsWrite, ref_to}
-use Rattle.repo_state.proofs.KindLemmas.{clock_at-capped, clock_at-object_write, clock_at-other, clock_at-ref_write, clock_at-set, clock_at-user_write}
+use Rattle.repo_state.proofs.KindLemmas.{clock_at-capped, clock_at-object_write, clock_at-other, clock_at-ref_write, clock_at-row_write, clock_at-set, clock_at-user_write}
 use Rattle.repo_writes.proofs.SoundLemmas.{bug-after, by_kind, identity-after, write-grew}
+use Rattle.row_text.specs.Rows.{row_text}
 
 -- a clock that has seen a number is within the cap
 seen_by-capped : (clock number : ℕ) → clock ≤ CAP → seen_by clock number ≤ CAP
@@ -85,7 +86,8 @@ module _ (folder : List ℕ) (files : Files) (change : Change) where
       (λ w. omega (arith, clock_at-ref_write files folder side.Identities w.id w.head which))
       (λ w. omega (arith, clock_at-user_write files folder w.id which))
       (λ w. omega (arith, clock_at-ref_write files folder side.Bugs w.id w.head which))
-      (λ w. set w.which which (seen_by (clock_at files folder w.which) w.number) (seen_by-capped _ w.number (clock_at-capped files folder w.which)) w.rises) wrote
+      (λ w. set w.which which (seen_by (clock_at files folder w.which) w.number) (seen_by-capped _ w.number (clock_at-capped files folder w.which)) w.rises)
+      (λ w. omega (arith, clock_at-row_write files folder w.id (row_text w.row) which)) wrote
     where
       -- the clock that is set rises, and the other stays
       set : (one two : ClockFile) (clock : ℕ) → clock ≤ CAP → clock_at files folder one < clock

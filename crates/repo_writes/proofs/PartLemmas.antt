@@ -1,5 +1,5 @@
--- What a clock has seen that rises, and what each part of soundness says.
-use Rattle.std.proofs.Common.{◌≡◌, ◌≢◌, ◌≤◌, ◌<◌, ℕ, List, [], ◌∷◌, Some, subst, arith}
+-- What a clock has seen that rises, which row a bug gets, and what each part of soundness says.
+use Rattle.std.proofs.Common.{◌≡◌, ◌≢◌, ◌⊎◌, inl, inr, ◌≤◌, ◌<◌, ℕ, List, [], ◌∷◌, Some, ◌∙◌, ap, subst, arith}
 use Rattle.gb_text.specs.Digits.{IsId, IsName}
 use Rattle.gb_text.specs.declared.id.Id.{Id}
 use Rattle.gb_text.specs.declared.id.Name.{Name}
@@ -14,6 +14,7 @@ use Rattle.lamport.specs.Clock.{seen_by}
 use Rattle.lamport.specs.declared.clock.TheConstants.{CAP}
 use Rattle.bug_ops.specs.Kind.{bug_kind}
 use Rattle.bug_ops.specs.declared.op.BugOp.{BugOp}
+use Rattle.dag_entity.specs.Entities.{IsOperationList}
 use Rattle.dag_entity.specs.Faults.{EntityFaultHolds}
 use Rattle.dag_entity.specs.Nodes.{IsNodeBelow}
 use Rattle.dag_entity.specs.declared.entity.Loaded.{Loaded}
@@ -22,6 +23,7 @@ use Rattle.dag_entity.specs.declared.fault.EntityFault.TheVariants.{AuthorUnknow
 use Rattle.identity.specs.Persons.{IsChain}
 use Rattle.repo_state.specs.Bugs.{IsLocal}
 use Rattle.repo_state.specs.Clocks.{clock_at, clock_write}
+use Rattle.repo_state.specs.Rows.{stored_row}
 use Rattle.repo_state.specs.Sides.{head_at}
 use Rattle.repo_state.specs.Sound.{HasPart, IsAuthoredBug, IsSoundBug, IsSoundIdentity, IsSoundTracking}
 use Rattle.repo_state.specs.Sound as parts
@@ -30,10 +32,13 @@ use Rattle.repo_state.specs.declared.clocks.ClockFile.TheVariants as file
 use Rattle.remote_name.specs.declared.remote.RemoteName.{RemoteName}
 use Rattle.repo_state.specs.declared.side.HeadEntry.{HeadEntry}
 use Rattle.repo_state.specs.declared.side.Side.TheVariants as side
-use Rattle.repo_state.proofs.KindLemmas.{clock_at-capped, clock_at-object_write, clock_at-other, clock_at-ref_write, clock_at-set, clock_at-user_write}
+use Rattle.repo_state.proofs.KindLemmas.{clock_at-capped, clock_at-object_write, clock_at-other, clock_at-ref_write, clock_at-row_write, clock_at-set, clock_at-user_write}
 use Rattle.repo_writes.specs.Kinds.{IsClockOf, IsWrite}
 use Rattle.std.proofs.Math.Nat.{max-le, min-le_right}
-use Rattle.repo_writes.proofs.SoundLemmas.{by_kind}
+use Rattle.repo_writes.proofs.SoundLemmas.{by_kind, row-after}
+use Rattle.row_text.specs.Rows.{row_text}
+use Rattle.row_text.specs.declared.row.HeadRow.{HeadRow}
+use Rattle.snapshot.specs.LastMention.{snapshot_of}
 
 -- ---- a clock that rises
 
@@ -54,6 +59,7 @@ module _ (folder : List ℕ) (files : Files) (change : Change) where
       (λ w up. absurd (omega (arith, up, clock_at-user_write files folder w.id which)))
       (λ w up. absurd (omega (arith, up, clock_at-ref_write files folder side.Bugs w.id w.head which)))
       (λ w. set w.which which w.bug w.number w.is_head w.is (seen-capped _ w.number (clock_at-capped files folder w.which)))
+      (λ w up. absurd (omega (arith, up, clock_at-row_write files folder w.id (row_text w.row) which)))
     where
       set : (one two : ClockFile) (bug : HeadEntry) (number : ℕ) → head_at files folder side.Bugs bug.id ≡ Head bug.name → IsClockOf one (objects_in files folder) bug.name number
           → seen_by (clock_at files folder one) number ≤ CAP → Saw two (clock_write folder one (seen_by (clock_at files folder one) number))
@@ -63,6 +69,24 @@ module _ (folder : List ℕ) (files : Files) (change : Change) where
           absurd (omega (arith, up, clock_at-other files folder file.BugsCreate file.BugsEdit (seen_by (clock_at files folder file.BugsCreate) number) (λ e. cc e)))
       set file.BugsEdit file.BugsCreate bug number head is capped up =
           absurd (omega (arith, up, clock_at-other files folder file.BugsEdit file.BugsCreate (seen_by (clock_at files folder file.BugsEdit) number) (λ e. cc e)))
+
+-- ---- a row that is set
+
+pub row_set : (folder : List ℕ) (files : Files) (change : Change) (id : Id) → IsWrite folder files change → IsId id
+    → (stored_row (written files change) folder id ≡ stored_row files folder id)
+    ⊎ ((row : HeadRow) × (stored_row (written files change) folder id ≡ Some row) × (head_at files folder side.Bugs id ≡ Head row.head)
+    × ((stored : HeadRow) → stored_row files folder id ≡ Some stored → stored.head ≢ row.head))
+row_set folder files change id wrote is = elim (row-after folder files change id is wrote) [
+  | inl same ↦ inl same
+  | inr set ↦
+      let w = set.0 in
+      inr (
+        w.row,
+        set.2,
+        subst (λ (i : Id). head_at files folder side.Bugs i ≡ Head w.row.head) set.1 w.is_head,
+        λ stored was. w.is_new stored (ap (stored_row files folder) set.1 ∙ was),
+      )
+]
 
 -- ---- the parts of soundness
 
@@ -89,6 +113,14 @@ pub tracking_kept : (folder : List ℕ) (remote : RemoteName) (files : Files) (i
 tracking_kept folder remote files id head has is at =
     let both = has remote id is in
     subst (IsSoundTracking (objects_in files folder)) at both.0
+
+pub rows_kept : (folder : List ℕ) (files : Files) (id : Id) (row : HeadRow) → HasPart parts.Rows folder files → IsId id → stored_row files folder id ≡ Some row
+    → ((found : EntityFault) → ((author : Id) → found ≢ AuthorUnknown author) → EntityFaultHolds bug_kind (objects_in files folder) id (row.head ∷ []) [] found → ⊥)
+    × ((ops : List BugOp) × IsOperationList bug_kind (objects_in files folder) (row.head ∷ []) ops × (row.row ≡ (snapshot_of ops).row))
+rows_kept folder files id row has is stored = let row_is = has.1 id is row stored in (row_is.no_fault, (row_is.is.ops, row_is.is.are, row_is.is.is))
+
+pub bugs_by_rows : (folder : List ℕ) (files : Files) → HasPart parts.Rows folder files → HasPart parts.Bugs folder files
+bugs_by_rows folder files has = has.0
 
 pub no_bad_ref : (folder : List ℕ) (files : Files) (id : Id) → IsId id
     → (HasPart parts.Identities folder files → head_at files folder side.Identities id ≢ Bad) × (HasPart parts.Bugs folder files → head_at files folder side.Bugs id ≢ Bad)

@@ -16,7 +16,7 @@ use Rattle.repo_state.specs.declared.clocks.ClockFile.TheVariants as file
 use Rattle.repo_state.specs.declared.side.Side.{Side}
 use Rattle.repo_state.specs.declared.side.Side.TheVariants as side
 use Rattle.remote_name.proofs.RemoteLemmas.{bytes_of_remote}
-use Rattle.repo_writes.specs.Kinds.{IsPlace, a_clock_place, a_ref_place, an_object_place, is_dotless, the_user_place}
+use Rattle.repo_writes.specs.Kinds.{IsPlace, a_clock_place, a_ref_place, a_row_place, an_object_place, is_dotless, the_user_place}
 
 -- where a rule that holds of no dot holds of each character, none is a dot
 by_rule : (rule : ℕ → Bool) → rule 46 ≡ false → (text : List ℕ) → list_all rule text ≡ true → is_dotless text ≡ true
@@ -61,6 +61,7 @@ place_dotless place (a_ref_place of id is) = joined (dir_of of) (47 ∷ encode_l
 place_dotless place the_user_place = refl
 place_dotless place (a_clock_place file.BugsCreate) = refl
 place_dotless place (a_clock_place file.BugsEdit) = refl
+place_dotless place (a_row_place id is) = joined (codes "git-bug/cache/bugs/") (encode_lower id.bytes) refl (digits_dotless id.bytes is.bytes)
 
 -- no place begins with a slash
 pub place_plain : (place : List ℕ) → IsPlace place → is_rooted place ≡ false
@@ -72,3 +73,4 @@ place_plain place (a_ref_place (side.RemoteIdentities remote) id is) = refl
 place_plain place the_user_place = refl
 place_plain place (a_clock_place file.BugsCreate) = refl
 place_plain place (a_clock_place file.BugsEdit) = refl
+place_plain place (a_row_place id is) = refl

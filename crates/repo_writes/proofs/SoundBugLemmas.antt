@@ -1,4 +1,4 @@
--- A sound bug stays sound while objects are only added and the identities' refs still stand.
+-- A sound bug stays sound, and a true row true, while objects are only added and the identities' refs still stand.
 use Rattle.std.proofs.Common.{ℕ, List, [], ◌∷◌, IsTrue, ◌∙◌}
 use Rattle.gb_text.specs.Digits.{IsId}
 use Rattle.gb_text.specs.declared.id.Id.{Id}
@@ -14,12 +14,13 @@ use Rattle.dag_entity.specs.Faults.{EntityFaultHolds}
 use Rattle.dag_entity.specs.Nodes.{IsNodeBelow}
 use Rattle.dag_entity.specs.declared.entity.Loaded.{Loaded}
 use Rattle.dag_entity.specs.declared.fault.EntityFault.TheVariants as fault
-use Rattle.dag_entity.proofs.AgreeFaults.{fault_over}
+use Rattle.dag_entity.proofs.AgreeFaults.{fault_over, operations_over}
 use Rattle.dag_entity.proofs.AgreeGrowth.{needed_stays}
 use Rattle.dag_entity.proofs.AgreeLemmas.{agree_back, below_over, commit_same, pack_under_same}
 use Rattle.repo_state.specs.Sides.{has_ref}
-use Rattle.repo_state.specs.Sound.{AreAuthorsLocal, HasNoFault, IsAuthoredBug, IsSoundBug}
+use Rattle.repo_state.specs.Sound.{AreAuthorsLocal, HasNoFault, IsAuthoredBug, IsSoundBug, IsTrueRow}
 use Rattle.repo_state.specs.declared.side.Side.TheVariants as side
+use Rattle.row_text.specs.declared.row.HeadRow.{HeadRow}
 
 -- ---- objects that grew
 
@@ -56,6 +57,18 @@ pub bug-grew : (old new : Objects) → OnlyGrew old new → (id : Id) (ref : Ref
 bug-grew old new grew id Absent sound = tt
 bug-grew old new grew id (Head head) sound = HasNoFault-grew old new grew id head sound
 bug-grew old new grew id Bad sound = sound
+
+-- a true row stays true
+pub IsTrueRow-grew : (old new : Objects) → OnlyGrew old new → (id : Id) (row : HeadRow) → IsTrueRow old id row → IsTrueRow new id row
+IsTrueRow-grew old new grew id row was = record {
+  no_fault = HasNoFault-grew old new grew id row.head was.no_fault;
+  is = record {
+    ops = was.is.ops;
+    are = operations_over old new (row.head ∷ []) (needed-same old new grew id row.head was.no_fault) bug_kind was.is.ops was.is.are;
+    begins = was.is.begins;
+    is = was.is.is;
+  };
+}
 
 -- ---- identities' refs that still stand
 

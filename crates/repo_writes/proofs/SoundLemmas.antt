@@ -27,18 +27,24 @@ use Rattle.identity.specs.Persons.{IsChain}
 use Rattle.identity.proofs.ExtendLemmas.{chain_stays}
 use Rattle.object_store.proofs.GrowthLemmas.{object_stays, stays}
 use Rattle.lamport.specs.Clock.{seen_by}
+use Rattle.excerpt_cache.specs.Rows.{row_place, row_write}
 use Rattle.repo_state.specs.Clocks.{clock_at, clock_place, clock_write}
+use Rattle.repo_state.specs.Rows.{stored_row}
 use Rattle.repo_state.specs.Sides.{has_ref, head_at, is_there, ref_place}
-use Rattle.repo_state.specs.Sound.{AreWhole, HasKnownAuthors, HasNoFault, HasSoundBugs, HasSoundIdentities, HasSoundTracking, HasSoundUser, HasPart, HasWholeObjects, IsAuthoredBug, IsSound, IsSoundBug, IsSoundIdentity, IsSoundTracking, KeepsParts, Part}
+use Rattle.repo_state.specs.Sound.{AreWhole, HasKnownAuthors, HasNoFault, HasPackedRefs, HasSoundBugs, HasSoundIdentities, HasSoundTracking, HasSoundUser, HasPart, HasWholeObjects, IsAuthoredBug, IsSound, IsSoundBug, IsSoundIdentity, IsSoundTracking, IsTrueRow, KeepsParts, Part}
 use Rattle.repo_state.specs.Sound as parts
 use Rattle.repo_state.specs.Users.{user_place, user_write}
 use Rattle.repo_state.specs.declared.side.Side.{Side}
 use Rattle.repo_state.specs.declared.side.Side.TheVariants as side
 use Rattle.repo_state.proofs.IdLemmas.{IsId-chain}
-use Rattle.repo_state.proofs.KindLemmas.{head_at-clock_write, head_at-object_write, head_at-other_side, head_at-ref_write, head_at-user_write, objects-clock_write, objects-ref_write, objects-user_write, user_at-put, user_at-set, written-free}
-use Rattle.repo_state.proofs.PlaceLemmas.{clock-not_user, ref-not_user, same_or_other, user-not_object}
-use Rattle.repo_writes.specs.Kinds.{IsBugHeadWrite, IsClockWrite, IsIdentityHeadWrite, IsObjectWrite, IsPlace, IsUserWrite, IsWrite, a_bug_head, a_clock, a_clock_place, a_ref_place, a_user, an_identity_head, an_object, an_object_place, the_user_place}
-use Rattle.repo_writes.proofs.SoundBugLemmas.{HasNoFault-grew, authored-grew, bug-grew}
+use Rattle.repo_state.proofs.KindLemmas.{head_at-clock_write, head_at-object_write, head_at-other_side, head_at-ref_write, head_at-row_write, head_at-user_write, objects-clock_write, objects-ref_write, objects-row_write, objects-user_write, stored_row-clock_write, stored_row-object_write, stored_row-ref_write, stored_row-row_write, stored_row-user_write, user_at-put, user_at-row_write, user_at-set, written-free}
+use Rattle.repo_state.proofs.PlaceLemmas.{clock-not_packed, clock-not_user, object-not_packed, ref-not_packed, ref-not_user, row-not_packed, same_or_other, user-not_object, user-not_packed}
+use Rattle.ref_store.specs.Refs.{packed_place}
+use Rattle.ref_store.proofs.FrameLemmas.{packed_reads-other}
+use Rattle.repo_writes.specs.Kinds.{IsBugHeadWrite, IsClockWrite, IsIdentityHeadWrite, IsObjectWrite, IsPlace, IsRowWrite, IsUserWrite, IsWrite, a_bug_head, a_clock, a_clock_place, a_ref_place, a_row, a_row_place, a_user, an_identity_head, an_object, an_object_place, the_user_place}
+use Rattle.repo_writes.proofs.SoundBugLemmas.{HasNoFault-grew, IsTrueRow-grew, authored-grew, bug-grew}
+use Rattle.row_text.specs.Rows.{row_text}
+use Rattle.row_text.specs.declared.row.HeadRow.{HeadRow}
 
 -- ---- objects that grew
 
@@ -132,12 +138,14 @@ module _ (folder : List ℕ) (files : Files) (change : Change) where
       → ((w : IsUserWrite folder files change) → P (user_write folder w.id))
       → ((w : IsBugHeadWrite folder files change) → P (ref_write folder (ref_place side.Bugs w.id) w.head))
       → ((w : IsClockWrite folder files change) → P (clock_write folder w.which (clock_after w)))
+      → ((w : IsRowWrite folder files change) → P (row_write folder w.id (row_text w.row)))
       → IsWrite folder files change → P change
-  by_kind P object head user bug clock (an_object w) = subst P (sym w.puts.write) (object w)
-  by_kind P object head user bug clock (an_identity_head w) = subst P (sym w.write) (head w)
-  by_kind P object head user bug clock (a_user w) = subst P (sym w.write) (user w)
-  by_kind P object head user bug clock (a_bug_head w) = subst P (sym w.write) (bug w)
-  by_kind P object head user bug clock (a_clock w) = subst P (sym w.write) (clock w)
+  by_kind P object head user bug clock row (an_object w) = subst P (sym w.puts.write) (object w)
+  by_kind P object head user bug clock row (an_identity_head w) = subst P (sym w.write) (head w)
+  by_kind P object head user bug clock row (a_user w) = subst P (sym w.write) (user w)
+  by_kind P object head user bug clock row (a_bug_head w) = subst P (sym w.write) (bug w)
+  by_kind P object head user bug clock row (a_clock w) = subst P (sym w.write) (clock w)
+  by_kind P object head user bug clock row (a_row w) = subst P (sym w.write) (row w)
 
   -- objects are only added
   pub write-grew : IsWrite folder files change → OnlyGrew (objects_in files folder) (objects_in (written files change) folder)
@@ -147,6 +155,7 @@ module _ (folder : List ℕ) (files : Files) (change : Change) where
       (λ w. same-grew (objects_in files folder) (objects_in (written files (user_write folder w.id)) folder) (objects-user_write files folder w.id))
       (λ w. same-grew (objects_in files folder) (objects_in (written files (ref_write folder (ref_place side.Bugs w.id) w.head)) folder) (objects-ref_write files folder side.Bugs w.id w.head))
       (λ w. same-grew (objects_in files folder) (objects_in (written files (clock_write folder w.which (clock_after w))) folder) (objects-clock_write files folder w.which (clock_after w)))
+      (λ w. same-grew (objects_in files folder) (objects_in (written files (row_write folder w.id (row_text w.row))) folder) (objects-row_write files folder w.id (row_text w.row)))
 
   -- the ref of an identity reads as before, or the write set it to the head that it reads as
   pub identity-after : (id : Id) → IsId id → IsWrite folder files change
@@ -163,6 +172,7 @@ module _ (folder : List ℕ) (files : Files) (change : Change) where
       (λ w. inl (head_at-user_write files folder side.Identities id w.id))
       (λ w. inl (head_at-other_side files folder side.Bugs side.Identities w.id id w.head (λ e. cc e)))
       (λ w. inl (head_at-clock_write files folder side.Identities id w.which (clock_after w)))
+      (λ w. inl (head_at-row_write files folder side.Identities id w.id (row_text w.row)))
 
   -- an identity's ref that stands still stands
   identity-stands : IsWrite folder files change → (id : Id) → IsId id
@@ -187,6 +197,7 @@ module _ (folder : List ℕ) (files : Files) (change : Change) where
         | inr set ↦ inr (w, set.0, set.1)
       ])
       (λ w. inl (head_at-clock_write files folder side.Bugs id w.which (clock_after w)))
+      (λ w. inl (head_at-row_write files folder side.Bugs id w.id (row_text w.row)))
 
   -- a tracking ref reads as before
   other-after : (of : Side) (id : Id) → side.Identities ≢ of → side.Bugs ≢ of → IsWrite folder files change
@@ -197,6 +208,24 @@ module _ (folder : List ℕ) (files : Files) (change : Change) where
       (λ w. head_at-user_write files folder of id w.id)
       (λ w. head_at-other_side files folder side.Bugs of w.id id w.head also)
       (λ w. head_at-clock_write files folder of id w.which (clock_after w))
+      (λ w. head_at-row_write files folder of id w.id (row_text w.row))
+
+  -- the stored row of a bug is as before, or the write set it to the row that it is
+  pub row-after : (id : Id) → IsId id → IsWrite folder files change
+      → (stored_row (written files change) folder id ≡ stored_row files folder id)
+      ⊎ ((w : IsRowWrite folder files change) × (w.id ≡ id) × (stored_row (written files change) folder id ≡ Some w.row))
+  row-after id is = by_kind
+      (λ (c : Change). (stored_row (written files c) folder id ≡ stored_row files folder id)
+      ⊎ ((w : IsRowWrite folder files change) × (w.id ≡ id) × (stored_row (written files c) folder id ≡ Some w.row)))
+      (λ w. inl (stored_row-object_write files folder w.puts.text id))
+      (λ w. inl (stored_row-ref_write files folder side.Identities w.id id w.head))
+      (λ w. inl (stored_row-user_write files folder w.id id))
+      (λ w. inl (stored_row-ref_write files folder side.Bugs w.id id w.head))
+      (λ w. inl (stored_row-clock_write files folder w.which (clock_after w) id))
+      (λ w. elim (stored_row-row_write files folder w.id id w.row w.is_id is w.fits) [
+        | inl same ↦ inl same
+        | inr set ↦ inr (w, set.0, set.1)
+      ])
 
   -- ---- the parts of a sound folder
 
@@ -208,6 +237,7 @@ module _ (folder : List ℕ) (files : Files) (change : Change) where
       (λ w. subst AreWhole (sym (objects-user_write files folder w.id)) whole)
       (λ w. subst AreWhole (sym (objects-ref_write files folder side.Bugs w.id w.head)) whole)
       (λ w. subst AreWhole (sym (objects-clock_write files folder w.which (clock_after w))) whole)
+      (λ w. subst AreWhole (sym (objects-row_write files folder w.id (row_text w.row))) whole)
 
   -- its identities stay sound
   keeps-identities : HasSoundIdentities folder files → IsWrite folder files change → HasSoundIdentities folder (written files change)
@@ -249,11 +279,41 @@ module _ (folder : List ℕ) (files : Files) (change : Change) where
   -- its user file names a local identity still
   keeps-user : HasSoundUser folder files → IsWrite folder files change → HasSoundUser folder (written files change)
   keeps-user sound = by_kind (λ (c : Change). HasSoundUser folder (written files c))
-      (λ w bad. sound (sym (user_at-put files folder (joined folder (object_place (object_name w.puts.text))) w.puts.text (λ e. user-not_object folder (object_name w.puts.text) (sym e)) sound) ∙ bad))
-      (λ w bad. sound (sym (user_at-put files folder (joined folder (ref_place side.Identities w.id)) _ (ref-not_user folder side.Identities w.id) sound) ∙ bad))
+      (λ w bad. sound (sym (user_at-put files folder (joined folder (object_place (object_name w.puts.text))) w.puts.text (λ e. user-not_object folder (object_name w.puts.text) (sym e)) (object-not_packed folder (object_name w.puts.text)) sound) ∙ bad))
+      (λ w bad. sound (sym (user_at-put files folder (joined folder (ref_place side.Identities w.id)) _ (ref-not_user folder side.Identities w.id) (ref-not_packed folder side.Identities w.id) sound) ∙ bad))
       (λ w bad. cc (sym (user_at-set files folder w.id w.is_id w.stands) ∙ bad))
-      (λ w bad. sound (sym (user_at-put files folder (joined folder (ref_place side.Bugs w.id)) _ (ref-not_user folder side.Bugs w.id) sound) ∙ bad))
-      (λ w bad. sound (sym (user_at-put files folder (joined folder (clock_place w.which)) _ (clock-not_user folder w.which) sound) ∙ bad))
+      (λ w bad. sound (sym (user_at-put files folder (joined folder (ref_place side.Bugs w.id)) _ (ref-not_user folder side.Bugs w.id) (ref-not_packed folder side.Bugs w.id) sound) ∙ bad))
+      (λ w bad. sound (sym (user_at-put files folder (joined folder (clock_place w.which)) _ (clock-not_user folder w.which) (clock-not_packed folder w.which) sound) ∙ bad))
+      (λ w bad. sound (sym (user_at-row_write files folder w.id (row_text w.row)) ∙ bad))
+
+  -- its rows stay true
+  keeps-rows : HasPart parts.Rows folder files → IsWrite folder files change → HasPart parts.Rows folder (written files change)
+  keeps-rows has wrote = (
+    keeps-bugs has.0 wrote,
+    λ id is row stored. elim (row-after id is wrote) [
+      | inl same ↦ grown id row (has.1 id is row (sym same ∙ stored))
+      | inr set ↦
+          let both : Some set.0.row ≡ Some row = sym set.2 ∙ stored in
+          let is_row : set.0.row ≡ row = cc in
+          subst (λ (r : HeadRow). IsTrueRow (objects_in (written files change) folder) id r) is_row
+          (grown id set.0.row (subst (λ (i : Id). IsTrueRow (objects_in files folder) i set.0.row) set.1 (set.0.is_true has)))
+    ],
+  )
+    where
+      grown : (id : Id) (row : HeadRow) → IsTrueRow (objects_in files folder) id row → IsTrueRow (objects_in (written files change) folder) id row
+      grown id row was = IsTrueRow-grew _ _ (write-grew wrote) id row was
+
+  -- its packed refs read as before
+  keeps-packed : HasPackedRefs folder files → IsWrite folder files change → HasPackedRefs folder (written files change)
+  keeps-packed has wrote = packed_reads-other files change folder (other wrote) ∙ has
+    where
+      other : IsWrite folder files change → change.path ≢ joined folder packed_place
+      other (an_object w) same = object-not_packed folder (object_name w.puts.text) (sym (ap (λ (c : Change). c.path) w.puts.write) ∙ same)
+      other (an_identity_head w) same = ref-not_packed folder side.Identities w.id (sym (ap (λ (c : Change). c.path) w.write) ∙ same)
+      other (a_user w) same = user-not_packed folder (sym (ap (λ (c : Change). c.path) w.write) ∙ same)
+      other (a_bug_head w) same = ref-not_packed folder side.Bugs w.id (sym (ap (λ (c : Change). c.path) w.write) ∙ same)
+      other (a_clock w) same = clock-not_packed folder w.which (sym (ap (λ (c : Change). c.path) w.write) ∙ same)
+      other (a_row w) same = row-not_packed folder w.id (sym (ap (λ (c : Change). c.path) w.write) ∙ same)
 
   -- each part stays
   pub keeps-part : (part : Part) → HasPart part folder files → IsWrite folder files change → HasPart part folder (written files change)
@@ -263,6 +323,8 @@ module _ (folder : List ℕ) (files : Files) (change : Change) where
   keeps-part parts.Authors = keeps-authors
   keeps-part parts.Tracking = keeps-tracking
   keeps-part parts.User = keeps-user
+  keeps-part parts.Rows = keeps-rows
+  keeps-part parts.Packed = keeps-packed
 
   -- ---- where is written
 
@@ -278,6 +340,7 @@ module _ (folder : List ℕ) (files : Files) (change : Change) where
   write-place (a_user w) = (user_place, the_user_place, ap (λ (c : Change). c.path) w.write)
   write-place (a_bug_head w) = (ref_place side.Bugs w.id, a_ref_place side.Bugs w.id w.is_id, ap (λ (c : Change). c.path) w.write)
   write-place (a_clock w) = (clock_place w.which, a_clock_place w.which, ap (λ (c : Change). c.path) w.write)
+  write-place (a_row w) = (row_place w.id, a_row_place w.id w.is_id, ap (λ (c : Change). c.path) w.write)
 
 -- what is written by kinds keeps each part at each moment
 pub keeps_parts : (folder : List ℕ) (old new : History) → Wrote (IsWrite folder) old new → KeepsParts folder old new

@@ -10,18 +10,21 @@ use Rattle.gb_store.specs.declared.store.Change.{Change}
 use Rattle.gb_store.proofs.FrameLemmas.{written-apart}
 use Rattle.object_store.specs.Growth.{OnlyGrew}
 use Rattle.object_store.specs.Held.{Objects, objects_in}
+use Rattle.excerpt_cache.specs.Rows.{row_place}
 use Rattle.commit_walk.proofs.BelowLemmas.{IsBelow-stays}
-use Rattle.ref_store.specs.Refs.{ref_of}
+use Rattle.ref_store.specs.Refs.{packed_place, reads_as_packed}
+use Rattle.ref_store.proofs.FrameLemmas.{same_ref}
 use Rattle.repo_state.specs.Clocks.{clock_at, clock_in, clock_place}
+use Rattle.repo_state.specs.Rows.{stored_row}
 use Rattle.repo_state.specs.Sides.{has_ref, head_at, is_there, ref_place}
-use Rattle.repo_state.specs.Sound.{AreWhole, HasPart, IsAuthoredBug, IsSoundBug, IsSoundIdentity, IsSoundTracking, Part}
+use Rattle.repo_state.specs.Sound.{AreWhole, HasPart, HasTrueRows, IsAuthoredBug, IsSoundBug, IsSoundIdentity, IsSoundTracking, IsTrueRow, Part}
 use Rattle.repo_state.specs.Sound as parts
 use Rattle.repo_state.specs.Users.{user_at, user_place}
 use Rattle.repo_state.specs.declared.clocks.ClockFile.{ClockFile}
 use Rattle.repo_state.specs.declared.clocks.ClockFile.TheVariants as file
 use Rattle.repo_state.specs.declared.side.Side.{Side}
 use Rattle.repo_state.specs.declared.side.Side.TheVariants as side
-use Rattle.repo_state.proofs.KindLemmas.{user_at-same}
+use Rattle.repo_state.proofs.KindLemmas.{stored_row-same, user_at-same}
 use Rattle.repo_writes.specs.Kept.{IsOwnSide, LosesNothing}
 use Rattle.repo_writes.specs.Kinds.{IsPlace}
 use Rattle.repo_writes.proofs.PlaceLemmas.{place_plain}
@@ -73,6 +76,10 @@ module _ (folder : List ℕ) (old new : Files) (same : objects_in new folder ≡
       subst (IsSoundTracking (objects_in new folder)) (sym head)
       (subst (λ (objects : Objects). IsSoundTracking objects (head_at old folder of id)) (sym same) was)
 
+  -- rows that are stored as before are as true as before
+  pub rows-stay : ((id : Id) → stored_row new folder id ≡ stored_row old folder id) → HasTrueRows folder old → HasTrueRows folder new
+  rows-stay rows was = λ id is row stored. subst (λ (objects : Objects). IsTrueRow objects id row) (sym same) (was id is row (sym (rows id) ∙ stored))
+
   -- a bug's authors stay local identities, while the refs of identities still stand
   pub authored-stays : ((id : Id) → IsId id → IsTrue (has_ref old folder side.Identities id) → IsTrue (has_ref new folder side.Identities id))
       → (id : Id) → head_at new folder side.Bugs id ≡ head_at old folder side.Bugs id
@@ -100,12 +107,16 @@ module _ (folder : List ℕ) (old new : Files) (stay : FilesStay folder old new)
 
   -- its refs
   head : (of : Side) (id : Id) → head_at new folder of id ≡ head_at old folder of id
-  head of id = ap ref_of (stay (ref_place of id) (plain_ref of id))
+  head of id = same_ref new old folder (ref_place of id) (stay (ref_place of id) (plain_ref of id)) (stay packed_place refl)
 
   -- its clocks
   clock : (which : ClockFile) → clock_at new folder which ≡ clock_at old folder which
   clock file.BugsCreate = ap clock_in (stay (clock_place file.BugsCreate) refl)
   clock file.BugsEdit = ap clock_in (stay (clock_place file.BugsEdit) refl)
+
+  -- its rows
+  row : (id : Id) → stored_row new folder id ≡ stored_row old folder id
+  row id = stored_row-same old new folder id (stay (row_place id) refl)
 
   -- and its user
   user : user_at new folder ≡ user_at old folder
@@ -123,6 +134,8 @@ module _ (folder : List ℕ) (old new : Files) (stay : FilesStay folder old new)
     tracking-stays folder old new objects (side.RemoteIdentities remote) id (head (side.RemoteIdentities remote) id) (has remote id is).1,
   )
   part-stays parts.User has = λ bad. has (sym user ∙ bad)
+  part-stays parts.Packed has = ap reads_as_packed (stay packed_place refl) ∙ has
+  part-stays parts.Rows has = (λ id is. bug-stays folder old new objects id (head side.Bugs id) (has.0 id is), rows-stay folder old new objects row has.1)
 
   -- and nothing is lost
   pub LosesNothing-stays : LosesNothing folder old new

@@ -1,5 +1,5 @@
 -- The kinds of write, each described by the files at that time, without a command.
-use Rattle.std.specs.Prelude.{◌≡◌, ◌<◌, ⊤, ℕ, ◌==◌, Bool, not, List, [], ◌∷◌, Option, Some, None, IsTrue}
+use Rattle.std.specs.Prelude.{◌≡◌, ◌≢◌, ◌<◌, ⊤, ℕ, ◌==◌, Bool, not, List, [], ◌∷◌, Option, Some, None, IsTrue}
 use Rattle.std.specs.List.{list_all}
 use Rattle.gb_text.specs.Digits.{IsId, IsName}
 use Rattle.gb_text.specs.declared.id.Id.{Id}
@@ -10,6 +10,7 @@ use Rattle.gb_store.specs.declared.store.Change.{Change}
 use Rattle.object_store.specs.Held.{Objects, objects_in}
 use Rattle.object_batch.specs.Needs.{PutsAfterNeeds}
 use Rattle.commit_walk.specs.Chain.{Meets}
+use Rattle.excerpt_cache.specs.Rows.{row_place, row_write}
 use Rattle.ref_store.specs.Refs.{Ref, Absent, Head}
 use Rattle.ref_store.specs.Setting.{ref_write}
 use Rattle.identity.specs.Persons.{IsChain}
@@ -21,14 +22,19 @@ use Rattle.dag_entity.specs.Entities.{IsRootClock}
 use Rattle.dag_entity.specs.Nodes.{edit_at}
 use Rattle.repo_state.specs.Clocks.{clock_at, clock_place, clock_write}
 use Rattle.repo_state.specs.Places.{EntityPlaces, bug_places}
+use Rattle.repo_state.specs.Rows.{stored_row}
 use Rattle.repo_state.specs.Sides.{has_ref, head_at, ref_place}
-use Rattle.repo_state.specs.Sound.{AreAuthorsLocalOf, HasNoFaultOf}
+use Rattle.repo_state.specs.Sound.{AreAuthorsLocalOf, HasNoFaultOf, HasPart, IsTrueRow}
+use Rattle.repo_state.specs.Sound as parts
 use Rattle.repo_state.specs.Users.{user_place, user_write}
 use Rattle.repo_state.specs.declared.clocks.ClockFile.{ClockFile}
 use Rattle.repo_state.specs.declared.clocks.ClockFile.TheVariants as file
 use Rattle.repo_state.specs.declared.side.HeadEntry.{HeadEntry}
 use Rattle.repo_state.specs.declared.side.Side.{Side}
 use Rattle.repo_state.specs.declared.side.Side.TheVariants as side
+use Rattle.row_text.specs.Codec.{RowFits}
+use Rattle.row_text.specs.Rows.{row_text}
+use Rattle.row_text.specs.declared.row.HeadRow.{HeadRow}
 
 -- an object, put under its name where nothing stands, after all that it names
 pub record IsObjectWrite (folder : List ℕ) (files : Files) (change : Change) : Type 0 where
@@ -106,6 +112,18 @@ pub record IsUserWrite (folder : List ℕ) (files : Files) (change : Change) : T
   pub stands : IsTrue (has_ref files folder side.Identities id)
   pub write : change ≡ user_write folder id
 
+-- the row of a bug at its present head, where no row that is stored of it names this head. If the folder's bugs are sound and its rows
+-- true, so is this one
+pub record IsRowWrite (folder : List ℕ) (files : Files) (change : Change) : Type 0 where
+  pub id : Id
+  pub is_id : IsId id
+  pub row : HeadRow
+  pub fits : RowFits row
+  pub is_head : head_at files folder side.Bugs id ≡ Head row.head
+  pub is_new : (stored : HeadRow) → stored_row files folder id ≡ Some stored → stored.head ≢ row.head
+  pub is_true : HasPart parts.Rows folder files → IsTrueRow (objects_in files folder) id row
+  pub write : change ≡ row_write folder id (row_text row)
+
 -- a write in a folder is of one of these kinds
 pub data IsWrite (folder : List ℕ) (files : Files) (change : Change) : Type 0 where
   an_object : IsObjectWrite folder files change → IsWrite folder files change
@@ -113,13 +131,15 @@ pub data IsWrite (folder : List ℕ) (files : Files) (change : Change) : Type 0 
   a_user : IsUserWrite folder files change → IsWrite folder files change
   a_bug_head : IsBugHeadWrite folder files change → IsWrite folder files change
   a_clock : IsClockWrite folder files change → IsWrite folder files change
+  a_row : IsRowWrite folder files change → IsWrite folder files change
 
--- the places of a folder at which is written: an object's, a ref's, the user's, a clock's
+-- the places of a folder at which is written: an object's, a ref's, the user's, a clock's, a row's
 pub data IsPlace : List ℕ → Type 0 where
   an_object_place : (name : Name) → IsName name → IsPlace (object_place name)
   a_ref_place : (of : Side) (id : Id) → IsId id → IsPlace (ref_place of id)
   the_user_place : IsPlace user_place
   a_clock_place : (which : ClockFile) → IsPlace (clock_place which)
+  a_row_place : (id : Id) → IsId id → IsPlace (row_place id)
 
 -- a text holds no dot; so it has no part `..`
 abbrev pub is_dotless : List ℕ → Bool

@@ -21,7 +21,7 @@ ghost use Rattle.repo_state.specs.declared.side.Side.TheVariants as side;
 ghost use Rattle.repo_writes.specs.Kept.{LosesNothing};
 ghost use Rattle.repo_writes.specs.Kinds.{IsPlace, IsWrite, is_dotless};
 
-/// Writes of the five kinds keep each part of a folder's soundness at every point. So it keeps a sound
+/// Writes of the six kinds keep each part of a folder's soundness at every point. So it keeps a sound
 /// folder sound.
 pub fn writes_keep_folders_sound()
     ensures parts { (folder : List ℕ) (old new : History) → Wrote (IsWrite folder) old new
@@ -30,7 +30,7 @@ pub fn writes_keep_folders_sound()
         → IsSound folder (files_of old) → AllMoments (IsSound folder) old new }
 {}
 
-/// A write of one of the five kinds loses nothing: no object, nothing below a head, and no clock
+/// A write of one of the six kinds loses nothing: no object, nothing below a head, and no clock
 /// falls.
 pub fn writes_lose_nothing()
     ensures objects { (folder : List ℕ) (files : Files) (change : Change)
@@ -52,7 +52,7 @@ pub fn writes_lose_nothing()
         → clock_at files folder which ≤ clock_at (written files change) folder which }
 {}
 
-/// Writes of the five kinds lose nothing at any point, and calls that lose nothing compose.
+/// Writes of the six kinds lose nothing at any point, and calls that lose nothing compose.
 pub fn calls_lose_nothing()
     ensures one { (folder : List ℕ) (old new : History) → Wrote (IsWrite folder) old new
         → AllMoments (LosesNothing folder (files_of old)) old new }
@@ -70,8 +70,8 @@ pub fn folders_apart_stay_sound()
         → AllMoments (LosesNothing folder (files_of old)) old new }
 {}
 
-/// Each write is at the place of an object, a ref, the user or a clock below its folder. No such
-/// place begins with a slash or holds a dot, so none leaves the folder by a part `..`.
+/// Each write is at the place of an object, a ref, the user, a clock or a row below its folder. No
+/// such place begins with a slash or holds a dot, so none leaves the folder by a part `..`.
 pub fn writes_stay_below_their_folder()
     ensures below { (folder : List ℕ) (files : Files) (change : Change)
         → IsWrite folder files change

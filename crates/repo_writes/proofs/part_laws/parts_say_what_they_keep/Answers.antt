@@ -1,4 +1,4 @@
-use Rattle.repo_writes.proofs.PartLemmas.{authors_kept, bugs_kept, identities_kept, no_bad_ref, objects_kept, tracking_kept}
+use Rattle.repo_writes.proofs.PartLemmas.{authors_kept, bugs_kept, identities_kept, no_bad_ref, objects_kept, bugs_by_rows, rows_kept, tracking_kept}
 use Rattle.repo_writes.proofs.part_laws.parts_say_what_they_keep.Goals as goal
 
 pub returns-clause-objects : goal.returns-clause-objects
@@ -15,6 +15,12 @@ returns-clause-authors c = authors_kept
 
 pub returns-clause-tracking : goal.returns-clause-tracking
 returns-clause-tracking c = tracking_kept
+
+pub returns-clause-rows : goal.returns-clause-rows
+returns-clause-rows c = rows_kept
+
+pub returns-clause-bugs_by_rows : goal.returns-clause-bugs_by_rows
+returns-clause-bugs_by_rows c = bugs_by_rows
 
 pub returns-clause-refs : goal.returns-clause-refs
 returns-clause-refs c = no_bad_ref
