@@ -1,23 +1,24 @@
 -- Turns that memory or the disk ends, and what is so where an own ref is no ref text.
-use Rattle.std.proofs.Common.{◌≡◌, inl, inr, refl, sym, subst, Bool, true, false, List, ℕ, Option, Some, None, Ok, Err}
+use Rattle.std.proofs.Common.{◌≡◌, inl, inr, refl, sym, ap, subst, Bool, true, false, List, ℕ, Option, Some, None, Ok, Err}
 use Rattle.gb_text.specs.declared.id.Id.{Id}
 use Rattle.gb_text.specs.declared.id.Name.{Name}
-use Rattle.gb_store.specs.Files.{History, files_of}
+use Rattle.gb_store.specs.Files.{Files, History, files_of}
 use Rattle.gb_store.specs.declared.fault.StoreFault.{StoreFault}
 use Rattle.gb_store.specs.declared.fault.StoreFault.TheVariants as store
 use Rattle.object_store.specs.Held.{Objects, objects_after}
 use Rattle.ref_store.specs.Refs.{Ref}
 use Rattle.repo_state.specs.Answers.{IsHeadAt, PutAnswers, Reads, WholeAnswers}
-use Rattle.repo_state.specs.Sides.{IsBadRef}
+use Rattle.repo_state.specs.Sides.{IsBadRef, head_at}
 use Rattle.repo_state.specs.declared.refs.EntityRef.{EntityRef}
 use Rattle.repo_state.specs.declared.side.HeadEntry.{HeadEntry}
 use Rattle.repo_state.specs.declared.side.Side.{Side}
 use Rattle.repo_state.specs.declared.stop.ReadStop.{ReadStop}
 use Rattle.repo_state.specs.declared.stop.ReadStop.TheVariants as stop
 use Rattle.remote_copy.specs.Copies.{HasNoCause, IsCopied}
-use Rattle.sync_steps.specs.Carrying.{IsCutOff, PutObjects, head_write}
-use Rattle.sync_steps.specs.Fetching.{FetchCutOff, FetchOutcome, FetchStops, IsBadTracking}
+use Rattle.sync_steps.specs.Carrying.{IsCutOff, IsRefused, PutObjects, head_write}
+use Rattle.sync_steps.specs.Fetching.{FetchCutOff, FetchOutcome, FetchStops, IsBadTracking, IsOther}
 use Rattle.sync_steps.specs.Pushing.{ForwardAnswers, IsBadLocal, IsForward, IsPushCut, PushCutOff, PushOfRef, PushOutcome, PushStops, Pushes}
+use Rattle.sync_steps.specs.declared.line.CopyCause.{CopyCause}
 use Rattle.sync_steps.specs.declared.line.Outcome.{Outcome}
 use Rattle.sync_steps.specs.declared.line.Outcome.TheVariants as outcome
 
@@ -40,6 +41,18 @@ module _ (own peer : List ℕ) (to : Side) where
   tracking_ends entity name old new stop.Disk is told same =
       subst (λ (h : Option Name). FetchCutOff own peer to entity.id h old new) (sym is) (inl same)
   tracking_ends entity name old new (stop.Damaged path) is told same = subst (λ (h : Option Name). IsBadTracking own peer to entity.id h path old new) (sym is) (told, same)
+
+  -- a tracking ref with another head, or none, is not yet that of the peer
+  other_head : (files : Files) (id : Id) (name : Name) (found : Option Name) → IsHeadAt files own to id found → (found ≡ Some name → ⊥) → IsOther (head_at files own to id) name
+  other_head files id name None at differ = subst (λ (ref : Ref). IsOther ref name) (sym at) tt
+  other_head files id name (Some other) at differ = subst (λ (ref : Ref). IsOther ref name) (sym at) (λ same. differ (ap Some same))
+
+  -- a copy that is refused
+  pub copy_refused : (entity : EntityRef) (name : Name) (found : Option Name) (why : CopyCause) (old mid new : History) → entity.head ≡ Some name → IsHeadAt (files_of old) own to entity.id found
+      → (found ≡ Some name → ⊥) → mid ≡ old → IsRefused true peer own (record { id = entity.id; name = name }) why mid new → FetchOutcome own peer to entity.id entity.head (outcome.DamagedCopy why) old new
+  copy_refused entity name found why old mid new is at differ same refused =
+      subst (λ (h : Option Name). FetchOutcome own peer to entity.id h (outcome.DamagedCopy why) old new) (sym is)
+      (other_head (files_of old) entity.id name found at differ, subst (λ (h : History). IsRefused true peer own (record { id = entity.id; name = name }) why h new) same refused)
 
   -- memory may run out behind a turn
   pub fetched_then_ended : (id : Id) (head : Option Name) (out : Outcome) (old new : History) → FetchOutcome own peer to id head out old new → FetchCutOff own peer to id head old new

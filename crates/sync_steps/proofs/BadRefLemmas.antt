@@ -4,9 +4,10 @@ use Rattle.gb_text.specs.Folder.{joined}
 use Rattle.gb_text.specs.declared.id.Id.{Id}
 use Rattle.gb_text.specs.declared.id.Name.{Name}
 use Rattle.gb_store.specs.Files.{Files, History, files_of, written}
-use Rattle.gb_store.proofs.FrameLemmas.{written-other}
 use Rattle.object_store.specs.Held.{objects_after}
-use Rattle.ref_store.specs.Refs.{Ref, Bad, ref_of}
+use Rattle.ref_store.specs.Refs.{Ref, Bad, ref_at}
+use Rattle.ref_store.proofs.FrameLemmas.{ref_at-other}
+use Rattle.ref_store.proofs.MapLemmas.{joined-same}
 use Rattle.ref_store.specs.Setting.{ref_write}
 use Rattle.remote_name.specs.declared.remote.RemoteName.{RemoteName}
 use Rattle.repo_state.specs.Sides.{head_at, ref_place}
@@ -14,7 +15,7 @@ use Rattle.repo_state.specs.declared.refs.EntityRef.{EntityRef}
 use Rattle.repo_state.specs.declared.side.Side.{Side}
 use Rattle.repo_state.specs.declared.stop.ReadStop.{ReadStop}
 use Rattle.repo_state.specs.declared.stop.ReadStop.TheVariants as stop
-use Rattle.repo_state.proofs.PlaceLemmas.{same_or_other}
+use Rattle.repo_state.proofs.PlaceLemmas.{ref-not_packed, same_or_other}
 use Rattle.sync_steps.specs.Fetching.{FetchAnswers, FetchCutOff, FetchOutcome, FetchStops, Fetches, IsBadTracking}
 use Rattle.sync_steps.specs.Places.{local_side, tracking_side}
 use Rattle.sync_steps.specs.Pushing.{IsBadLocal, IsForward, PushAnswers, PushCutOff, PushOutcome, PushStops, Pushes}
@@ -45,8 +46,8 @@ module _ (folder : List ℕ) (of : Side) (id : Id) where
   left_or_set : (to : Side) (mine : Id) → ((name : Name) (files : Files) → head_at (written files (ref_write folder (ref_place to mine) name)) folder of id ≡ head_at files folder of id)
       ⊎ ((files : Files) → head_at files folder to mine ≡ head_at files folder of id)
   left_or_set to mine = elim (same_or_other (joined folder (ref_place to mine)) (joined folder (ref_place of id))) [
-    | inl path ↦ inr (λ files. ap (λ (p : List ℕ). ref_of (files p)) path)
-    | inr differ ↦ inl (λ name files. ap ref_of (written-other files (ref_write folder (ref_place to mine) name) (joined folder (ref_place of id)) differ))
+    | inl path ↦ inr (λ files. ap (ref_at files folder) (joined-same folder (ref_place to mine) (ref_place of id) path))
+    | inr differ ↦ inl (λ name files. ref_at-other files (ref_write folder (ref_place to mine) name) folder (ref_place of id) differ (ref-not_packed folder to mine))
   ]
 
 -- ---- fetches

@@ -1,14 +1,12 @@
 -- Turns leave the refs of other entities and other sides, and a copy leaves each.
-use Rattle.std.proofs.Common.{◌≡◌, ◌≢◌, ◌<◌, refl, sym, ◌∙◌, ap, subst, arith, ℕ, zero, suc, Bool, List, [], ◌∷◌, ◌++◌, Contains, length, map, get_or, Option, Some, None}
+use Rattle.std.proofs.Common.{◌≡◌, ◌≢◌, ◌<◌, refl, sym, ◌∙◌, ap, subst, arith, ℕ, zero, suc, Bool, List, [], ◌∷◌, ◌++◌, Contains, length, map, get_or}
 use Rattle.std.proofs.lemmas.Simd.{map-map}
 use Rattle.std.specs.Prelude.{⊤}
 use Rattle.std.specs.Cmp.Lexicographic.{slice_cmp}
 use Rattle.std.specs.List.{AllPairs}
 use Rattle.std.specs.List.Sorted.{IsStrictlySortedBy}
 use Rattle.std.specs.Ordering.{nat_cmp}
-use Rattle.gb_text.specs.Digits.{IsId, IsName, name_of}
-use Rattle.gb_text.proofs.DigitLemmas.{name_of-is}
-use Rattle.gb_text.specs.LineEnd.{line_of as text_line}
+use Rattle.gb_text.specs.Digits.{IsId}
 use Rattle.gb_text.specs.declared.id.Id.{Id}
 use Rattle.gb_text.specs.declared.id.Name.{Name}
 use Rattle.gb_store.specs.Files.{Files, History, files_of, written}
@@ -16,7 +14,6 @@ use Rattle.gb_store.specs.Moments.{EachWrite, Wrote, at_moment}
 use Rattle.gb_store.specs.Turns.{InTurn}
 use Rattle.gb_store.specs.declared.store.Change.{Change}
 use Rattle.object_store.specs.Held.{Objects}
-use Rattle.ref_store.specs.Refs.{Head, head_or_bad, ref_of}
 use Rattle.ref_store.specs.Setting.{ref_write}
 use Rattle.ref_store.proofs.ListLemmas.{ids_differ}
 use Rattle.remote_copy.specs.Writes.{PutsCopy}
@@ -28,15 +25,6 @@ use Rattle.repo_state.proofs.KindLemmas.{head_at-object_put, head_at-other_id, h
 use Rattle.sync_steps.specs.Turns.{Turn, entities_of}
 
 -- ---- heads
-
--- what a ref names is a name
-pub head_is_name : (file : Option (List ℕ)) (name : Name) → ref_of file ≡ Head name → IsName name
-head_is_name None name e = absurd cc
-head_is_name (Some text) name e = by (name_of (text_line text)) refl e
-  where
-    by : (o : Option Name) → name_of (text_line text) ≡ o → head_or_bad o ≡ Head name → IsName name
-    by None at e = absurd cc
-    by (Some n) at e = let same : n ≡ name = cc in subst IsName same (name_of-is (text_line text) n at).0
 
 -- ---- the turns of different entities
 

@@ -3,7 +3,6 @@ use Rattle.std.proofs.Common.{◌≡◌, ◌≢◌, inl, inr, refl, sym, ◌∙�
 use Rattle.std.proofs.lemmas.List.Elements.{Contains-append_cases}
 use Rattle.std.specs.Prelude.{⊤}
 use Rattle.gb_text.specs.Digits.{IsName}
-use Rattle.gb_text.specs.Folder.{joined}
 use Rattle.gb_text.specs.declared.id.Id.{Id}
 use Rattle.gb_text.specs.declared.id.Name.{Name}
 use Rattle.gb_store.specs.Files.{Files, History, files_of, written}
@@ -23,7 +22,8 @@ use Rattle.sync_steps.specs.declared.line.EntityWord.TheVariants as word
 use Rattle.sync_steps.specs.declared.line.Exchange.{Exchange}
 use Rattle.sync_steps.specs.declared.line.Line.{Line}
 use Rattle.sync_steps.specs.declared.line.Outcome.{Outcome}
-use Rattle.sync_steps.proofs.SetLemmas.{AllOnce, head_is_name, id_of, none_among, once_of_refs, sides_leave, turn_leaves_other, turns_leave}
+use Rattle.ref_store.proofs.FrameLemmas.{head_is_name}
+use Rattle.sync_steps.proofs.SetLemmas.{AllOnce, id_of, none_among, once_of_refs, sides_leave, turn_leaves_other, turns_leave}
 use Rattle.sync_steps.proofs.WriteLemmas.{IsListed, turns_go}
 
 -- a turn among others: the ref of its entity stood before it as at first, and stands in the end as behind it
@@ -145,7 +145,7 @@ module _ (verb : Exchange) (Step : EntityWord → Bool → Turn → History → 
 
   alike : (line : Line) → TurnOf (λ (before after : History). ⊤) verb Step source target to old new line → Sets line.outcome → AreSame line
   alike line of is =
-      let named = λ (name : Name) (at : of.turn.entity.head ≡ Some name). head_is_name (files_of old (joined source (ref_place (local_side of.word) (id_of of.turn)))) name (of.listed.1 ∙ ap ref_with at) in
+      let named = λ (name : Name) (at : of.turn.entity.head ≡ Some name). head_is_name (files_of old) source (ref_place (local_side of.word) (id_of of.turn)) name (of.listed.1 ∙ ap ref_with at) in
       let has = sets of.word of.held of.turn of.at.before of.at.after named (subst (λ (l : Line). Sets l.outcome) (sym of.is) is) of.at.step in
       subst AreSame of.is (has.0, of.listed.1 ∙ ap ref_with has.1, of.at.later ∙ has.2)
 

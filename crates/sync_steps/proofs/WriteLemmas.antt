@@ -15,7 +15,7 @@ use Rattle.gb_store.proofs.FrameLemmas.{written-apart}
 use Rattle.gb_store.proofs.MomentLemmas.{Wrote-none, Wrote-then}
 use Rattle.git_object.specs.Grammar.{object_name}
 use Rattle.object_store.specs.Held.{objects_after}
-use Rattle.ref_store.specs.Refs.{ref_of}
+use Rattle.ref_store.proofs.FrameLemmas.{ref_at-write_apart}
 use Rattle.ref_store.specs.Setting.{ref_write}
 use Rattle.remote_copy.specs.NeedWrites.{PutsOneAfterNeeds}
 use Rattle.repo_state.specs.Listed.{ref_with}
@@ -60,7 +60,7 @@ module _ (May : Files → Change → Type 0) (target other : List ℕ) (apart : 
       by [] each = refl
       by (change ∷ earlier) each =
           let at = ins (files_of (earlier ++ old)) change each.1 in
-          ap ref_of (written-apart (files_of (earlier ++ old)) change other target at.0 (ref_place of id) at.2 at.1 (ref_plain of id) apart) ∙ by earlier each.0
+          ref_at-write_apart (files_of (earlier ++ old)) change other target at.0 (ref_place of id) at.2 at.1 (ref_plain of id) apart ∙ by earlier each.0
 
   -- and its objects
   pub objects_apart : (old new : History) → Wrote May old new → objects_after new other ≡ objects_after old other

@@ -13,13 +13,15 @@ use Rattle.object_store.specs.Held.{Objects, objects_in}
 use Rattle.object_store.specs.Typed.{commit_at}
 use Rattle.object_store.proofs.HeldLemmas.{object_at-is}
 use Rattle.ref_store.specs.Setting.{ref_write}
+use Rattle.ref_store.proofs.FrameLemmas.{packed_reads-other}
+use Rattle.repo_state.proofs.PlaceLemmas.{ref-not_packed}
 use Rattle.remote_name.specs.declared.remote.RemoteName.{RemoteName}
 use Rattle.repo_state.specs.Sides.{head_at, is_there, ref_place}
-use Rattle.repo_state.specs.Sound.{HasPart, IsSoundTracking, KeepsParts, Part}
+use Rattle.repo_state.specs.Sound.{HasPart, HasSoundBugs, IsSoundTracking, KeepsParts, Part}
 use Rattle.repo_state.specs.Sound as parts
 use Rattle.repo_state.specs.declared.side.Side.{Side}
 use Rattle.repo_state.specs.declared.side.Side.TheVariants as side
-use Rattle.repo_state.proofs.KindLemmas.{clock_at-ref_write, head_at-other_side, objects-ref_write, user_at-other_side}
+use Rattle.repo_state.proofs.KindLemmas.{clock_at-ref_write, head_at-other_side, objects-ref_write, stored_row-ref_write, user_at-other_side}
 use Rattle.repo_writes.specs.Kept.{IsOwnSide, LosesNothing}
 use Rattle.repo_writes.proofs.KeptLemmas.{LosesNothing-none, LosesNothing-then}
 use Rattle.sync_steps.specs.Places.{tracking_side}
@@ -28,7 +30,7 @@ use Rattle.sync_steps.specs.declared.line.EntityWord.{EntityWord}
 use Rattle.sync_steps.specs.declared.line.EntityWord.TheVariants as word
 use Rattle.sync_writes.specs.Kinds.{FetchWrites}
 use Rattle.sync_writes.proofs.PutLemmas.{head_at-set, put-keeps, put-loses_nothing}
-use Rattle.repo_writes.proofs.StayLemmas.{authored-stays, bug-stays, identity-stays, nothing_lost, same-grew, tracking-stays, whole-stays}
+use Rattle.repo_writes.proofs.StayLemmas.{authored-stays, bug-stays, identity-stays, nothing_lost, rows-stay, same-grew, tracking-stays, whole-stays}
 
 -- ---- the head of a tracking ref
 
@@ -71,15 +73,21 @@ module _ (own peer : List ℕ) (remote : RemoteName) (files : Files) (change : C
     | inr set ↦ subst (IsSoundTracking (objects_in now own)) (sym set.2) commit
   ]
 
+  -- each bug is as sound as before
+  bugs : HasSoundBugs own files → HasSoundBugs own now
+  bugs has = λ id is. bug-stays own files now objects id (heads side.Bugs tt id) (has id is)
+
   -- each part stays
   track-keeps : (part : Part) → HasPart part own files → HasPart part own now
   track-keeps parts.Objects has = whole-stays own files now objects has
   track-keeps parts.Identities has = λ id is. identity-stays own files now objects id (heads side.Identities tt id) (has id is)
-  track-keeps parts.Bugs has = λ id is. bug-stays own files now objects id (heads side.Bugs tt id) (has id is)
+  track-keeps parts.Bugs has = bugs has
   track-keeps parts.Authors has = λ id is.
       authored-stays own files now objects (λ author _ stands. ap is_there (heads side.Identities tt author) ∙ stands) id (heads side.Bugs tt id) (has id is)
   track-keeps parts.Tracking has = λ seen id is. (tracking (side.RemoteBugs seen) id is (has seen id is).0, tracking (side.RemoteIdentities seen) id is (has seen id is).1)
   track-keeps parts.User has = λ bad. has (sym (user_at-other_side files own of w.id w.head (tracking_differs remote w.word side.Identities tt)) ∙ bad)
+  track-keeps parts.Packed has = packed_reads-other files (ref_write own (ref_place of w.id) w.head) own (ref-not_packed own of w.id) ∙ has
+  track-keeps parts.Rows has = (bugs has.0, rows-stay own files now objects (λ id. stored_row-ref_write files own of w.id id w.head) has.1)
 
   -- and nothing is lost
   track-loses_nothing : LosesNothing own files now

@@ -15,6 +15,8 @@ use Rattle.dag_entity.specs.Nodes.{IsNodeBelow}
 use Rattle.identity.specs.Persons.{IsChain}
 use Rattle.ref_store.specs.Refs.{Head, Ref}
 use Rattle.ref_store.specs.Setting.{ref_write}
+use Rattle.ref_store.proofs.FrameLemmas.{packed_reads-other}
+use Rattle.repo_state.proofs.PlaceLemmas.{ref-not_packed}
 use Rattle.remote_name.specs.declared.remote.RemoteName.{RemoteName}
 use Rattle.repo_state.specs.Bugs.{IsLocal}
 use Rattle.repo_state.specs.Sides.{has_ref, head_at, is_there, ref_place}
@@ -22,7 +24,7 @@ use Rattle.repo_state.specs.Sound.{AreAuthorsLocal, HasNoFault, HasPart, IsAutho
 use Rattle.repo_state.specs.Sound as parts
 use Rattle.repo_state.specs.declared.side.Side.{Side}
 use Rattle.repo_state.specs.declared.side.Side.TheVariants as side
-use Rattle.repo_state.proofs.KindLemmas.{clock_at-ref_write, head_at-other_side, objects-ref_write, user_at-ref_write}
+use Rattle.repo_state.proofs.KindLemmas.{clock_at-ref_write, head_at-other_side, objects-ref_write, stored_row-ref_write, user_at-ref_write}
 use Rattle.repo_writes.specs.Kept.{LosesNothing}
 use Rattle.repo_writes.proofs.KeptLemmas.{LosesNothing-none, LosesNothing-then}
 use Rattle.sync_steps.specs.Places.{local_side}
@@ -35,7 +37,7 @@ use Rattle.sync_writes.specs.Kinds.{ArePeopleThere, PushWrites}
 use Rattle.sync_writes.proofs.AlikeLemmas.{author-alike, below-alike, chain-alike, head-name, no_fault-alike}
 use Rattle.sync_writes.proofs.PlaceLemmas.{push-place}
 use Rattle.sync_writes.proofs.PutLemmas.{head_at-set, put-keeps, put-loses_nothing}
-use Rattle.repo_writes.proofs.StayLemmas.{authored-stays, bug-stays, identity-stays, part-stays, same-grew, stay-apart, tracking-stays, whole-stays}
+use Rattle.repo_writes.proofs.StayLemmas.{authored-stays, bug-stays, identity-stays, part-stays, rows-stay, same-grew, stay-apart, tracking-stays, whole-stays}
 
 -- an entity on the side of bugs is a bug
 bug_word : (entity : EntityWord) → local_side entity ≡ side.Bugs → entity ≡ word.Bug
@@ -145,6 +147,9 @@ module _ (own peer : List ℕ) (files : Files) (change : Change) (w : IsPeerWrit
     tracking (side.RemoteIdentities remote) id (local_differs remote w.word).1 (has remote id is).1,
   )
   peer-keeps people parts.User ours has = λ bad. has (sym (user_at-ref_write files peer of w.id w.head has) ∙ bad)
+  peer-keeps people parts.Packed ours has = packed_reads-other files (ref_write peer (ref_place of w.id) w.head) peer (ref-not_packed peer of w.id) ∙ has
+  peer-keeps people parts.Rows ours has =
+      (λ id is. bug id is (ours.0 id is) (has.0 id is), rows-stay peer files now objects (λ id. stored_row-ref_write files peer of w.id id w.head) has.1)
 
   -- ---- nothing is lost
 

@@ -6,16 +6,17 @@ use Rattle.gb_text.specs.declared.id.Id.{Id}
 use Rattle.gb_text.specs.declared.id.Name.{Name}
 use Rattle.gb_store.specs.Files.{Files, written}
 use Rattle.gb_store.specs.declared.store.Change.{Change}
-use Rattle.ref_store.specs.Refs.{Head, ref_of}
+use Rattle.ref_store.specs.Refs.{Head, ref_at}
+use Rattle.ref_store.proofs.FrameLemmas.{ref_at-other}
 use Rattle.ref_store.specs.Setting.{ref_write}
-use Rattle.ref_store.proofs.MapLemmas.{joined-same, set_ref_reads, written-other}
+use Rattle.ref_store.proofs.MapLemmas.{joined-same, set_ref_reads}
 use Rattle.remote_copy.specs.NeedWrites.{PutsOneAfterNeeds}
 use Rattle.repo_state.specs.Clocks.{clock_at}
 use Rattle.repo_state.specs.Sides.{head_at, ref_place}
 use Rattle.repo_state.specs.Sound.{HasPart, Part}
 use Rattle.repo_state.specs.declared.side.Side.{Side}
 use Rattle.repo_state.proofs.KindLemmas.{clock_at-object_write, head_at-object_write}
-use Rattle.repo_state.proofs.PlaceLemmas.{ref_place-same, ref_place-side, same_or_other}
+use Rattle.repo_state.proofs.PlaceLemmas.{ref-not_packed, ref_place-same, ref_place-side, same_or_other}
 use Rattle.repo_writes.specs.Kept.{LosesNothing}
 use Rattle.repo_writes.specs.Kinds.{IsWrite, an_object}
 use Rattle.repo_writes.proofs.SoundLemmas.{keeps-part, write-grew}
@@ -52,7 +53,7 @@ head_at-set files folder of on id other head is_id is_other is_head = elim (same
       inr (
         same,
         ref_place-same on id other is_id is_other (ap (λ (s : Side). ref_place s id) (sym same) ∙ places),
-        ap (λ (at : List ℕ). ref_of (written files (ref_write folder (ref_place of id) head) at)) (sym path) ∙ set_ref_reads files folder (ref_place of id) head is_head,
+        ap (ref_at (written files (ref_write folder (ref_place of id) head)) folder) (sym places) ∙ set_ref_reads files folder (ref_place of id) head is_head,
       )
-  | inr differ ↦ inl (ap ref_of (written-other files (ref_write folder (ref_place of id) head) (joined folder (ref_place on other)) differ))
+  | inr differ ↦ inl (ref_at-other files (ref_write folder (ref_place of id) head) folder (ref_place on other) differ (ref-not_packed folder of id))
 ]

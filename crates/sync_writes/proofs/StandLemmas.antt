@@ -1,7 +1,6 @@
 -- What comes of a turn stands when all have had theirs, and what a write leaves.
 use Rattle.std.proofs.Common.{◌≡◌, ◌≢◌, refl, sym, ◌∙◌, ap, subst, arith, ℕ, zero, suc, List, [], ◌∷◌, Contains, Some}
 use Rattle.gb_text.specs.Digits.{IsId, IsName}
-use Rattle.gb_text.specs.Folder.{joined}
 use Rattle.gb_text.specs.declared.id.Id.{Id}
 use Rattle.gb_text.specs.declared.id.Name.{Name}
 use Rattle.gb_store.specs.Files.{Files, History, written}
@@ -16,7 +15,8 @@ use Rattle.repo_state.specs.declared.side.Side.{Side}
 use Rattle.repo_state.proofs.KindLemmas.{head_at-object_write, head_at-other_side}
 use Rattle.repo_state.proofs.ListingLemmas.{Contains-from_map, Contains-map}
 use Rattle.sync_steps.specs.Turns.{Turn, Went}
-use Rattle.sync_steps.proofs.SetLemmas.{AllOnce, NoneIs, head_is_name, id_of, once_of_refs}
+use Rattle.ref_store.proofs.FrameLemmas.{head_is_name}
+use Rattle.sync_steps.proofs.SetLemmas.{AllOnce, NoneIs, id_of, once_of_refs}
 
 -- ---- writes
 
@@ -37,7 +37,7 @@ WasListed files folder of turn = IsId (id_of turn) × (head_at files folder of (
 
 -- a head that was listed is a name
 pub listed_name : (files : Files) (folder : List ℕ) (of : Side) (turn : Turn) (name : Name) → WasListed files folder of turn → turn.entity.head ≡ Some name → IsName name
-listed_name files folder of turn name listed at = head_is_name (files (joined folder (ref_place of (id_of turn)))) name (listed.1 ∙ ap ref_with at)
+listed_name files folder of turn name listed at = head_is_name files folder (ref_place of (id_of turn)) name (listed.1 ∙ ap ref_with at)
 
 module _ (files : Files) (folder : List ℕ) (of : Side) (Step : Turn → History → History → Type 0) (Begun : History → Type 0) (Came : Turn → History → Type 0)
     (goes : (turn : Turn) (old new : History) → Begun old → Step turn old new → Begun new)
