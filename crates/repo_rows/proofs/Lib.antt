@@ -1,2 +1,4 @@
-mod LawLemmas
+pub mod FrameLemmas
 pub mod RowLemmas
+pub mod ReadLemmas
+pub mod LawLemmas

@@ -1,0 +1,8 @@
+use Rattle.std.proofs.Common.{inl}
+use Rattle.gb_store.specs.Files.{files_of}
+use Rattle.repo_lists.proofs.ListLemmas.{people_read}
+use Rattle.repo_lists.proofs.list.list_bugs.Goals as goal
+
+pub returns-in_err-identities-clause-reads : goal.returns-in_err-identities-clause-reads
+returns-in_err-identities-clause-reads g c = λ tells.
+    people_read (files_of (g.S.Store.history c.args.disk.now)) c.args.folder.now (g.S.Store.object_reads c.args.disk.now) (g.S.Store.object_reads c.identity_refs.new.disk) (inl c.identity_refs.ensures.reads)
