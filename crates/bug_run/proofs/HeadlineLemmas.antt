@@ -1,8 +1,6 @@
 -- What the headline says of a run holds where the folder is sound; and bugs with the same operation commits print the same text.
-use Rattle.std.proofs.Common.{◌≡◌, inl, inr, ℕ, IsTrue, List, [], ◌++◌, Result, Ok, Err, Some, refl, sym, ◌∙◌, ap, subst}
-use Rattle.gb_store.specs.Files.{Files, History, files_of}
-use Rattle.gb_store.specs.Moments.{IsMoment}
-use Rattle.merge_steps.specs.declared.line.Pulled.{Pulled}
+use Rattle.std.proofs.Common.{◌≡◌, inl, inr, ℕ, IsTrue, List, [], ◌∷◌, ◌++◌, Result, Ok, Err, refl, sym, ◌∙◌, ap}
+use Rattle.gb_store.specs.Files.{History, files_of}
 use Rattle.merge_steps.proofs.BothSideLemmas.{line_joins}
 use Rattle.merge_steps.proofs.LineJoinLemmas.{line_refused}
 use Rattle.merge_steps.proofs.MergeWriteLemmas.{merge_wrote}
@@ -10,6 +8,7 @@ use Rattle.remote_name.specs.declared.remote.RemoteName.{RemoteName}
 use Rattle.repo_state.specs.Bugs.{FindsBug}
 use Rattle.repo_state.specs.Finds.{FindsNoId}
 use Rattle.repo_state.specs.Sound.{IsSound}
+use Rattle.repo_state.specs.Sound as part
 use Rattle.repo_state.specs.declared.side.HeadEntry.{HeadEntry}
 use Rattle.repo_state.specs.declared.side.Side.TheVariants as side
 use Rattle.repo_state.specs.declared.stop.FindStop.TheVariants as find
@@ -32,10 +31,9 @@ use Rattle.words.specs.declared.words.Command.TheVariants.{Edit, Log, Show, User
 use Rattle.words.specs.declared.words.MergeRequest.{MergeRequest}
 use Rattle.words.specs.declared.words.PeerCommand.{PeerCommand}
 use Rattle.words.specs.declared.words.PeerCommand.TheVariants.{Fetch, Pull, Push}
-use Rattle.words.specs.declared.words.PeerRequest.{PeerRequest}
-use Rattle.words.specs.declared.words.Request.{Request}
 use Rattle.bug_run.specs.Answer.{Answer}
 use Rattle.bug_run.specs.Headline.{CommandEnds, HeadlineHolds, MergeEnds, OwnIsAmong, OwnIsSound, PeerEnds, PullEnds, ShowEnds}
+use Rattle.bug_run.specs.Looks.{first_unread}
 use Rattle.bug_run.specs.Run.{Call, CommandAnswers, PrintedAnswer, RunAnswers, env_at, status_for, status_of, text_of}
 use Rattle.bug_run.specs.Runs.{AreApart, Runs}
 use Rattle.bug_run.specs.declared.status.Refused.TheVariants.{ByCommand}
@@ -44,10 +42,12 @@ use Rattle.bug_run.specs.declared.status.Status.TheVariants as status
 use Rattle.bug_run.proofs.ExchangeLemmas.{apart}
 use Rattle.bug_run.proofs.ExchangeWriteLemmas.{in_time}
 use Rattle.bug_run.proofs.LineLemmas.{exchange_has_lines, merge_has_lines, merge_tells, pull_tells}
+use Rattle.bug_run.proofs.ListLemmas.{list_ends}
 use Rattle.bug_run.proofs.RunsLemmas.{runs_from_nothing}
-use Rattle.bug_run.proofs.ServedLemmas.{done_was}
+use Rattle.bug_run.proofs.LookLemmas.{look_done, not_begun}
+use Rattle.bug_run.proofs.ServedLemmas.{done_begun, done_was}
 use Rattle.bug_run.proofs.UserStayLemmas.{last_moment}
-use Rattle.bug_run.proofs.WordLemmas.{answered}
+use Rattle.bug_run.proofs.WordLemmas.{answered, printed_told}
 
 module _ (call : Call) (old new : History) (before after : List ℕ) (answer : Status) (tells : IsTrue call.store_tells) (prints : IsTrue call.sink_tells)
     (is : RunAnswers call old new before after answer) where
@@ -88,7 +88,13 @@ module _ (call : Call) (old new : History) (before after : List ℕ) (answer : S
     show_ends : call.asked ≡ asked.Request (record { folder = folder; command = Show sought }) → ShowEnds folder sought old new before after answer
     show_ends asks =
         let a = answered call (record { folder = folder; command = Show sought }) old new before after answer asks is in
-        show_by a.result (a.done tells) a.printed
+        let first = first_unread (files_of old) (folder ∷ []) in
+        elim (a.done tells) [
+          | inl unbegun ↦
+              inr (inr (not_begun first (look_done (files_of old) folder (sound part.Packed)) a.result answer unbegun.0
+              (printed_told call (text_of a.result) before after (status_of a.result) answer a.printed)))
+          | inr answers ↦ show_by a.result answers.1 a.printed
+        ]
 
   command_ends : (folder : List ℕ) (command : Command) → IsSound folder (files_of old) → call.asked ≡ asked.Request (record { folder = folder; command = command })
       → CommandEnds command folder old new before after answer
@@ -150,6 +156,7 @@ module _ (call : Call) (old new : History) (before after : List ℕ) (answer : S
   by_asked (asked.Request request) e own = command_ends request.folder request.command (own request.folder refl) e
   by_asked (asked.Exchange request) e own = peer_ends request.pair request.command (own request.pair.own refl) e
   by_asked (asked.Merge request) e own = merge_ends request (own request.folder refl) e
+  by_asked (asked.List request) e own = list_ends call old new before after request tells e (own request.folder refl) prints answer is
 
   pub run_headline : OwnIsSound call.asked (files_of old) → HeadlineHolds call.asked call.moment old new before after answer
   run_headline own = by_asked call.asked refl own
@@ -175,7 +182,7 @@ module _ (call other : Call) (old new elder newer : History) (before after earli
       let two = answered other (record { folder = place; command = Show words }) elder newer earlier later status.Done also too in
       let was = done_was call.sink_tells call.takes_memory before after one.result one.printed in
       let went = done_was other.sink_tells other.takes_memory earlier later two.result two.printed in
-      let first : CommandAnswers (env_at call.moment folder) (Show sought) old new (Ok was.0) = subst (CommandAnswers (env_at call.moment folder) (Show sought) old new) was.1 (one.done tells) in
-      let second : CommandAnswers (env_at other.moment place) (Show words) elder newer (Ok went.0) = subst (CommandAnswers (env_at other.moment place) (Show words) elder newer) went.1 (two.done others) in
+      let first = done_begun call old new (record { folder = folder; command = Show sought }) one.result was.0 was.1 (one.done tells) in
+      let second = done_begun other elder newer (record { folder = place; command = Show words }) two.result went.0 went.1 (two.done others) in
       let same = same_shown (files_of old) (files_of elder) folder place sought words was.0.text went.0.text bug top finds found commits agree first.0.0 second.0.0 in
       (was.0.text, was.2 prints, went.2 printed ∙ ap (λ (text : List ℕ). earlier ++ text) (sym same))

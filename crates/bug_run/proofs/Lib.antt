@@ -3,7 +3,9 @@ pub mod AnswerLemmas
 pub mod ExchangeLemmas
 pub mod ExchangeWriteLemmas
 pub mod HeadlineLemmas
+pub mod LookLemmas
 pub mod LineLemmas
+pub mod ListLemmas
 pub mod MergeLawLemmas
 pub mod ReadLemmas
 pub mod RunLemmas

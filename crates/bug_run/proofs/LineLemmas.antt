@@ -1,5 +1,5 @@
 -- What is printed of the lines of an exchange or a merge, and that a sound folder has a line for each entity.
-use Rattle.std.proofs.Common.{◌≡◌, ◌<◌, ◌^◌, inl, inr, ℕ, zero, suc, Bool, true, false, IsTrue, List, ◌∷◌, ◌++◌, length, take, Contains, Result, Ok, Err, Option, Some, None, refl, sym, ◌∙◌, ap, subst, arith}
+use Rattle.std.proofs.Common.{◌≡◌, ◌<◌, ◌^◌, inl, inr, ℕ, zero, suc, Bool, true, false, IsTrue, ◌⊎◌, List, [], ◌∷◌, ◌++◌, length, take, Contains, Result, Ok, Err, Option, Some, None, refl, sym, ◌∙◌, ap, subst, arith}
 use Rattle.std.proofs.lemmas.List.Elements.{Contains-append_right}
 use Rattle.gb_text.specs.Digits.{IsId}
 use Rattle.gb_text.specs.declared.id.Id.{Id}
@@ -7,7 +7,8 @@ use Rattle.gb_text.specs.declared.id.Name.{Name}
 use Rattle.gb_store.specs.Files.{Files, History, files_of}
 use Rattle.gb_store.specs.Moments.{WroteBy}
 use Rattle.object_store.specs.Held.{objects_in}
-use Rattle.ref_store.specs.Refs.{Ref, Bad}
+use Rattle.gb_text.specs.Folder.{joined}
+use Rattle.ref_store.specs.Refs.{Ref, Bad, packed_place}
 use Rattle.remote_name.specs.declared.remote.RemoteName.{RemoteName}
 use Rattle.repo_state.specs.Listed.{AreRefs, ref_with}
 use Rattle.repo_state.specs.Sides.{head_at}
@@ -47,13 +48,15 @@ use Rattle.words.specs.declared.words.PeerCommand.TheVariants.{Fetch, Pull, Push
 use Rattle.words.specs.declared.words.PeerRequest.{PeerRequest}
 use Rattle.bug_run.specs.Answer.{Answer}
 use Rattle.bug_run.specs.Exchanges.{ExchangeAnswers, ExchangeWrites, MergeTold, Told, answer_of, answer_of_merge, answer_of_pull, stop_of_merge}
+use Rattle.bug_run.specs.Looks.{Guarded, first_unread, pair_looks}
 use Rattle.bug_run.specs.Printed.{HasLines, IsTold, Printed}
 use Rattle.bug_run.specs.Run.{Call, MergeRequestAnswers, PeerRequestAnswers, PrintedAnswer, RunAnswers, status_for, status_of, text_of}
-use Rattle.bug_run.specs.Served.{IsAnsweredBut, MayRefuse, MayRefusePeer}
+use Rattle.bug_run.specs.Served.{IsAnsweredBut, IsPeerUnread, MayRefuse, MayRefusePeer}
 use Rattle.bug_run.specs.declared.status.Status.{Status}
 use Rattle.bug_run.specs.declared.status.Status.TheVariants as status
 use Rattle.bug_run.proofs.ExchangeLemmas.{exchange_stays_sound}
 use Rattle.bug_run.proofs.ExchangeWriteLemmas.{exchange_wrote, in_time}
+use Rattle.bug_run.proofs.LookLemmas.{begun, look_done, peer_unread, refused_by}
 use Rattle.bug_run.proofs.ReadLemmas.{never_lines, other_status}
 use Rattle.bug_run.proofs.UsageLemmas.{cut_of}
 use Rattle.bug_run.proofs.UserStayLemmas.{fetch_keeps_user, last_moment, no_user, read_damage, read_has_user}
@@ -76,12 +79,13 @@ lines_printed tells takes before after result answer has (inr (inl h)) = absurd 
 lines_printed tells takes before after result answer has (inr (inr h)) = absurd ((other_status answer has).1 h.0)
 
 -- so what was answered are these lines
-told_lines : {Lines Why : Type 0} (answer_of_lines : Lines → Answer) (stop_of : Why → Stop) (Answers : Result Lines Why → Type 0) (call : Call) (before after : List ℕ) (result : Result Answer Stop) (answer : Status)
-    → IsTrue call.sink_tells → HasLines answer → Told answer_of_lines stop_of Answers result → PrintedAnswer call result before after answer
+told_lines : {Lines Why : Type 0} (first : Option (List ℕ)) (old new : History) (answer_of_lines : Lines → Answer) (stop_of : Why → Stop) (Answers : Result Lines Why → Type 0) (call : Call)
+    (before after : List ℕ) (result : Result Answer Stop) (answer : Status)
+    → IsTrue call.sink_tells → HasLines answer → Guarded first (Told answer_of_lines stop_of Answers) old new result → PrintedAnswer call result before after answer
     → (lines : Lines) × Answers (Ok lines) × (after ≡ before ++ (answer_of_lines lines).text) × (answer ≡ status_for (answer_of_lines lines).refused)
-told_lines answer_of_lines stop_of Answers call before after result answer prints has told printed =
+told_lines first old new answer_of_lines stop_of Answers call before after result answer prints has told printed =
     let was = lines_printed call.sink_tells call.takes_memory before after result answer has printed in
-    let is : Told answer_of_lines stop_of Answers (Ok was.0) = subst (Told answer_of_lines stop_of Answers) was.1 told in
+    let is = begun first (Told answer_of_lines stop_of Answers) old new was.0 (subst (Guarded first (Told answer_of_lines stop_of Answers) old new) was.1 told) in
     (is.0, is.1, was.2 prints ∙ ap (λ (a : Answer). before ++ a.text) is.2, was.3 ∙ ap (λ (a : Answer). status_for a.refused) is.2)
 
 module _ (call : Call) (old new : History) (before after : List ℕ) (answer : Status) (pair : FolderPair) (tells : IsTrue call.store_tells) (prints : IsTrue call.sink_tells) where
@@ -89,20 +93,20 @@ module _ (call : Call) (old new : History) (before after : List ℕ) (answer : S
       → (lines : List Line) × FetchAnswers pair.own pair.peer remote old new (Ok lines) × (after ≡ before ++ lines_text_of lines) × (answer ≡ status_for (refused_in lines))
   fetch_tells remote asks is has =
       let e = exchanged call (record { pair = pair; command = Fetch remote }) old new before after answer asks is in
-      told_lines answer_of stop_of_read (FetchAnswers pair.own pair.peer remote old new) call before after e.result answer prints has (e.done tells) e.printed
+      told_lines (first_unread (files_of old) (pair_looks (Fetch remote) pair (files_of old))) old new answer_of stop_of_read (FetchAnswers pair.own pair.peer remote old new) call before after e.result answer prints has (e.done tells) e.printed
 
   pub push_tells : call.asked ≡ asked.Exchange (record { pair = pair; command = Push }) → RunAnswers call old new before after answer → HasLines answer
       → (lines : List Line) × PushAnswers pair.own pair.peer old new (Ok lines) × (after ≡ before ++ lines_text_of lines) × (answer ≡ status_for (refused_in lines))
   push_tells asks is has =
       let e = exchanged call (record { pair = pair; command = Push }) old new before after answer asks is in
-      told_lines answer_of stop_of_read (PushAnswers pair.own pair.peer old new) call before after e.result answer prints has (e.done tells) e.printed
+      told_lines (first_unread (files_of old) (pair_looks Push pair (files_of old))) old new answer_of stop_of_read (PushAnswers pair.own pair.peer old new) call before after e.result answer prints has (e.done tells) e.printed
 
   pub pull_tells : (remote : RemoteName) → call.asked ≡ asked.Exchange (record { pair = pair; command = Pull remote }) → RunAnswers call old new before after answer → HasLines answer
       → (pulled : Pulled) × PullAnswers pair.own pair.peer remote call.moment.now old new (Ok pulled)
       × (after ≡ before ++ (answer_of_pull pulled).text) × (answer ≡ status_for (answer_of_pull pulled).refused)
   pull_tells remote asks is has =
       let e = exchanged call (record { pair = pair; command = Pull remote }) old new before after answer asks is in
-      told_lines answer_of_pull stop_of_merge (PullAnswers pair.own pair.peer remote call.moment.now old new) call before after e.result answer prints has (e.done tells) e.printed
+      told_lines (first_unread (files_of old) (pair_looks (Pull remote) pair (files_of old))) old new answer_of_pull stop_of_merge (PullAnswers pair.own pair.peer remote call.moment.now old new) call before after e.result answer prints has (e.done tells) e.printed
 
 pub merge_tells : (call : Call) (old new : History) (before after : List ℕ) (answer : Status) (request : MergeRequest) → IsTrue call.store_tells → IsTrue call.sink_tells
     → call.asked ≡ asked.Merge request → RunAnswers call old new before after answer → HasLines answer
@@ -110,7 +114,7 @@ pub merge_tells : (call : Call) (old new : History) (before after : List ℕ) (a
     × (after ≡ before ++ (answer_of_merge lines).text) × (answer ≡ status_for (answer_of_merge lines).refused)
 merge_tells call old new before after answer request tells prints asks is has =
     let m = merged call request old new before after answer asks is in
-    told_lines answer_of_merge stop_of_merge (MergeAnswers request.folder request.remote call.moment.now old new) call before after m.result answer prints has (m.done tells) m.printed
+    told_lines (first_unread (files_of old) (request.folder ∷ [])) old new answer_of_merge stop_of_merge (MergeAnswers request.folder request.remote call.moment.now old new) call before after m.result answer prints has (m.done tells) m.printed
 
 -- ---- a sound folder has lines
 
@@ -261,9 +265,15 @@ pull_refuses remote pair now limit old new r sound later why (inr (inr (fetched,
     (λ path e. merge_not_damaged pair.own remote now both.mid new path middle later (subst (λ (w : MergeStop). MergeAnswers pair.own remote now both.mid new (Err w)) e both.then))
     (λ e. sym (fetch_keeps_user pair.own pair.peer remote old both.mid (sound part.User) wrote) ∙ no_user pair.own remote now both.mid new (subst (λ (w : MergeStop). MergeAnswers pair.own remote now both.mid new (Err w)) e both.then))
 
+-- why a command with a peer may be refused once it has begun
+abbrev MayRefuseBegun : PeerCommand → FolderPair → History → Refusal → Type 0
+MayRefuseBegun (Fetch remote) pair old r = ⊥
+MayRefuseBegun (Pull remote) pair old r = MayRefuse pair.own old r
+MayRefuseBegun Push pair old r = ⊥
+
 -- the refusals of a command with a peer, in a folder that was sound
 peer_refuses : (command : PeerCommand) (pair : FolderPair) (now : ℕ) → now < 2 ^ 64 → (old new : History) (r : Refusal) → IsSound pair.own (files_of old)
-    → ExchangeAnswers command pair now old new (Err (stop.Refused r)) → MayRefusePeer command pair old r
+    → ExchangeAnswers command pair now old new (Err (stop.Refused r)) → MayRefuseBegun command pair old r
 peer_refuses (Fetch remote) pair now limit old new r sound (inr (want, (lines, is))) = absurd (cc (want))
 peer_refuses (Fetch remote) pair now limit old new r sound (inl (why, is, told)) =
     let damaged = read_refuses r why told in
@@ -279,14 +289,31 @@ peer_refuses (Pull remote) pair now limit old new r sound (inl (why, is, told)) 
     let wrote = exchange_wrote (Pull remote) pair now limit old new (Err (stop.Refused r)) (inl (why, is, told)) in
     pull_refuses remote pair now limit old new r sound (own_stays_sound (Pull remote) pair old new sound wrote) why is told
 
+-- a refusal before that is of the peer's packed refs
+pair_refuses : (command : PeerCommand) (pair : FolderPair) (old : History) (r : Refusal) → IsPeerUnread pair old r ⊎ MayRefuseBegun command pair old r → MayRefusePeer command pair old r
+pair_refuses (Fetch remote) pair old r (inl unread) = unread
+pair_refuses (Pull remote) pair old r (inl unread) = inr unread
+pair_refuses Push pair old r (inl unread) = unread
+pair_refuses (Fetch remote) pair old r (inr may) = absurd may
+pair_refuses (Pull remote) pair old r (inr may) = inl may
+pair_refuses Push pair old r (inr may) = absurd may
+
+guarded_refuses : (command : PeerCommand) (pair : FolderPair) (now : ℕ) → now < 2 ^ 64 → (old new : History) (r : Refusal) → IsSound pair.own (files_of old)
+    → Guarded (first_unread (files_of old) (pair_looks command pair (files_of old))) (ExchangeAnswers command pair now old new) old new (Err (stop.Refused r)) → MayRefusePeer command pair old r
+guarded_refuses command pair now limit old new r sound (inr is) = pair_refuses command pair old r (inr (peer_refuses command pair now limit old new r sound is.1))
+guarded_refuses command pair now limit old new r sound (inl ((folder, unread, told), same)) =
+    let files = files_of old in
+    let peer = peer_unread command pair files (look_done files pair.own (sound part.Packed)) folder unread in
+    pair_refuses command pair old r (inl (peer.0, told ∙ ap (λ (f : List ℕ). refusal.Damaged (joined f packed_place)) peer.1))
+
 pub exchange_has_lines : (call : Call) (old new : History) (before after : List ℕ) (answer : Status) (request : PeerRequest) → IsTrue call.store_tells
     → call.asked ≡ asked.Exchange request → IsSound request.pair.own (files_of old) → RunAnswers call old new before after answer
     → IsAnsweredBut (MayRefusePeer request.command request.pair old) answer
 exchange_has_lines call old new before after answer request tells asks sound is =
     let e = exchanged call request old new before after answer asks is in
     answered_told (MayRefusePeer request.command request.pair old) e.result answer
-    (λ r refused. peer_refuses request.command request.pair call.moment.now (in_time call.moment) old new r sound
-    (subst (ExchangeAnswers request.command request.pair call.moment.now old new) refused (e.done tells)))
+    (λ r refused. guarded_refuses request.command request.pair call.moment.now (in_time call.moment) old new r sound
+    (subst (Guarded (first_unread (files_of old) (pair_looks request.command request.pair (files_of old))) (ExchangeAnswers request.command request.pair call.moment.now old new) old new) refused (e.done tells)))
     (printed_told call (text_of e.result) before after (status_of e.result) answer e.printed)
 
 pub merge_has_lines : (call : Call) (old new : History) (before after : List ℕ) (answer : Status) (request : MergeRequest) → IsTrue call.store_tells
@@ -295,8 +322,11 @@ pub merge_has_lines : (call : Call) (old new : History) (before after : List ℕ
 merge_has_lines call old new before after answer request tells asks sound is =
     let m = merged call request old new before after answer asks is in
     answered_told (MayRefuse request.folder old) m.result answer
-    (λ r refused. merge_refuses request.folder request.remote call.moment.now (in_time call.moment) old new r sound
-    (subst (MergeTold request call.moment.now old new) refused (m.done tells)))
+    (λ r refused.
+    let first = first_unread (files_of old) (request.folder ∷ []) in
+    merge_refuses request.folder request.remote call.moment.now (in_time call.moment) old new r sound
+    (refused_by first (MergeTold request call.moment.now old new) old new (look_done (files_of old) request.folder (sound part.Packed)) r
+    (subst (Guarded first (MergeTold request call.moment.now old new) old new) refused (m.done tells))))
     (printed_told call (text_of m.result) before after (status_of m.result) answer m.printed)
 
 -- ---- the output fails

@@ -1,18 +1,18 @@
 -- What a run writes: it is of what its arguments ask for, and keeps the folders sound that they name.
-use Rattle.std.proofs.Common.{ℕ, IsTrue, List, ◌++◌, Result, Ok, Err}
+use Rattle.std.proofs.Common.{ℕ, IsTrue, List, [], ◌∷◌, ◌++◌, Result, Ok, Err}
 use Rattle.gb_store.specs.Files.{History, files_of}
 use Rattle.gb_store.specs.Moments.{Wrote, WroteBy, at_moment}
 use Rattle.gb_store.specs.declared.store.Change.{Change}
-use Rattle.gb_store.proofs.MomentLemmas.{WroteBy-none, WroteBy-wider}
+use Rattle.gb_store.proofs.MomentLemmas.{Wrote-wider, WroteBy-none, WroteBy-wider}
 use Rattle.bug_edits.specs.declared.moment.Moment.{Moment}
 use Rattle.repo_steps.specs.declared.env.Env.{Env}
 use Rattle.repo_steps.specs.declared.refusal.Stop.{Stop}
-use Rattle.repo_writes.specs.Kinds.{IsWrite}
+use Rattle.repo_writes.specs.Kinds.{IsRowWrite, IsWrite, a_row}
 use Rattle.words.specs.declared.edit.Edit.{Edit as Edits}
 use Rattle.repo_steps.specs.Writes.{IsWriteOf}
 use Rattle.repo_steps.proofs.WriteOfLemmas.{answers_wrote_of}
 use Rattle.repo_writes.proofs.SoundLemmas.{keeps_parts, keeps_sound}
-use Rattle.bug_run.specs.Run.{AskedAnswers, AskedWrites, Call, CommandAnswers, CommandWrites, EditTells, RunAnswers, RunStaysSound, RunWrites, env_at}
+use Rattle.bug_run.specs.Run.{AskedAnswers, AskedWrites, Call, CommandAnswers, CommandWrites, EditTells, ListTold, RunAnswers, RunStaysSound, RunWrites, env_at}
 use Rattle.bug_run.specs.Answer.{Answer}
 use Rattle.bug_run.specs.declared.status.Status.{Status}
 use Rattle.words.specs.declared.words.Asked.{Asked}
@@ -20,6 +20,9 @@ use Rattle.words.specs.declared.words.Asked.TheVariants as asked
 use Rattle.words.specs.declared.words.Command.{Command}
 use Rattle.words.specs.declared.words.Command.TheVariants.{Edit, Log, Show, Users}
 use Rattle.words.specs.declared.words.Request.{Request}
+use Rattle.bug_run.specs.Exchanges.{ExchangeAnswers, MergeTold}
+use Rattle.bug_run.specs.Looks.{first_unread, pair_looks}
+use Rattle.bug_run.proofs.LookLemmas.{guarded_wrote}
 use Rattle.bug_run.proofs.ExchangeLemmas.{exchange_stays_sound}
 use Rattle.bug_run.proofs.ExchangeWriteLemmas.{exchange_wrote, in_time, merge_told_wrote}
 
@@ -39,10 +42,17 @@ asked_wrote : (asks : Asked) (call : Call) (old new : History) (before after : L
 asked_wrote asked.Nothing call old new before after answer tells is = WroteBy-none (AskedWrites asked.Nothing call.moment) old new (is.0 tells)
 asked_wrote (asked.Refused bad) call old new before after answer tells is = WroteBy-none (AskedWrites (asked.Refused bad) call.moment) old new (is.0 tells)
 asked_wrote (asked.Request request) call old new before after answer tells is =
-    command_wrote (env_at call.moment request.folder) request.command old new is.0 (is.1 tells)
+    guarded_wrote (first_unread (files_of old) (request.folder ∷ [])) (CommandAnswers (env_at call.moment request.folder) request.command old new) old new
+    (AskedWrites (asked.Request request) call.moment) is.0 (command_wrote (env_at call.moment request.folder) request.command old new is.0) (is.1 tells)
 asked_wrote (asked.Exchange request) call old new before after answer tells is =
-    exchange_wrote request.command request.pair call.moment.now (in_time call.moment) old new is.0 (is.1 tells)
-asked_wrote (asked.Merge request) call old new before after answer tells is = merge_told_wrote request call.moment.now (in_time call.moment) old new is.0 (is.1 tells)
+    guarded_wrote (first_unread (files_of old) (pair_looks request.command request.pair (files_of old))) (ExchangeAnswers request.command request.pair call.moment.now old new) old new
+    (AskedWrites (asked.Exchange request) call.moment) is.0 (exchange_wrote request.command request.pair call.moment.now (in_time call.moment) old new is.0) (is.1 tells)
+asked_wrote (asked.Merge request) call old new before after answer tells is =
+    guarded_wrote (first_unread (files_of old) (request.folder ∷ [])) (MergeTold request call.moment.now old new) old new
+    (AskedWrites (asked.Merge request) call.moment) is.0 (merge_told_wrote request call.moment.now (in_time call.moment) old new is.0) (is.1 tells)
+asked_wrote (asked.List request) call old new before after answer tells is =
+    guarded_wrote (first_unread (files_of old) (request.folder ∷ [])) (ListTold request old new) old new
+    (AskedWrites (asked.List request) call.moment) is.0 (λ told. told.1) (is.1 tells)
 
 pub run_wrote : (call : Call) (old new : History) (before after : List ℕ) (answer : Status) → IsTrue call.store_tells → RunAnswers call old new before after answer
     → WroteBy (RunWrites call) old new
@@ -62,6 +72,10 @@ of_kinds request moment old new wrote =
     WroteBy-wider (AskedWrites (asked.Request request) moment) (at_moment (IsWrite request.folder)) old new
     (λ (earlier : List Change) (change : Change) write. write_kind (env_at moment request.folder) request.command old earlier change write) wrote
 
+-- and all that is written for a list
+pub of_rows : (folder : List ℕ) (old new : History) → Wrote (IsRowWrite folder) old new → Wrote (IsWrite folder) old new
+of_rows folder old new wrote = Wrote-wider (IsRowWrite folder) (IsWrite folder) old new (λ files change row. a_row row) wrote
+
 -- what is written keeps the folders sound that arguments name
 asked_stays_sound : (asks : Asked) (moment : Moment) (old new : History) → WroteBy (AskedWrites asks moment) old new → RunStaysSound asks old new
 asked_stays_sound asked.Nothing moment old new wrote = tt
@@ -72,6 +86,9 @@ asked_stays_sound (asked.Request request) moment old new wrote =
 asked_stays_sound (asked.Exchange request) moment old new wrote = exchange_stays_sound request.command request.pair old new wrote
 asked_stays_sound (asked.Merge request) moment old new wrote =
     let kept = keeps_parts request.folder old new wrote in
+    record { parts = kept; whole = keeps_sound request.folder old new kept }
+asked_stays_sound (asked.List request) moment old new wrote =
+    let kept = keeps_parts request.folder old new (of_rows request.folder old new wrote) in
     record { parts = kept; whole = keeps_sound request.folder old new kept }
 
 pub run_stays_sound : (call : Call) (old new : History) → WroteBy (RunWrites call) old new → RunStaysSound call.asked old new

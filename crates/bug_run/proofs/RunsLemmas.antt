@@ -23,7 +23,7 @@ use Rattle.words.specs.declared.words.Asked.TheVariants as asked
 use Rattle.words.specs.declared.words.PeerCommand.{PeerCommand}
 use Rattle.words.specs.declared.words.PeerCommand.TheVariants.{Fetch, Pull, Push}
 use Rattle.bug_run.proofs.ExchangeLemmas.{exchange_leaves_apart, exchange_loses_nothing, exchange_stays_sound}
-use Rattle.bug_run.proofs.RunLemmas.{of_kinds, run_wrote}
+use Rattle.bug_run.proofs.RunLemmas.{of_kinds, of_rows, run_wrote}
 
 -- what writes keep of one of some folders
 record Keeps (folders : List (List ℕ)) (folder : List ℕ) (old new : History) : Type 0 where
@@ -98,6 +98,7 @@ module _ (folders : List (List ℕ)) (apart : AreApart folders) (folder : List �
   asked_keeps (asked.Exchange request) moment old new place wrote =
       exchanged request.command request.pair old new place.1 (this_or_apart (written_by request.command request.pair) place.0) wrote
   asked_keeps (asked.Merge request) moment old new place wrote = there request.folder old new (this_or_apart request.folder place) wrote
+  asked_keeps (asked.List request) moment old new place wrote = there request.folder old new (this_or_apart request.folder place) (of_rows request.folder old new wrote)
 
   -- a run keeps each of these folders at the moment where it stops
   run_keeps : (old new : History) → IsRun folders old new → (AreAllSound folders (files_of old) → IsSound folder (files_of new)) × LosesNothing folder (files_of old) (files_of new)

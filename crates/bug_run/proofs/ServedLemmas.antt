@@ -1,8 +1,9 @@
 -- In a sound folder a command is done wherever nothing is a cause to refuse it; and what is printed of a bug.
-use Rattle.std.proofs.Common.{◌≡◌, ◌⊎◌, inl, inr, ℕ, Bool, IsTrue, List, ◌++◌, Result, Ok, Err, refl, ◌∙◌, ap, subst}
+use Rattle.std.proofs.Common.{◌≡◌, ◌⊎◌, inl, inr, ℕ, Bool, IsTrue, List, ◌++◌, [], ◌∷◌, Result, Ok, Err, refl, ◌∙◌, ap, subst}
 use Rattle.gb_store.specs.Files.{Files, History, files_of}
 use Rattle.repo_state.specs.Finds.{FindsNoId}
 use Rattle.repo_state.specs.Sound.{IsSound}
+use Rattle.repo_state.specs.Sound as part
 use Rattle.repo_steps.specs.declared.env.Env.{Env}
 use Rattle.repo_steps.specs.declared.refusal.Refusal.{Refusal}
 use Rattle.repo_steps.specs.declared.refusal.Stop.{Stop}
@@ -15,6 +16,7 @@ use Rattle.repo_view.specs.Log.{LogAnswers}
 use Rattle.repo_view.specs.Shown.{ShowAnswers}
 use Rattle.repo_view.proofs.LawLemmas.{log_not_damaged}
 use Rattle.repo_view.proofs.ShownLemmas.{show_not_damaged, users_not_damaged}
+use Rattle.bug_run.specs.Looks.{Guarded, first_unread}
 use Rattle.bug_run.specs.Printed.{IsTold, Printed}
 use Rattle.bug_run.specs.Run.{Call, CommandAnswers, RunAnswers, env_at, status_for, status_of, text_of}
 use Rattle.bug_run.specs.Served.{HasCause, ShowsOperations}
@@ -25,6 +27,7 @@ use Rattle.words.specs.declared.words.Asked.TheVariants as asked
 use Rattle.words.specs.declared.words.Command.{Command}
 use Rattle.words.specs.declared.words.Command.TheVariants.{Edit, Log, Show, Users}
 use Rattle.words.specs.declared.words.Request.{Request}
+use Rattle.bug_run.proofs.LookLemmas.{begun, look_done, not_begun}
 use Rattle.bug_run.proofs.WordLemmas.{answered, printed_told}
 
 -- ---- commands that read
@@ -62,7 +65,7 @@ abbrev pub IsServed : Status → Type 0
 IsServed answer = (answer ≡ status.Done) ⊎ ((answer ≡ status.Memory) ⊎ ((answer ≡ status.DiskFault) ⊎ (answer ≡ status.OutFault)))
 
 -- what is told of an answer that is no refusal
-served_told : (result : Result Answer Stop) (answer : Status) → ((said : Answer) → result ≡ Ok said → said.refused ≡ 0) → ((r : Refusal) → result ≡ Err (stop.Refused r) → ⊥)
+pub served_told : (result : Result Answer Stop) (answer : Status) → ((said : Answer) → result ≡ Ok said → said.refused ≡ 0) → ((r : Refusal) → result ≡ Err (stop.Refused r) → ⊥)
     → IsTold (status_of result) answer → IsServed answer
 served_told result answer plain taken (inr (inl fault)) = inr (inr (inr fault))
 served_told result answer plain taken (inr (inr memory)) = inr (inl memory)
@@ -77,10 +80,13 @@ pub run_served : (call : Call) (old new : History) (before after : List ℕ) (an
 run_served call old new before after answer request tells asks sound none is =
     let a = answered call request old new before after answer asks is in
     let env = env_at call.moment request.folder in
-    let answers = a.done tells in
-    served_told a.result answer (λ said e. no_line env request.command old new said (subst (CommandAnswers env request.command old new) e answers))
-    (λ r e. served env request.command old new sound none r (subst (CommandAnswers env request.command old new) e answers))
-    (printed_told call (text_of a.result) before after (status_of a.result) answer a.printed)
+    let told = printed_told call (text_of a.result) before after (status_of a.result) answer a.printed in
+    elim (a.done tells) [
+      | inl unbegun ↦ inr (not_begun (first_unread (files_of old) (request.folder ∷ [])) (look_done (files_of old) request.folder (sound part.Packed)) a.result answer unbegun.0 told)
+      | inr answers ↦
+          served_told a.result answer (λ said e. no_line env request.command old new said (subst (CommandAnswers env request.command old new) e answers.1))
+          (λ r e. served env request.command old new sound none r (subst (CommandAnswers env request.command old new) e answers.1)) told
+    ]
 
 -- ---- a bug as it is shown
 
@@ -96,6 +102,15 @@ done_was tells takes before after (Err (stop.Refused r)) (inl h) = absurd (cc (h
 done_was tells takes before after (Err s) (inr (inl h)) = absurd (cc (h.0))
 done_was tells takes before after (Err s) (inr (inr h)) = absurd (cc (h.0))
 
+-- what is done was begun
+pub done_begun : (call : Call) (old new : History) (request : Request) (result : Result Answer Stop) (said : Answer) → result ≡ Ok said
+    → Guarded (first_unread (files_of old) (request.folder ∷ [])) (CommandAnswers (env_at call.moment request.folder) request.command old new) old new result
+    → CommandAnswers (env_at call.moment request.folder) request.command old new (Ok said)
+done_begun call old new request result said is guarded =
+    let first = first_unread (files_of old) (request.folder ∷ []) in
+    let Answers = CommandAnswers (env_at call.moment request.folder) request.command old new in
+    begun first Answers old new said (subst (Guarded first Answers old new) is guarded)
+
 -- a run that shows a bug and is done prints it by its operations in order, and writes nothing
 pub run_shows : (call : Call) (old new : History) (before after word folder : List ℕ) → IsTrue call.store_tells → IsTrue call.sink_tells
     → call.asked ≡ asked.Request (record { folder = folder; command = Show word }) → RunAnswers call old new before after status.Done
@@ -103,7 +118,7 @@ pub run_shows : (call : Call) (old new : History) (before after word folder : Li
 run_shows call old new before after word folder tells prints asks is =
     let a = answered call (record { folder = folder; command = Show word }) old new before after status.Done asks is in
     let was = done_was call.sink_tells call.takes_memory before after a.result a.printed in
-    let answers : CommandAnswers (env_at call.moment folder) (Show word) old new (Ok was.0) = subst (CommandAnswers (env_at call.moment folder) (Show word) old new) was.1 (a.done tells) in
+    let answers = done_begun call old new (record { folder = folder; command = Show word }) a.result was.0 was.1 (a.done tells) in
     let shown = answers.0.0 in (
       was.0.text,
       record { bug = shown.0; finds = shown.1; ops = shown.2.ops; in_order = shown.2.are; people = shown.2.people; are_people = shown.2.are_people; shows = shown.2.is },

@@ -11,7 +11,7 @@ use Rattle.repo_state.specs.Users.{BadUser, NoUser, user_at}
 use Rattle.repo_state.specs.declared.stop.ReadStop.{ReadStop}
 use Rattle.repo_state.specs.declared.stop.ReadStop.TheVariants as read
 use Rattle.repo_state.proofs.KindLemmas.{user_at-put, user_at-ref_write}
-use Rattle.repo_state.proofs.PlaceLemmas.{user-not_object}
+use Rattle.repo_state.proofs.PlaceLemmas.{object-not_packed, user-not_object}
 use Rattle.repo_steps.proofs.Names.{object_name}
 use Rattle.merge_steps.specs.Stops.{stop_of_read}
 use Rattle.merge_steps.specs.Turns.{MergeAnswers}
@@ -34,7 +34,7 @@ module _ (own peer : List ℕ) (remote : RemoteName) (old new : History) (sound 
   leaves earlier change same (inl puts) =
       let files = files_of (earlier ++ old) in
       let text = puts.1.text in
-      let still = user_at-put files own (joined own (object_place (object_name text))) text (λ e. user-not_object own (object_name text) (sym e)) (λ bad. sound (sym same ∙ bad)) in
+      let still = user_at-put files own (joined own (object_place (object_name text))) text (λ e. user-not_object own (object_name text) (sym e)) (object-not_packed own (object_name text)) (λ bad. sound (sym same ∙ bad)) in
       subst (λ (c : Change). user_at (written files c) own ≡ user_at (files_of old) own) (sym puts.1.write) (still ∙ same)
   leaves earlier change same (inr head) =
       let files = files_of (earlier ++ old) in

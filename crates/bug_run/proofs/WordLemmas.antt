@@ -65,6 +65,9 @@ usage_only call old new before after is = each call.asked is
     each (asked.Merge request) (result, done, inl printed) = absurd ((never_by_words result).0 (sym printed.0))
     each (asked.Merge request) (result, done, inr (inl (fault, front))) = absurd (cc (fault))
     each (asked.Merge request) (result, done, inr (inr (memory, front))) = absurd (cc (memory))
+    each (asked.List request) (result, done, inl printed) = absurd ((never_by_words result).0 (sym printed.0))
+    each (asked.List request) (result, done, inr (inl (fault, front))) = absurd (cc (fault))
+    each (asked.List request) (result, done, inr (inr (memory, front))) = absurd (cc (memory))
 
 pub refusal_only : (call : Call) (old new : History) (before after : List ℕ) (bad : BadWord) → RunAnswers call old new before after (status.Refused (ByWords bad))
     → call.asked ≡ asked.Refused bad
@@ -86,6 +89,9 @@ refusal_only call old new before after bad is = each call.asked is
     each (asked.Merge request) (result, done, inl printed) = absurd ((never_by_words result).1 bad (sym printed.0))
     each (asked.Merge request) (result, done, inr (inl (fault, front))) = absurd (cc (fault))
     each (asked.Merge request) (result, done, inr (inr (memory, front))) = absurd (cc (memory))
+    each (asked.List request) (result, done, inl printed) = absurd ((never_by_words result).1 bad (sym printed.0))
+    each (asked.List request) (result, done, inr (inl (fault, front))) = absurd (cc (fault))
+    each (asked.List request) (result, done, inr (inr (memory, front))) = absurd (cc (memory))
 
 -- ---- arguments that ask for something
 

@@ -1,7 +1,7 @@
--- The headline: what `show` prints of a bug, and what a merge leaves of both sides.
+-- The headline: what `show` prints of a bug, what a merge leaves of both sides, and what `ls` and `board` list.
 use Rattle.std.specs.Prelude.{◌≡◌, ◌⊎◌, ⊤, ℕ, false, Contains, List, Option, Some, None, Ok, ◌++◌}
 use Rattle.gb_store.specs.Files.{Files, History, files_of}
-use Rattle.gb_store.specs.Moments.{IsMoment}
+use Rattle.gb_store.specs.Moments.{IsMoment, Wrote}
 use Rattle.bug_edits.specs.declared.moment.Moment.{Moment}
 use Rattle.merge_steps.specs.LineJoins.{JoinedBug}
 use Rattle.merge_steps.specs.MergeLines.{is_refused}
@@ -10,12 +10,15 @@ use Rattle.merge_steps.specs.Turns.{MergeAnswers}
 use Rattle.merge_steps.specs.declared.line.MergeLine.{MergeLine}
 use Rattle.merge_steps.specs.declared.line.Pulled.{Pulled}
 use Rattle.remote_name.specs.declared.remote.RemoteName.{RemoteName}
+use Rattle.repo_lists.specs.Lists.{ListsBugs}
 use Rattle.repo_state.specs.Finds.{FindsNoId}
 use Rattle.repo_state.specs.Sound.{IsSound}
 use Rattle.repo_state.specs.declared.side.Side.TheVariants as side
 use Rattle.repo_state.specs.declared.stop.Missed.{Missed}
 use Rattle.repo_steps.specs.Stops.{of_missed}
+use Rattle.repo_writes.specs.Kinds.{IsRowWrite}
 use Rattle.sync_steps.specs.declared.line.EntityWord.TheVariants as word
+use Rattle.words.specs.declared.list.ListRequest.{ListRequest}
 use Rattle.words.specs.declared.pair.FolderPair.{FolderPair}
 use Rattle.words.specs.declared.words.Asked.{Asked}
 use Rattle.words.specs.declared.words.Asked.TheVariants as asked
@@ -40,6 +43,7 @@ own_of (asked.Refused bad) = None
 own_of (asked.Request request) = Some request.folder
 own_of (asked.Exchange request) = Some request.pair.own
 own_of (asked.Merge request) = Some request.folder
+own_of (asked.List request) = Some request.folder
 
 -- that folder is sound
 abbrev pub OwnIsSound : Asked → Files → Type 0
@@ -107,6 +111,19 @@ pub record PullEnds (pair : FolderPair) (remote : RemoteName) (now : ℕ) (old n
   pub answered : IsAnsweredBut (MayRefusePeer (Pull remote) pair old) answer
   pub lines : HasLines answer → PrintsPull pair remote now old new before after
 
+-- ---- lists
+
+-- what was printed lists the bugs that the query asks for, as compiling each of them from scratch gives them, whatever rows are stored.
+-- Rows alone were written
+pub record PrintsList (request : ListRequest) (old new : History) (before after : List ℕ) : Type 0 where
+  pub text : List ℕ
+  pub lists : ListsBugs (files_of old) request.folder request.layout request.query text
+  pub printed : after ≡ before ++ text
+  pub rows : Wrote (IsRowWrite request.folder) old new
+
+abbrev pub ListEnds : ListRequest → History → History → List ℕ → List ℕ → Status → Type 0
+ListEnds request old new before after answer = ((answer ≡ status.Done) × PrintsList request old new before after) ⊎ IsFault answer
+
 -- ---- a run
 
 abbrev pub CommandEnds : Command → List ℕ → History → History → List ℕ → List ℕ → Status → Type 0
@@ -117,10 +134,11 @@ abbrev pub PeerEnds : PeerCommand → FolderPair → ℕ → History → History
 PeerEnds (Pull remote) pair now old new before after answer = PullEnds pair remote now old new before after answer
 PeerEnds _ pair now old new before after answer = ⊤
 
--- What the headline says of a run: how `show`, `merge` and `pull` end, with what is printed and written.
+-- What the headline says of a run: how `show`, `merge`, `pull`, `ls` and `board` end, with what is printed and written.
 abbrev pub HeadlineHolds : Asked → Moment → History → History → List ℕ → List ℕ → Status → Type 0
 HeadlineHolds asked.Nothing moment old new before after answer = ⊤
 HeadlineHolds (asked.Refused bad) moment old new before after answer = ⊤
 HeadlineHolds (asked.Request request) moment old new before after answer = CommandEnds request.command request.folder old new before after answer
 HeadlineHolds (asked.Exchange request) moment old new before after answer = PeerEnds request.command request.pair moment.now old new before after answer
+HeadlineHolds (asked.List request) moment old new before after answer = ListEnds request old new before after answer
 HeadlineHolds (asked.Merge request) moment old new before after answer = MergeEnds request.folder request.remote moment.now old new before after answer

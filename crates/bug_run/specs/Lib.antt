@@ -2,6 +2,7 @@ pub mod Alike
 pub mod Answer
 pub mod Exchanges
 pub mod Headline
+pub mod Looks
 pub mod Merged
 pub mod Moments
 pub mod Printed

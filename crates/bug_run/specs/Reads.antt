@@ -8,9 +8,11 @@ use Rattle.commit_walk.specs.Distinct.{AreDistinct}
 use Rattle.repo_state.specs.Answers.{ReadsPeople}
 use Rattle.repo_state.specs.declared.side.HeadEntry.{HeadEntry}
 use Rattle.repo_edit.specs.Reads.{ReadsFor}
+use Rattle.repo_lists.specs.Lists.{ReadsList}
 use Rattle.repo_view.specs.Log.{ReadsLog}
 use Rattle.repo_view.specs.Shown.{ReadsShow}
 use Rattle.bug_run.specs.Exchanges.{ReadsExchange, ReadsMerge}
+use Rattle.bug_run.specs.Looks.{ReadsGuarded}
 use Rattle.words.specs.declared.words.Command.{Command}
 use Rattle.words.specs.declared.words.Command.TheVariants.{Edit, Log, Show, Users}
 use Rattle.words.specs.declared.words.Asked.{Asked}
@@ -30,6 +32,11 @@ ReadsAsked (asked.Refused bad) files IsDone HasLines before after = after ≡ be
 ReadsAsked (asked.Request request) files IsDone HasLines before after = ReadsCommand files request.folder request.command IsDone before after
 ReadsAsked (asked.Exchange request) files IsDone HasLines before after = ReadsExchange request.command request.pair files HasLines before after
 ReadsAsked (asked.Merge request) files IsDone HasLines before after = ReadsMerge request files before after
+ReadsAsked (asked.List request) files IsDone HasLines before after = ReadsList files request.folder before after
+
+-- of a run: none where nothing was done and no line answered, and else as much
+abbrev pub ReadsRun : Asked → Files → Type 0 → Type 0 → ℕ → ℕ → Type 0
+ReadsRun asks files IsDone HasLines before after = ReadsGuarded HasLines (ReadsAsked asks files IsDone HasLines before after) before after
 
 -- for each of these bugs commits below its head, each once
 abbrev pub AreBelowEach : Files → List ℕ → List HeadEntry → List (List Name) → Type 0

@@ -1,7 +1,8 @@
 -- What a run of the program answers and prints, and what it writes.
-use Rattle.std.specs.Prelude.{◌≡◌, ◌++◌, ⊤, ℕ, zero, suc, Bool, IsTrue, List, [], Result, Ok, Err}
+use Rattle.std.specs.Prelude.{◌≡◌, ◌++◌, ⊤, ℕ, zero, suc, Bool, IsTrue, List, [], ◌∷◌, Result, Ok, Err}
 use Rattle.gb_text.specs.declared.id.Id.{Id}
 use Rattle.gb_store.specs.Files.{History, files_of}
+use Rattle.gb_store.specs.Moments.{Wrote}
 use Rattle.gb_store.specs.declared.store.Change.{Change}
 use Rattle.bug_edits.specs.declared.moment.Moment.{Moment}
 use Rattle.repo_state.specs.Users.{id_line}
@@ -18,10 +19,12 @@ use Rattle.repo_steps.specs.declared.env.Env.{Env}
 use Rattle.repo_steps.specs.declared.refusal.Refusal.TheVariants as refusal
 use Rattle.repo_steps.specs.declared.refusal.Stop.{Stop}
 use Rattle.repo_steps.specs.declared.refusal.Stop.TheVariants as stop
-use Rattle.repo_writes.specs.Kinds.{IsWrite}
+use Rattle.repo_lists.specs.Lists.{ListAnswers}
+use Rattle.repo_writes.specs.Kinds.{IsRowWrite, IsWrite}
 use Rattle.repo_view.specs.Log.{LogAnswers}
 use Rattle.repo_view.specs.Shown.{ShowAnswers, UsersAnswers}
 use Rattle.bug_run.specs.Exchanges.{ExchangeAnswers, ExchangeStaysSound, ExchangeWrites, MergeTold, StaysSound}
+use Rattle.bug_run.specs.Looks.{Guarded, first_unread, pair_looks}
 use Rattle.bug_run.specs.Printed.{Printed}
 use Rattle.bug_run.specs.Refusals.{refusal_line, usage_text}
 use Rattle.bug_run.specs.Answer.{Answer}
@@ -33,6 +36,7 @@ use Rattle.words.specs.declared.words.Asked.{Asked}
 use Rattle.words.specs.declared.words.Asked.TheVariants as asked
 use Rattle.words.specs.declared.words.Command.{Command}
 use Rattle.words.specs.declared.words.Command.TheVariants.{Edit, Log, Show, Users}
+use Rattle.words.specs.declared.list.ListRequest.{ListRequest}
 use Rattle.words.specs.declared.words.MergeRequest.{MergeRequest}
 use Rattle.words.specs.declared.words.PeerRequest.{PeerRequest}
 use Rattle.words.specs.declared.words.Request.{Request}
@@ -79,20 +83,33 @@ CommandAnswers env (Show bug) old new result = TextFound (ShowAnswers (files_of 
 CommandAnswers env (Log bug) old new result = TextFound (LogAnswers (files_of old) env.folder bug) result × (new ≡ old)
 CommandAnswers env (Edit edit) old new result = EditTells env edit old new result
 
+-- the answer to a list of bugs, which writes rows alone
+abbrev pub ListTold : ListRequest → History → History → Result Answer Stop → Type 0
+ListTold request old new result =
+    TextRead (ListAnswers request.folder request.layout request.query old new) result × Wrote (IsRowWrite request.folder) old new
+
 -- in a folder, at this time and with this seed
 abbrev pub env_at : Moment → List ℕ → Env
 env_at moment folder = record { folder = folder; moment = moment }
 
--- the answer to a request, with what was written, where the store shows its files: that of its command in its folder
+-- the answer to a request, with what was written, where the store shows its files: that of its command in its folder, if the packed refs
+-- there read
 abbrev pub RequestAnswers : Bool → Request → Moment → History → History → Result Answer Stop → Type 0
-RequestAnswers tells request moment old new result = IsTrue tells → CommandAnswers (env_at moment request.folder) request.command old new result
+RequestAnswers tells request moment old new result =
+    IsTrue tells → Guarded (first_unread (files_of old) (request.folder ∷ [])) (CommandAnswers (env_at moment request.folder) request.command old new) old new result
 
 -- and to a command with a peer, and to a merge
 abbrev pub PeerRequestAnswers : Bool → PeerRequest → Moment → History → History → Result Answer Stop → Type 0
-PeerRequestAnswers tells request moment old new result = IsTrue tells → ExchangeAnswers request.command request.pair moment.now old new result
+PeerRequestAnswers tells request moment old new result =
+    IsTrue tells → Guarded (first_unread (files_of old) (pair_looks request.command request.pair (files_of old))) (ExchangeAnswers request.command request.pair moment.now old new) old new result
 
 abbrev pub MergeRequestAnswers : Bool → MergeRequest → Moment → History → History → Result Answer Stop → Type 0
-MergeRequestAnswers tells request moment old new result = IsTrue tells → MergeTold request moment.now old new result
+MergeRequestAnswers tells request moment old new result =
+    IsTrue tells → Guarded (first_unread (files_of old) (request.folder ∷ [])) (MergeTold request moment.now old new) old new result
+
+-- and to a list
+abbrev pub ListRequestAnswers : Bool → ListRequest → History → History → Result Answer Stop → Type 0
+ListRequestAnswers tells request old new result = IsTrue tells → Guarded (first_unread (files_of old) (request.folder ∷ [])) (ListTold request old new) old new result
 
 -- the status of a command that was done, by the number of its lines that are refusals
 abbrev pub status_for : ℕ → Status
@@ -135,6 +152,9 @@ AskedAnswers (asked.Exchange request) call old new before after answer =
 AskedAnswers (asked.Merge request) call old new before after answer =
     (result : Result Answer Stop) × MergeRequestAnswers call.store_tells request call.moment old new result
     × PrintedAnswer call result before after answer
+AskedAnswers (asked.List request) call old new before after answer =
+    (result : Result Answer Stop) × ListRequestAnswers call.store_tells request old new result
+    × PrintedAnswer call result before after answer
 
 -- What a run answers, writes and prints.
 abbrev pub RunAnswers : Call → History → History → List ℕ → List ℕ → Status → Type 0
@@ -155,6 +175,7 @@ AskedWrites (asked.Refused bad) moment entry earlier change = ⊥
 AskedWrites (asked.Request request) moment entry earlier change = CommandWrites (env_at moment request.folder) request.command entry earlier change
 AskedWrites (asked.Exchange request) moment entry earlier change = ExchangeWrites request.command request.pair entry earlier change
 AskedWrites (asked.Merge request) moment entry earlier change = IsWrite request.folder (files_of (earlier ++ entry)) change
+AskedWrites (asked.List request) moment entry earlier change = IsRowWrite request.folder (files_of (earlier ++ entry)) change
 
 abbrev pub RunWrites : Call → History → List Change → Change → Type 0
 RunWrites call entry earlier change = AskedWrites call.asked call.moment entry earlier change
@@ -166,3 +187,4 @@ RunStaysSound (asked.Refused bad) old new = ⊤
 RunStaysSound (asked.Request request) old new = StaysSound request.folder old new
 RunStaysSound (asked.Exchange request) old new = ExchangeStaysSound request.command request.pair old new
 RunStaysSound (asked.Merge request) old new = StaysSound request.folder old new
+RunStaysSound (asked.List request) old new = StaysSound request.folder old new

@@ -35,6 +35,7 @@ StaysAmong folders (asked.Exchange request) =
     IsAmong folders (written_by request.command request.pair)
     × (request.command ≡ Push → Contains folders request.pair.peer → Contains folders request.pair.own)
 StaysAmong folders (asked.Merge request) = IsAmong folders request.folder
+StaysAmong folders (asked.List request) = IsAmong folders request.folder
 
 -- a run that ended, or was stopped at some moment of it, over a store that tells its files: by any arguments that stay among
 -- these folders; at any time, with any seed, whatever was printed and answered

@@ -1,11 +1,13 @@
 -- Why a command is refused in a sound folder, and what is printed of a bug in the words of its operations.
-use Rattle.std.specs.Prelude.{◌≡◌, ◌⊎◌, ⊤, ℕ, List, ◌∷◌, []}
+use Rattle.std.specs.Prelude.{◌≡◌, ◌⊎◌, ⊤, ℕ, false, List, ◌∷◌, []}
+use Rattle.gb_text.specs.Folder.{joined}
 use Rattle.gb_store.specs.Files.{Files, History, files_of}
 use Rattle.object_store.specs.Held.{objects_in}
 use Rattle.bug_ops.specs.Kind.{bug_kind}
 use Rattle.bug_ops.specs.declared.op.BugOp.{BugOp}
 use Rattle.dag_entity.specs.Entities.{IsOperationList}
 use Rattle.identity.specs.declared.chain.Person.{Person}
+use Rattle.ref_store.specs.Refs.{packed_place, packed_reads}
 use Rattle.render.specs.Show.{show_text_of}
 use Rattle.repo_state.specs.Bugs.{FindsBug}
 use Rattle.repo_state.specs.Finds.{FindsNoId}
@@ -59,11 +61,15 @@ MayRefuse folder old refusal.NoUser = user_at (files_of old) folder ≡ NoUser
 MayRefuse folder old (refusal.NameTaken name) = ⊤
 MayRefuse folder old _ = ⊥
 
--- and why a command with a peer may be: only one that merges is
+-- the packed refs of the peer do not read, and that is the refusal
+abbrev pub IsPeerUnread : FolderPair → History → Refusal → Type 0
+IsPeerUnread pair old r = (packed_reads (files_of old) pair.peer ≡ false) × (r ≡ refusal.Damaged (joined pair.peer packed_place))
+
+-- and why a command with a peer may be: for that, and one that merges as a merge is
 abbrev pub MayRefusePeer : PeerCommand → FolderPair → History → Refusal → Type 0
-MayRefusePeer (Fetch remote) pair old r = ⊥
-MayRefusePeer (Pull remote) pair old r = MayRefuse pair.own old r
-MayRefusePeer Push pair old r = ⊥
+MayRefusePeer (Fetch remote) pair old r = IsPeerUnread pair old r
+MayRefusePeer (Pull remote) pair old r = MayRefuse pair.own old r ⊎ IsPeerUnread pair old r
+MayRefusePeer Push pair old r = IsPeerUnread pair old r
 
 -- lines were answered, or the command was refused for one of these reasons
 abbrev pub IsAnsweredBut : (Refusal → Type 0) → Status → Type 0

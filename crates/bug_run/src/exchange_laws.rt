@@ -60,9 +60,10 @@ pub fn exchanges_print_their_lines()
         × (answer ≡ status_for (answer_of_merge lines).refused) }
 {}
 
-/// If the own folder is sound, a `fetch` or a `push` is never refused as a whole, whatever the peer holds: each
-/// entity has its line, but where the store fails, the output fails or memory runs out. A `merge` or a
-/// `pull` is refused only where there is no user, or an object of a merge commit cannot have its name.
+/// If the own folder is sound, a `fetch` or a `push` is refused as a whole only where the packed refs of the
+/// peer do not read. Else each entity has its line, but where the store fails, the output fails or memory runs
+/// out. A `merge` or a `pull` is refused only where there is no user, or an object of a merge commit cannot
+/// have its name; and a `pull` also for the packed refs of the peer.
 pub fn exchanges_of_sound_folders_have_lines()
     ensures exchange { (call : Call) (old new : History) (before after : List ℕ)
         (answer : StatusValue) (request : PeerRequest) → IsTrue call.store_tells

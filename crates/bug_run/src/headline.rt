@@ -19,7 +19,8 @@ ghost use Rattle.words.specs.declared.words.Command.TheVariants as ask;
 /// `pull` leaves of each bug exactly both sides' operation commits. It refuses a bug only for a fault that
 /// both heads together have, and then the bug's local ref stays. `show` is refused only where its argument
 /// finds no bug or several, a merge as a whole only where there is no user or where an object of a merge
-/// commit cannot have its name. Beside that memory may run out, and the disk or the output may fail.
+/// commit cannot have its name, and a pull also where the packed refs of the peer do not read. Beside that
+/// memory may run out, and the disk or the output may fail.
 pub fn the_headline()
     ensures { (folders : List (List ℕ)) (old new : History) (call : Call) (before after : List ℕ)
         (answer : StatusValue) → AreApart folders → Runs folders [] old

@@ -6,6 +6,9 @@ mod exchange;
 mod exchange_laws;
 mod headline;
 mod laws;
+mod list;
+mod list_laws;
+mod look;
 mod merge_laws;
 mod moment;
 mod print;
@@ -22,6 +25,9 @@ pub use laws::{
     answers_are_determined, answers_depend_on_what_words_find, edits_read_few_objects,
     edits_tell_what_they_made, runs_from_nothing_are_sound, runs_keep_folders,
     show_prints_the_operations_in_order, sound_folders_are_served, words_decide_first,
+};
+pub use list_laws::{
+    failed_lists_are_cut_short, lists_print_bugs_compiled_from_scratch, sound_folders_are_listed,
 };
 pub use merge_laws::{merge_lines_are_joins, refused_merges_have_their_fault};
 pub use moment::moment_of;

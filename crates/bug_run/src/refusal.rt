@@ -2,13 +2,13 @@
 ghost use Rattle.std.specs.Prelude.{◌≡◌, ◌++◌, IfOk, codes, decimal};
 ghost use Rattle.hex.specs.Hex.{encode_lower};
 ghost use Rattle.person_names.specs.Adding.{Adds};
-ghost use Rattle.bug_run.specs.Refusals.{number_of, refusal_line, refusal_words, words_of};
+ghost use Rattle.bug_run.specs.Refusals.{number_of, query_words, refusal_line, refusal_words, words_of};
 
 use crate::status::Refused;
 use gb_text::{Id, Memory, Name, Text, push_id, push_name, push_number};
 use repo_steps::Refusal;
 use std::alloc::{AllocError, Global};
-use words::BadWord;
+use words::{BadQuery, BadWord};
 
 /// The line of a refusal: `refused`, its number, and what it says.
 pub fn refusal_line(alloc: Global, refused: &Refused) -> Result<Text, Memory>
@@ -33,6 +33,7 @@ fn number(refused: &Refused) -> u64
         Refused::ByWords(BadWord::BadRemoteName) => 12,
         Refused::ByCommand(refusal) => refusal.number(),
         Refused::SomeLines(_) => 15,
+        Refused::ByWords(BadWord::BadQuery(_)) => 16,
         Refused::ByWords(BadWord::BadFolder) => 17,
     }
 }
@@ -46,8 +47,23 @@ fn push_words(line: &mut String, refused: &Refused) -> Result<(), AllocError>
         Refused::ByWords(BadWord::BadText(place)) => push_counted(line, "bad text ", *place),
         Refused::ByWords(BadWord::SameFolder) => line.push_str("same folder"),
         Refused::ByWords(BadWord::BadRemoteName) => line.push_str("bad remote name"),
+        Refused::ByWords(BadWord::BadQuery(why)) => {
+            line.push_str("bad query ")?;
+            push_query(line, *why)
+        }
         Refused::ByCommand(refusal) => push_refusal(line, refusal),
         Refused::SomeLines(count) => push_counted(line, "some refused ", *count),
+    }
+}
+
+// Adds the kind of a query that is refused, and a place.
+fn push_query(line: &mut String, why: BadQuery) -> Result<(), AllocError>
+    ensures { Adds result line.old line.new (query_words why) }
+{
+    match why {
+        BadQuery::UnknownField(place) => push_counted(line, "1 ", place),
+        BadQuery::BadValue(place) => push_counted(line, "2 ", place),
+        BadQuery::OpenQuote(place) => push_counted(line, "3 ", place),
     }
 }
 

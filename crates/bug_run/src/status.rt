@@ -23,7 +23,7 @@ pub enum Status {
 /// Why a run was refused. Refusals are told by number, and some numbers are not used yet.
 #[derive(Debug, Drop)]
 pub enum Refused {
-    /// 4, 11, 12 and 17: the arguments alone refuse it.
+    /// 4, 11, 12, 16 and 17: the arguments alone refuse it.
     ByWords(BadWord),
     /// The command was refused by what it found in the folder.
     ByCommand(Refusal),

@@ -5,13 +5,16 @@ ghost use Rattle.gb_store.specs.Files.{files_of};
 ghost use Rattle.gb_store.specs.Moments.{WroteByIf};
 ghost use Rattle.bug_run.specs.Headline.{HeadlineHolds, OwnIsSound};
 ghost use Rattle.bug_run.specs.Printed.{HasLines, Printed};
-ghost use Rattle.bug_run.specs.Reads.{ReadsAsked, ReadsCommand};
-ghost use Rattle.bug_run.specs.Run.{CommandAnswers, RunAnswers, RunStaysSound, RunWrites, call_of, env_at, status_of, text_of};
+ghost use Rattle.bug_run.specs.Looks.{ReadsGuarded};
+ghost use Rattle.bug_run.specs.Reads.{ReadsCommand, ReadsRun};
+ghost use Rattle.bug_run.specs.Run.{CommandAnswers, RequestAnswers, RunAnswers, RunStaysSound, RunWrites, call_of, status_of, text_of};
 ghost use Rattle.bug_run.specs.Refusals.{refusal_line};
 ghost use Rattle.words.specs.Words.{asked_of};
 
 use crate::answer::Answer;
 use crate::exchange::{exchange, merge_tracked};
+use crate::list::list;
+use crate::look::look;
 use crate::print::print;
 use crate::refusal::refusal_line;
 use crate::status::{Refused, Status};
@@ -48,7 +51,7 @@ pub fn run<S: Store, K: Sink>(
         (S.history disk.old) (S.history disk.new) }
     ensures sound { IsTrue S.tells → RunStaysSound (asked_of (map string_bytes words.now))
         (S.history disk.old) (S.history disk.new) }
-    ensures reads { IsTrue S.tells → ReadsAsked (asked_of (map string_bytes words.now))
+    ensures reads { IsTrue S.tells → ReadsRun (asked_of (map string_bytes words.now))
         (files_of (S.history disk.old)) (result ≡ Status.Done) (HasLines result)
         (S.object_reads disk.old) (S.object_reads disk.new) }
     ensures disk { KeepsFaults S.never_fails S.faults (result ≡ Status.DiskFault)
@@ -64,11 +67,15 @@ pub fn run<S: Store, K: Sink>(
             tell(alloc, out, outcome)
         }
         Asked::Exchange(request) => {
-            let outcome = exchange(alloc, disk, &request, moment.now);
+            let outcome = exchange(alloc, disk, &request, moment);
             tell(alloc, out, outcome)
         }
         Asked::Merge(request) => {
-            let outcome = merge_tracked(alloc, disk, &request, moment.now);
+            let outcome = merge_tracked(alloc, disk, &request, moment);
+            tell(alloc, out, outcome)
+        }
+        Asked::List(request) => {
+            let outcome = list(alloc, disk, &request);
             tell(alloc, out, outcome)
         }
     }
@@ -77,22 +84,24 @@ pub fn run<S: Store, K: Sink>(
 /// What is printed where the arguments give no command.
 pub const USAGE: &str = "usage: gitbug FOLDER COMMAND ARGUMENTS\n";
 
-// Does what is asked.
+// Does what is asked, where the packed refs of the folder read.
 fn perform<S: Store>(
     alloc: Global,
     disk: &mut S,
     request: Request,
     moment: Moment,
 ) -> Result<Answer, Stop>
-    ensures answers { IsTrue S.tells → CommandAnswers (env_at moment request.folder)
-        request.command (S.history disk.old) (S.history disk.new) result }
-    ensures reads { IsTrue S.tells → ReadsCommand (files_of (S.history disk.old))
-        request.folder request.command (IsOk result)
+    ensures answers { RequestAnswers S.tells request moment
+        (S.history disk.old) (S.history disk.new) result }
+    ensures reads { IsTrue S.tells → ReadsGuarded (IsOk result)
+        (ReadsCommand (files_of (S.history disk.old)) request.folder request.command
+        (IsOk result) (S.object_reads disk.old) (S.object_reads disk.new))
         (S.object_reads disk.old) (S.object_reads disk.new) }
     ensures caused { KeepsFaults S.never_fails S.faults (IsErrOf result Stop.Disk)
         disk.old disk.new }
 {
     let Request { folder, command } = request;
+    look(alloc, disk, &folder)?;
     let env = Env { folder, moment };
     run_command(alloc, disk, &env, &command)
 }

@@ -49,6 +49,18 @@ impl Known {
         Ok(())
     }
 
+    /// Gives a letter the first seven digits of another one's.
+    pub fn shorten(&mut self, letter: char, of: char) -> Result<(), Fail> {
+        let mut digits = String::new(self.alloc);
+        for digit in self.get(of)?.chars().take(7) {
+            digits.push(digit)?;
+        }
+        self.lines.push(letter)?;
+        self.lines.push_str(digits.as_str())?;
+        self.lines.push('\n')?;
+        Ok(())
+    }
+
     /// A text with the digits of its letters.
     pub fn full(&mut self, text: &str) -> Result<String, Fail> {
         self.fit(text, "")

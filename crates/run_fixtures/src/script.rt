@@ -2,6 +2,7 @@
 use crate::known::Known;
 use crate::runs::{DONE, REFUSED, run_into, sink};
 use fixtures::Disk;
+use gb_store::Store;
 use gb_text::Name;
 use std::alloc::Global;
 use std::test::Fail;
@@ -25,8 +26,12 @@ pub enum Step {
     Lacks(&'static str),
     /// The file at this path gets this text.
     Puts(&'static str, &'static str),
+    /// There is no file at this path from now on.
+    Removes(&'static str),
     /// The letter stands for the id that is mixed from the digits of a bug and of an operation.
     Mixes(char, char, char),
+    /// The letter stands for the first seven digits of another one.
+    Shortens(char, char),
     /// The object of this letter has no file from now on.
     Loses(char),
     /// Its file has other bytes from now on.
@@ -76,7 +81,9 @@ impl Script {
             Step::Has(path, text) => self.has(place, path, text),
             Step::Lacks(path) => self.lacks(place, path),
             Step::Puts(path, text) => self.puts(path, text),
+            Step::Removes(path) => self.removes(path),
             Step::Mixes(letter, bug, operation) => self.mixes(letter, bug, operation),
+            Step::Shortens(letter, of) => self.known.shorten(letter, of),
             Step::Loses(letter) => self.loses(letter),
             Step::Spoils(letter) => self.spoils(letter),
             Step::Cuts(letter) => self.cuts(letter),
@@ -157,6 +164,12 @@ impl Script {
         let path = self.known.full(path)?;
         let text = self.known.full(text)?;
         self.disk.put(path.as_str(), text.as_bytes())
+    }
+
+    fn removes(&mut self, path: &str) -> Result<(), Fail> {
+        let path = self.known.full(path)?;
+        self.disk.store.remove(self.disk.alloc, path.as_str())?;
+        Ok(())
     }
 
     fn mixes(&mut self, letter: char, bug: char, operation: char) -> Result<(), Fail> {

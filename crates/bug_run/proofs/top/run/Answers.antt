@@ -4,13 +4,16 @@ use Rattle.gb_store.specs.Files.{files_of}
 use Rattle.gb_store.proofs.MomentLemmas.{WroteBy-none}
 use Rattle.bug_run.specs.Printed.{HasLines, Printed}
 use Rattle.bug_run.specs.Refusals.{usage_text}
-use Rattle.bug_run.specs.Reads.{ReadsAsked}
+use Rattle.bug_run.specs.Exchanges.{ReadsExchange, ReadsMerge}
+use Rattle.repo_lists.specs.Lists.{ReadsList}
+use Rattle.bug_run.specs.Reads.{ReadsCommand, ReadsRun}
 use Rattle.bug_run.specs.Run.{AskedAnswers, RunWrites, call_of}
 use Rattle.bug_run.specs.declared.status.Status.TheVariants as status
 use Rattle.words.specs.Words.{asked_of}
 use Rattle.words.specs.declared.words.Asked.{Asked}
 use Rattle.words.specs.declared.words.Asked.TheVariants as asked
 use Rattle.bug_run.proofs.HeadlineLemmas.{run_headline}
+use Rattle.bug_run.proofs.LookLemmas.{reads_less}
 use Rattle.bug_run.proofs.ReadLemmas.{command_narrower, exchange_narrower, done_was_ok, lines_were_ok}
 use Rattle.bug_run.proofs.RunLemmas.{run_stays_sound, run_wrote}
 use Rattle.bug_run.proofs.top.run.Goals as goal
@@ -50,8 +53,11 @@ returns-in-Request-clause-reads g c = λ tells.
     let before = g.S.Store.object_reads c.args.disk.now in
     let after = g.S.Store.object_reads c.perform-outcome.new.disk in
     let was_ok = done_was_ok g.K.Sink.tells g.K.Sink.takes_memory (g.K.Sink.written c.args.out.now) (g.K.Sink.written c.tell.new.out) c.perform-outcome.result c.tell.result c.tell.ensures.answers in
-    subst (λ (asks : Asked). ReadsAsked asks files (c.tell.result ≡ status.Done) (HasLines c.tell.result) before after) (sym is)
-    (command_narrower files request.folder request.command (IsOk c.perform-outcome.result) (c.tell.result ≡ status.Done) before after was_ok (c.perform-outcome.ensures.reads tells))
+    let had_lines = lines_were_ok g.K.Sink.tells g.K.Sink.takes_memory (g.K.Sink.written c.args.out.now) (g.K.Sink.written c.tell.new.out) c.perform-outcome.result c.tell.result c.tell.ensures.answers in
+    subst (λ (asks : Asked). ReadsRun asks files (c.tell.result ≡ status.Done) (HasLines c.tell.result) before after) (sym is)
+    (reads_less (IsOk c.perform-outcome.result) (HasLines c.tell.result) (ReadsCommand files request.folder request.command (IsOk c.perform-outcome.result) before after)
+    (ReadsCommand files request.folder request.command (c.tell.result ≡ status.Done) before after) before after had_lines
+    (command_narrower files request.folder request.command (IsOk c.perform-outcome.result) (c.tell.result ≡ status.Done) before after was_ok) (c.perform-outcome.ensures.reads tells))
 
 pub returns-in-Exchange-clause-answers : goal.returns-in-Exchange-clause-answers
 returns-in-Exchange-clause-answers g c =
@@ -88,8 +94,10 @@ returns-in-Exchange-clause-reads g c = λ tells.
     let before = g.S.Store.object_reads c.args.disk.now in
     let after = g.S.Store.object_reads c.exchange-outcome.new.disk in
     let was_ok = lines_were_ok g.K.Sink.tells g.K.Sink.takes_memory (g.K.Sink.written c.args.out.now) (g.K.Sink.written c.tell-in-Exchange.new.out) c.exchange-outcome.result c.tell-in-Exchange.result c.tell-in-Exchange.ensures.answers in
-    subst (λ (asks : Asked). ReadsAsked asks files (c.tell-in-Exchange.result ≡ status.Done) (HasLines c.tell-in-Exchange.result) before after) (sym is)
-    (exchange_narrower request.command request.pair files (IsOk c.exchange-outcome.result) (HasLines c.tell-in-Exchange.result) before after was_ok (c.exchange-outcome.ensures.reads tells))
+    subst (λ (asks : Asked). ReadsRun asks files (c.tell-in-Exchange.result ≡ status.Done) (HasLines c.tell-in-Exchange.result) before after) (sym is)
+    (reads_less (IsOk c.exchange-outcome.result) (HasLines c.tell-in-Exchange.result) (ReadsExchange request.command request.pair files (IsOk c.exchange-outcome.result) before after)
+    (ReadsExchange request.command request.pair files (HasLines c.tell-in-Exchange.result) before after) before after was_ok
+    (exchange_narrower request.command request.pair files (IsOk c.exchange-outcome.result) (HasLines c.tell-in-Exchange.result) before after was_ok) (c.exchange-outcome.ensures.reads tells))
 
 pub returns-in-Merge-clause-answers : goal.returns-in-Merge-clause-answers
 returns-in-Merge-clause-answers g c =
@@ -124,8 +132,48 @@ returns-in-Merge-clause-reads g c = λ tells.
     let files = files_of (g.S.Store.history c.args.disk.now) in
     let before = g.S.Store.object_reads c.args.disk.now in
     let after = g.S.Store.object_reads c.merge_tracked-outcome.new.disk in
-    subst (λ (asks : Asked). ReadsAsked asks files (c.tell-in-Merge.result ≡ status.Done) (HasLines c.tell-in-Merge.result) before after) (sym is)
-    (c.merge_tracked-outcome.ensures.reads tells)
+    let was_ok = lines_were_ok g.K.Sink.tells g.K.Sink.takes_memory (g.K.Sink.written c.args.out.now) (g.K.Sink.written c.tell-in-Merge.new.out) c.merge_tracked-outcome.result c.tell-in-Merge.result c.tell-in-Merge.ensures.answers in
+    let Reads = ReadsMerge c.in-Merge.request files before after in
+    subst (λ (asks : Asked). ReadsRun asks files (c.tell-in-Merge.result ≡ status.Done) (HasLines c.tell-in-Merge.result) before after) (sym is)
+    (reads_less (IsOk c.merge_tracked-outcome.result) (HasLines c.tell-in-Merge.result) Reads Reads before after was_ok (λ reads. reads) (c.merge_tracked-outcome.ensures.reads tells))
+
+pub returns-in-List-clause-answers : goal.returns-in-List-clause-answers
+returns-in-List-clause-answers g c =
+    let asks = asked_of (map string_bytes c.args.words.now) in
+    let call = call_of g.S.Store.tells g.K.Sink.tells g.K.Sink.takes_memory asks c.args.moment in
+    let is : asks ≡ asked.List c.in-List.request = search rules in
+    subst (λ (asks : Asked). AskedAnswers asks call (g.S.Store.history c.args.disk.now) (g.S.Store.history c.list-outcome.new.disk)
+    (g.K.Sink.written c.args.out.now) (g.K.Sink.written c.tell-in-List.new.out) c.tell-in-List.result) (sym is)
+    (c.list-outcome.result, c.list-outcome.ensures.answers, c.tell-in-List.ensures.answers)
+
+pub returns-in-List-clause-headline : goal.returns-in-List-clause-headline
+returns-in-List-clause-headline g c = λ tells prints own.
+    run_headline (call_of g.S.Store.tells g.K.Sink.tells g.K.Sink.takes_memory (asked_of (map string_bytes c.args.words.now)) c.args.moment) (g.S.Store.history c.args.disk.now)
+    (g.S.Store.history c.list-outcome.new.disk) (g.K.Sink.written c.args.out.now) (g.K.Sink.written c.tell-in-List.new.out) c.tell-in-List.result tells prints (returns-in-List-clause-answers g c) own
+
+pub returns-in-List-clause-wrote : goal.returns-in-List-clause-wrote
+returns-in-List-clause-wrote g c = record {
+  wrote = λ tells.
+      run_wrote (call_of g.S.Store.tells g.K.Sink.tells g.K.Sink.takes_memory (asked_of (map string_bytes c.args.words.now)) c.args.moment) (g.S.Store.history c.args.disk.now)
+      (g.S.Store.history c.list-outcome.new.disk) (g.K.Sink.written c.args.out.now) (g.K.Sink.written c.tell-in-List.new.out) c.tell-in-List.result tells
+      (returns-in-List-clause-answers g c);
+}
+
+pub returns-in-List-clause-sound : goal.returns-in-List-clause-sound
+returns-in-List-clause-sound g c = λ tells.
+    run_stays_sound (call_of g.S.Store.tells g.K.Sink.tells g.K.Sink.takes_memory (asked_of (map string_bytes c.args.words.now)) c.args.moment)
+    (g.S.Store.history c.args.disk.now) (g.S.Store.history c.list-outcome.new.disk) ((returns-in-List-clause-wrote g c).wrote tells)
+
+pub returns-in-List-clause-reads : goal.returns-in-List-clause-reads
+returns-in-List-clause-reads g c = λ tells.
+    let is : asked_of (map string_bytes c.args.words.now) ≡ asked.List c.in-List.request = search rules in
+    let files = files_of (g.S.Store.history c.args.disk.now) in
+    let before = g.S.Store.object_reads c.args.disk.now in
+    let after = g.S.Store.object_reads c.list-outcome.new.disk in
+    let was_ok = lines_were_ok g.K.Sink.tells g.K.Sink.takes_memory (g.K.Sink.written c.args.out.now) (g.K.Sink.written c.tell-in-List.new.out) c.list-outcome.result c.tell-in-List.result c.tell-in-List.ensures.answers in
+    let Reads = ReadsList files c.in-List.request.folder before after in
+    subst (λ (asks : Asked). ReadsRun asks files (c.tell-in-List.result ≡ status.Done) (HasLines c.tell-in-List.result) before after) (sym is)
+    (reads_less (IsOk c.list-outcome.result) (HasLines c.tell-in-List.result) Reads Reads before after was_ok (λ reads. reads) (c.list-outcome.ensures.reads tells))
 
 pub returns-in-Refused-clause-answers : goal.returns-in-Refused-clause-answers
 returns-in-Refused-clause-answers g c =
