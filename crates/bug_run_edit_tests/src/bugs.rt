@@ -268,7 +268,7 @@ fn stopped(alloc: Global, call: u64, after: bool) -> Result<(u8, usize, (u64, u6
 #[test]
 fn a_failed_call_stops_a_command_on_a_bug(rt: HostRuntime) -> Result<(), Fail> {
     let alloc = rt.alloc();
-    for call in 10..44 {
+    for call in 12..50 {
         for after in [false, true] {
             let (last, bugs, (create, edit)) = stopped(alloc, call, after)?;
             assert!(rt; last == DONE || last == REFUSED);

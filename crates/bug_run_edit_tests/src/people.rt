@@ -163,20 +163,20 @@ fn stopped(alloc: Global, call: u64, after: bool) -> Result<(u8, u8, usize), Fai
 #[test]
 fn a_failed_call_stops_an_edit(rt: HostRuntime) -> Result<(), Fail> {
     let alloc = rt.alloc();
-    for call in 0..10 {
-        let refused = if call < 8 { DONE } else { REFUSED };
+    for call in 0..12 {
+        let refused = if call < 10 { DONE } else { REFUSED };
         assert_eq!(rt;
             stopped(alloc, call, false)?,
-            (DISK_FAULT, if call < 9 { DONE } else { REFUSED }, 1)
+            (DISK_FAULT, if call < 11 { DONE } else { REFUSED }, 1)
         );
         assert_eq!(rt; stopped(alloc, call, true)?, (DISK_FAULT, refused, 1));
     }
-    assert_eq!(rt; stopped(alloc, 10, false)?.0, DONE);
+    assert_eq!(rt; stopped(alloc, 12, false)?.0, DONE);
     Ok(())
 }
 
-// Sets the user of a folder in a store that fails at one call. The ten calls before this run make the
-// person.
+// Sets the user of a folder in a store that fails at one call. The twelve calls before this run make
+// the person.
 fn set_user_at(alloc: Global, call: u64) -> Result<u8, Fail> {
     let mut disk = Disk::failing(alloc, &[(call, false)])?;
     run_words(&mut disk, &["f", "user-new", "Ana", "ana@x"], 1)?;
@@ -187,12 +187,13 @@ fn set_user_at(alloc: Global, call: u64) -> Result<u8, Fail> {
 #[test]
 fn a_user_is_set_without_a_look_at_the_user_file(rt: HostRuntime) -> Result<(), Fail> {
     let alloc = rt.alloc();
+    assert_eq!(rt; set_user_at(alloc, 12)?, DISK_FAULT, "the packed refs are read");
     assert_eq!(rt;
-        set_user_at(alloc, 10)?,
+        set_user_at(alloc, 13)?,
         DISK_FAULT,
         "the ref of the word is read"
     );
-    assert_eq!(rt; set_user_at(alloc, 11)?, DISK_FAULT, "the user file is put");
-    assert_eq!(rt; set_user_at(alloc, 12)?, DONE, "and nothing else is asked");
+    assert_eq!(rt; set_user_at(alloc, 14)?, DISK_FAULT, "the user file is put");
+    assert_eq!(rt; set_user_at(alloc, 15)?, DONE, "and nothing else is asked");
     Ok(())
 }

@@ -272,12 +272,13 @@ fn expect_failing(alloc: Global, call: u64, status: u8, text: &str) -> Result<()
 
 #[test]
 fn a_store_that_fails_prints_nothing(rt: HostRuntime) -> Result<(), Fail> {
-    // Ten files are put. Then the refs of persons are listed, and the ref of the bug, that of the
-    // person and six objects are read.
-    for call in 10..19 {
+    // Ten files are put. Then the packed refs are looked at, the refs of persons are listed, in their
+    // folder and in the packed refs, and the ref of the bug, that of the person and six objects are
+    // read.
+    for call in 10..21 {
         expect_failing(rt.alloc(), call, DISK_FAULT, "")?;
     }
-    expect_failing(rt.alloc(), 19, DONE, GOOD_LOG)
+    expect_failing(rt.alloc(), 21, DONE, GOOD_LOG)
 }
 
 #[test]
