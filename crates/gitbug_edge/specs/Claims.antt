@@ -33,4 +33,5 @@ claims_of (asked.Exchange request) =
     record { folder = request.pair.own; purpose = own_purpose request.command }
     ∷ record { folder = request.pair.peer; purpose = peer_purpose request.command } ∷ []
 claims_of (asked.Merge request) = record { folder = request.folder; purpose = Write } ∷ []
+claims_of (asked.List request) = record { folder = request.folder; purpose = Write } ∷ []
 claims_of _ = []

@@ -39,6 +39,13 @@ pub fn claims_of(alloc: Global, asked: &Asked) -> Result<Vec<Claim>, Memory>
                 purpose: Purpose::Write,
             })?;
         }
+        Asked::List(request) => {
+            let folder = request.folder.copy(alloc)?;
+            claims.push(Claim {
+                folder,
+                purpose: Purpose::Write,
+            })?;
+        }
     }
     Ok(claims)
 }

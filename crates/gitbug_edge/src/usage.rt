@@ -4,7 +4,7 @@ use std::io;
 use words::{FIRST_VERBS, LAST_VERBS, Verb};
 
 /// What the program is, and what it was proved with.
-pub const VERSION: &str = "gitbug 0.1.0, proved with rattle-kit-13b logic dac8208d650f15bf";
+pub const VERSION: &str = "gitbug 0.1.0, proved with rattle-kit-13f logic dac8208d650f15bf";
 
 /// Prints on standard error what is wrong with words that give no command, and which commands there are.
 pub fn explain_usage<R: Eprint>(rt: &R, words: &[String]) -> io::Result<()> {
