@@ -4,4 +4,5 @@ pub mod LoopLemmas
 pub mod BelowLemmas
 pub mod HeadLemmas
 pub mod NameLemmas
+pub mod WrittenLemmas
 pub mod Examples

@@ -166,6 +166,52 @@ heads_other dir heads text line rest read name head cut is ref below =
     ∙ ap (λ (o : Option Id). heads_from dir (heads ++ cons_option (option_map (λ i. record { id = i; head = head }) o) []) rest) below
     ∙ ap (λ (hs : List PackedHead). heads_from dir hs rest) (append-nil heads)
 
+-- ---- all refs
+
+-- the refs so far and those of a text, if there are any to follow
+abbrev refs_then : List PackedRef → Option (List PackedRef) → List PackedRef
+refs_then refs None = []
+refs_then refs (Some more) = refs ++ more
+
+-- the refs so far and those of a text
+abbrev pub refs_from : List PackedRef → List ℕ → List PackedRef
+refs_from refs text = refs_then refs (packed_refs text)
+
+pub refs_start : (text : List ℕ) → refs_from [] text ≡ refs_in text
+refs_start text = each (packed_refs text)
+  where
+    each : (refs : Option (List PackedRef)) → refs_then [] refs ≡ or_none refs
+    each None = refl
+    each (Some refs) = refl
+
+pub refs_end : (refs : List PackedRef) (rest : List ℕ) → rest ≡ [] → refs_from refs rest ≡ refs
+refs_end refs rest none = ap (refs_from refs) none ∙ ap (refs_then refs) refs_nil ∙ append-nil refs
+
+pub refs_bad : (refs : List PackedRef) (text line rest : List ℕ) (read : Option Line) → lines_of text ≡ line ∷ lines_of rest
+    → option_map line_is read ≡ packed_line line → read ≡ None → refs_from refs text ≡ []
+refs_bad refs text line rest read cut is none =
+    ap (refs_then refs) (refs_step text line rest read cut is ∙ ap (λ (o : Option Line). refs_with o (packed_refs rest)) none)
+
+pub refs_note : (refs : List PackedRef) (text line rest : List ℕ) (read : Option Line) → lines_of text ≡ line ∷ lines_of rest
+    → option_map line_is read ≡ packed_line line → read ≡ Some code.Note → refs_from refs text ≡ refs_from refs rest
+refs_note refs text line rest read cut is note =
+    ap (refs_then refs) (refs_step text line rest read cut is ∙ ap (λ (o : Option Line). refs_with o (packed_refs rest)) note) ∙ each (packed_refs rest)
+  where
+    each : (more : Option (List PackedRef)) → refs_then refs (refs_with (Some code.Note) more) ≡ refs_then refs more
+    each None = refl
+    each (Some more) = refl
+
+-- with a ref there is one more
+pub refs_more : (refs : List PackedRef) (text line rest : List ℕ) (read : Option Line) (name : Bor (List ℕ)) (head : Name) → lines_of text ≡ line ∷ lines_of rest
+    → option_map line_is read ≡ packed_line line → read ≡ Some (code.Ref name head)
+    → refs_from refs text ≡ refs_from (refs ++ record { name = name.now; head = head } ∷ []) rest
+refs_more refs text line rest read name head cut is ref =
+    ap (refs_then refs) (refs_step text line rest read cut is ∙ ap (λ (o : Option Line). refs_with o (packed_refs rest)) ref) ∙ each (packed_refs rest)
+  where
+    each : (more : Option (List PackedRef)) → refs_then refs (refs_with (Some (code.Ref name head)) more) ≡ refs_then (refs ++ record { name = name.now; head = head } ∷ []) more
+    each None = refl
+    each (Some more) = sym (append_assoc refs (record { name = name.now; head = head } ∷ []) more)
+
 -- no bytes are left where the rest is empty
 pub nothing_left : (rest : List ℕ) (empty : Bool) → empty ≡ (length rest == 0) → empty ≡ true → rest ≡ []
 nothing_left rest empty is e = nil_from_length rest (eqb-true (length rest) 0 (sym is ∙ e))

@@ -4,7 +4,8 @@ ghost use Rattle.gb_text.specs.Digits.{IsId};
 ghost use Rattle.gb_text.specs.declared.id.Id.{Id};
 ghost use Rattle.hex.specs.Hex.{encode_lower};
 ghost use Rattle.packed_refs.specs.Lines.{HasNoLineFeed, lines_of, text_of};
-ghost use Rattle.packed_refs.specs.Packed.{PackedRef, head_of, heads_in, id_below, id_head_of};
+ghost use Rattle.packed_refs.specs.Packed.{PackedRef, head_of, heads_in, id_below, id_head_of, packed_refs};
+ghost use Rattle.packed_refs.specs.Written.{IsPackable, packed_text};
 
 /// A name has the head of its last line, and none where no line has it.
 pub fn the_last_line_counts()
@@ -36,4 +37,13 @@ pub fn names_below_a_dir_are_ids()
 pub fn heads_in_a_dir_are_heads()
     ensures { (dir : List ℕ) (refs : List PackedRef) (id : Id) → IsId id
         → head_of (dir ++ 47 ∷ encode_lower id.bytes) refs ≡ id_head_of id (heads_in dir refs) }
+{}
+
+/// The text that refs are written as has these refs again, in their order; and the refs that a packed
+/// text has can be written again.
+pub fn packed_texts_read_back()
+    ensures written { (refs : List PackedRef) → All IsPackable refs
+        → packed_refs (packed_text refs) ≡ Some refs }
+    ensures read { (text : List ℕ) (refs : List PackedRef) → packed_refs text ≡ Some refs
+        → All IsPackable refs }
 {}

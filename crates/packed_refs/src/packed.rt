@@ -3,6 +3,7 @@ ghost use Rattle.std.specs.Prelude.{◌≡◌, IfOk};
 ghost use Rattle.packed_refs.specs.Packed.{head_of, heads_in, id_below, is_packed, refs_in};
 
 use crate::line::{Line, cut_line, read_line};
+use crate::ref_line::{RefLine, RefName};
 use gb_text::{Id, Memory, Name};
 use std::alloc::Global;
 
@@ -73,6 +74,28 @@ pub fn heads_in(alloc: Global, text: &[u8], dir: &[u8]) -> Result<Vec<PackedHead
         rest = after;
     }
     Ok(heads)
+}
+
+/// The refs of a packed text, in the order of lines: a name may come several times, and its last
+/// head counts. Empty also where the text is no packed text.
+pub fn refs(alloc: Global, text: &[u8]) -> Result<Vec<RefLine>, Memory>
+    ensures { IfOk result (λ refs. refs.items ≡ refs_in text.now) }
+{
+    let mut refs = Vec::new(alloc);
+    let mut rest = text;
+    while !rest.is_empty() {
+        let (line, after) = cut_line(rest);
+        match read_line(line) {
+            None => return Ok(Vec::new(alloc)),
+            Some(Line::Note) => {}
+            Some(Line::Ref { name, head }) => {
+                let name = RefName::from_slice(alloc, name)?;
+                refs.push(RefLine { name, head })?;
+            }
+        }
+        rest = after;
+    }
+    Ok(refs)
 }
 
 // The id whose digits follow a dir and a slash.

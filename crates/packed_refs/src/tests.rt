@@ -9,6 +9,13 @@ const PACKED: &[u8] = b"# pack-refs with: peeled fully-peeled sorted \n\
     f71e4dbf0271cd010d4acaf00d7f9f076b141937 refs/tags/v1\n\
     ^563a35609259a1da261543e8e91b9cd7d343133d\n";
 
+// The same without its comment and its peeled object.
+const WRITTEN: &[u8] =
+    b"563a35609259a1da261543e8e91b9cd7d343133d refs/bugs/0a0a0a0a0a0a0a0a0a0a0a0a0a0a0a0a0a0a0a0a0a0a0a0a0a0a0a0a0a0a0a0a\n\
+    563a35609259a1da261543e8e91b9cd7d343133d refs/bugs/0b0b0b0b0b0b0b0b0b0b0b0b0b0b0b0b0b0b0b0b0b0b0b0b0b0b0b0b0b0b0b0b\n\
+    563a35609259a1da261543e8e91b9cd7d343133d refs/heads/main\n\
+    f71e4dbf0271cd010d4acaf00d7f9f076b141937 refs/tags/v1\n";
+
 #[test]
 fn a_text_of_git_has_heads(rt: HostRuntime) {
     let commit = Name::read(b"563a35609259a1da261543e8e91b9cd7d343133d");
@@ -39,4 +46,12 @@ fn a_bad_line_spoils_the_text(rt: HostRuntime) {
     let text = b"563a35609259a1da261543e8e91b9cd7d343133d refs/heads/main\n\n";
     assert!(rt; !is_packed(text));
     assert_eq!(rt; head_of(text, b"refs/heads/main"), None);
+}
+
+#[test]
+fn a_text_of_git_is_written_again(rt: HostRuntime) -> Result<(), Memory> {
+    let refs = refs(rt.alloc(), PACKED)?;
+    let text = packed_text(rt.alloc(), refs.as_slice())?;
+    assert_eq!(rt; text.as_slice(), WRITTEN);
+    Ok(())
 }
