@@ -38,7 +38,7 @@ use Rattle.gb_text.proofs.OrderLemmas.{encode_lower-order}
 
 -- ---- lists
 
-filter_map-has : {X Y : Type 0} (f : X → Option Y) (xs : List X) (x : X) (y : Y) → Contains xs x → f x ≡ Some y → Contains (filter_map f xs) y
+pub filter_map-has : {X Y : Type 0} (f : X → Option Y) (xs : List X) (x : X) (y : Y) → Contains xs x → f x ≡ Some y → Contains (filter_map f xs) y
 filter_map-has f [] x y (k, lt, e) h = absurd (omega arith)
 filter_map-has f (z ∷ xs) x y (zero, lt, e) h =
     subst (λ o. Contains (cons_option o (filter_map f xs)) y) (sym (ap f e ∙ h)) (0, omega arith, refl)
@@ -48,7 +48,7 @@ filter_map-has {Y = Y} f (z ∷ xs) x y (suc k, lt, e) h = each (f z) (filter_ma
     each None later = later
     each (Some w) later = (suc later.0, omega (arith, later.1), later.2)
 
-filter_map-from : {X Y : Type 0} (f : X → Option Y) (xs : List X) (y : Y) → Contains (filter_map f xs) y → (x : X) × Contains xs x × (f x ≡ Some y)
+pub filter_map-from : {X Y : Type 0} (f : X → Option Y) (xs : List X) (y : Y) → Contains (filter_map f xs) y → (x : X) × Contains xs x × (f x ≡ Some y)
 filter_map-from f [] y (k, lt, e) = absurd (omega arith)
 filter_map-from {X = X} {Y = Y} f (z ∷ xs) y h = each (filter_map-from f xs y) (f z) refl h
   where
@@ -223,7 +223,7 @@ packed_last id before (one ∷ heads) = by (λ b. packed_last id b heads) (bytes
 digit_is_no_slash : (c : ℕ) → is_hex_digit c ≡ true → (c == 47) ≡ false
 digit_is_no_slash c digit = grind (arith, nat_tests)
 
-digits_have_no_slash : (text : List ℕ) → list_all is_hex_digit text ≡ true → list_any (λ c. c == 47) text ≡ false
+pub digits_have_no_slash : (text : List ℕ) → list_all is_hex_digit text ≡ true → list_any (λ c. c == 47) text ≡ false
 digits_have_no_slash [] all = refl
 digits_have_no_slash (c ∷ cs) all =
     let here = and_parts (is_hex_digit c) (list_all is_hex_digit cs) all in
@@ -235,7 +235,7 @@ module _ (files : Files) (folder dir : List ℕ) where
   path_is id = simp append_assoc
 
   -- an id with a file is listed by its digits
-  digits_listed : (names : List (List ℕ)) (id : Id) → IsListing files (joined folder dir) names → IsId id → IsSome (files (joined folder (id_place dir id))) → Contains names (encode_lower id.bytes)
+  pub digits_listed : (names : List (List ℕ)) (id : Id) → IsListing files (joined folder dir) names → IsId id → IsSome (files (joined folder (id_place dir id))) → Contains names (encode_lower id.bytes)
   digits_listed names id listing is stands =
       let there : IsSome (files (joined folder dir ++ 47 ∷ encode_lower id.bytes)) = subst (λ (p : List ℕ). IsSome (files p)) (path_is id) stands in
       (listing.members (encode_lower id.bytes)).1 (digits_have_no_slash (encode_lower id.bytes) (encode_lower-digits id.bytes is.bytes), there)
@@ -468,7 +468,7 @@ bad_found found Bad e = (λ is. cc, λ is. cc)
 -- ---- ids in their order
 
 -- no text stands before itself
-not_before_itself : (x y : List ℕ) → x ≡ y → slice_cmp nat_cmp x y ≡ Less → ⊥
+pub not_before_itself : (x y : List ℕ) → x ≡ y → slice_cmp nat_cmp x y ≡ Less → ⊥
 not_before_itself x y e less = (let t = (bytes_eq-Decides x y).1 e in let f = sym (is_eq-slice_cmp x y) ∙ ap is_eq less in absurd cc)
 
 -- ids in ascending order differ
