@@ -1,0 +1,12 @@
+pub mod DeterminedLemmas
+pub mod ExistLemmas
+pub mod Examples
+pub mod LastLemmas
+pub mod LooseLemmas
+pub mod MergeLemmas
+pub mod PackLemmas
+pub mod PlaceLemmas
+pub mod ReadLemmas
+pub mod RefLemmas
+pub mod WriteLemmas
+pub mod WroteLemmas

@@ -1,0 +1,6 @@
+pub mod Answers
+pub mod Faults
+pub mod Kinds
+pub mod Merging
+pub mod Packing
+pub mod Reading
