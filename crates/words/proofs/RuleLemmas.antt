@@ -89,6 +89,7 @@ judged verb.Edit (one ∷ two ∷ []) =
     (made_so 2 (is_message_word two ∷ []) (at 2 (message_of two)) (λ message. ask.Edit (edits.OfComment one message)) (last_so 2 (is_message_word two) (message_of two) (message_word two)))
 judged verb.Show (one ∷ []) = refl
 judged verb.Log (one ∷ []) = refl
+judged verb.PackRefs [] = refl
 judged _ _ = tt
 
 told : (name : List ℕ) (arguments : List (List ℕ)) (read : Result Command ℕ) → command_of name arguments ≡ Some read → Judges 1 (words_keep name arguments) read

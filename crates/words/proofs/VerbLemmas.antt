@@ -61,6 +61,7 @@ read_back verb.Fetch = refl
 read_back verb.Merge = refl
 read_back verb.Pull = refl
 read_back verb.Push = refl
+read_back verb.PackRefs = refl
 
 -- arguments name a command by their second
 pub verb_named : (words : List (List ℕ)) → NamesCommand words → (folder : List ℕ) × (rest : List (List ℕ)) × (v : Verb) × (words ≡ folder ∷ name_of v ∷ rest)
@@ -103,6 +104,7 @@ counted verb.UserEdit (one ∷ two ∷ []) = inl (5, omega arith, refl)
 counted verb.New (one ∷ two ∷ []) = inl (6, omega arith, refl)
 counted (verb.OfBug edit) (bug ∷ words) = edit_is_counted edit words (counted_of edit words) bug
 counted verb.Edit (one ∷ two ∷ []) = inl (7, omega arith, refl)
+counted verb.PackRefs [] = inl (8, omega arith, refl)
 counted _ _ = tt
 
 pub only_counted : (name : List ℕ) (arguments : List (List ℕ)) → IsSome (command_of name arguments) → IsCounted name (length arguments)
@@ -199,7 +201,7 @@ each_gives = (
         one_word (Gives (codes "user-set")) (λ a. refl),
         (
           two_words (Gives (codes "user-new")) (λ a b. refl),
-          (two_words (Gives (codes "user-edit")) (λ a b. refl), (two_words (Gives (codes "new")) (λ a b. refl), (two_words (Gives (codes "edit")) (λ a b. refl), tt))),
+          (two_words (Gives (codes "user-edit")) (λ a b. refl), (two_words (Gives (codes "new")) (λ a b. refl), (two_words (Gives (codes "edit")) (λ a b. refl), (no_word (Gives (codes "pack-refs")) refl, tt)))),
         ),
       ),
     ),

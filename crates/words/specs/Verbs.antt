@@ -25,6 +25,7 @@ name_of verb.Fetch = codes "fetch"
 name_of verb.Merge = codes "merge"
 name_of verb.Pull = codes "pull"
 name_of verb.Push = codes "push"
+name_of verb.PackRefs = codes "pack-refs"
 
 -- the one of these that has a name, if there is one
 abbrev pub verb_among : List Verb → List ℕ → Option Verb

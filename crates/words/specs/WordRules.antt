@@ -10,7 +10,7 @@ use Rattle.words.specs.declared.words.Command.{Command}
 -- the names of commands that are no edits of a bug, each with the number of its arguments
 abbrev pub counted_commands : List (List ℕ × ℕ)
 counted_commands =
-    (codes "users", 0) ∷ (codes "log", 1) ∷ (codes "show", 1) ∷ (codes "user-set", 1) ∷ (codes "user-new", 2) ∷ (codes "user-edit", 2) ∷ (codes "new", 2) ∷ (codes "edit", 2) ∷ []
+    (codes "users", 0) ∷ (codes "log", 1) ∷ (codes "show", 1) ∷ (codes "user-set", 1) ∷ (codes "user-new", 2) ∷ (codes "user-edit", 2) ∷ (codes "new", 2) ∷ (codes "edit", 2) ∷ (codes "pack-refs", 0) ∷ []
 
 -- a name with so many arguments is a command; an edit of a bug has one more than it counts, which finds the bug
 abbrev pub IsCounted : List ℕ → ℕ → Type 0

@@ -30,7 +30,7 @@ use Rattle.words.specs.declared.words.Asked.TheVariants as asked
 use Rattle.words.specs.declared.words.BadWord.TheVariants as bad_word
 use Rattle.words.specs.declared.words.BadWord.TheVariants.{BadFolder, BadRemoteName, BadText, SameFolder}
 use Rattle.words.specs.declared.words.Command.{Command}
-use Rattle.words.specs.declared.words.Command.TheVariants.{Edit, Log, Show, Users}
+use Rattle.words.specs.declared.words.Command.TheVariants.{Edit, Log, PackRefs, Show, Users}
 use Rattle.words.specs.declared.words.PeerCommand.{PeerCommand}
 use Rattle.words.specs.declared.words.PeerCommand.TheVariants.{Fetch, Pull, Push}
 
@@ -68,6 +68,7 @@ by_verb (verb.OfBug edit) (bug ∷ words) = edit_of_bug bug (edit_from edit word
 by_verb verb.Edit (one ∷ two ∷ []) = Some (edited_comment one two)
 by_verb verb.Show (bug ∷ []) = Some (Ok (Show bug))
 by_verb verb.Log (bug ∷ []) = Some (Ok (Log bug))
+by_verb verb.PackRefs [] = Some (Ok PackRefs)
 by_verb _ _ = None
 
 -- the command of a name, if there is one, with these arguments

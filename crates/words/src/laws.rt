@@ -107,6 +107,7 @@ pub fn names_are_those_of_verbs()
 /// What each command asks for, by its name and its arguments.
 pub fn commands_ask_for_what_they_name()
     ensures users { command_of (codes "users") [] ≡ Some (Ok ask.Users) }
+    ensures pack_refs { command_of (codes "pack-refs") [] ≡ Some (Ok ask.PackRefs) }
     ensures log { (bug : List ℕ) → command_of (codes "log") (bug ∷ [])
         ≡ Some (Ok (ask.Log bug)) }
     ensures show { (bug : List ℕ) → command_of (codes "show") (bug ∷ [])

@@ -25,6 +25,7 @@ pub enum Verb {
     Merge,
     Pull,
     Push,
+    PackRefs,
 }
 
 /// The commands of which people are told before the edits of a bug, in this order.
@@ -37,7 +38,7 @@ pub const FIRST_VERBS: [Verb; 5] = [
 ];
 
 /// The commands of which people are told after the edits of a bug, in this order.
-pub const LAST_VERBS: [Verb; 9] = [
+pub const LAST_VERBS: [Verb; 10] = [
     Verb::Edit,
     Verb::Show,
     Verb::Log,
@@ -47,6 +48,7 @@ pub const LAST_VERBS: [Verb; 9] = [
     Verb::Merge,
     Verb::Pull,
     Verb::Push,
+    Verb::PackRefs,
 ];
 
 impl Verb {
@@ -83,6 +85,7 @@ impl Verb {
             Verb::Merge => "merge",
             Verb::Pull => "pull",
             Verb::Push => "push",
+            Verb::PackRefs => "pack-refs",
         }
     }
 
@@ -91,7 +94,7 @@ impl Verb {
     pub fn takes(self) -> &'static str {
         match self {
             Verb::UserNew | Verb::UserEdit => "NAME EMAIL",
-            Verb::Users => "",
+            Verb::Users | Verb::PackRefs => "",
             Verb::New => "TITLE MESSAGE",
             Verb::OfBug(edit) => edit.takes(),
             Verb::Edit => "COMMENT MESSAGE",

@@ -28,6 +28,8 @@ pub enum Command {
     Log { bug: Text },
     /// An edit of the folder.
     Edit(Edit),
+    /// The loose refs of the folder come into its packed refs.
+    PackRefs,
 }
 
 /// A command, and the folder that it is for.
@@ -195,6 +197,7 @@ fn by_verb(alloc: Global, verb: Verb, arguments: &[&str]) -> Reading
         Verb::Edit => edit_of_comment(alloc, arguments),
         Verb::Show => show(alloc, arguments),
         Verb::Log => log(alloc, arguments),
+        Verb::PackRefs => Ok(pack_refs(arguments)),
         Verb::Ls | Verb::Board | Verb::Fetch | Verb::Merge | Verb::Pull | Verb::Push => Ok(None),
     }
 }
@@ -205,6 +208,16 @@ fn users(arguments: &[&str]) -> Option<Result<Command, u64>>
 {
     match arguments {
         [] => Some(Ok(Command::Users)),
+        _ => None,
+    }
+}
+
+// A pack of the refs, which takes no argument.
+fn pack_refs(arguments: &[&str]) -> Option<Result<Command, u64>>
+    ensures { result ≡ by_verb verb.PackRefs (map (λ s. s.now) arguments.now) }
+{
+    match arguments {
+        [] => Some(Ok(Command::PackRefs)),
         _ => None,
     }
 }
