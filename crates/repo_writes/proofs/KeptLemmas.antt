@@ -85,6 +85,25 @@ loses_nothing folder old new wrote =
 
 -- ---- a folder apart
 
+-- each write of a rule leaves the files of a folder
+module _ (Rule : History → List Change → Change → Type 0) (folder : List ℕ) (old new : History)
+    (stay : (earlier : List Change) (change : Change) → Rule old earlier change → FilesStay folder (files_of (earlier ++ old)) (written (files_of (earlier ++ old)) change))
+    (wrote : WroteBy Rule old new) where
+  -- so the folder keeps each part
+  pub stay_keeps_parts : KeepsParts folder old new
+  stay_keeps_parts = λ part good.
+      AllMoments-from_WroteBy Rule (HasPart part folder) old new
+      (λ earlier change has may. part-stays folder (files_of (earlier ++ old)) (written (files_of (earlier ++ old)) change) (stay earlier change may) part has) good wrote
+
+  -- and nothing of it is lost
+  pub stay_loses_nothing : AllMoments (LosesNothing folder (files_of old)) old new
+  stay_loses_nothing =
+      AllMoments-from_WroteBy Rule (LosesNothing folder (files_of old)) old new
+      (λ earlier change so_far may.
+      let files = files_of (earlier ++ old) in
+      LosesNothing-then folder (files_of old) files (written files change) so_far (LosesNothing-stays folder files (written files change) (stay earlier change may)))
+      (LosesNothing-none folder (files_of old)) wrote
+
 -- each write of a rule is at a place of another folder
 module _ (Rule : History → List Change → Change → Type 0) (folder other : List ℕ) (apart : Overlap folder other → ⊥)
     (places : (entry : History) (earlier : List Change) (change : Change) → Rule entry earlier change → IsAtPlace other change) (old new : History) (wrote : WroteBy Rule old new) where
@@ -94,18 +113,11 @@ module _ (Rule : History → List Change → Change → Type 0) (folder other : 
 
   -- so the folder keeps each part
   pub rule_keeps_parts : KeepsParts folder old new
-  rule_keeps_parts = λ part good.
-      AllMoments-from_WroteBy Rule (HasPart part folder) old new
-      (λ earlier change has may. part-stays folder (files_of (earlier ++ old)) (written (files_of (earlier ++ old)) change) (stay earlier change may) part has) good wrote
+  rule_keeps_parts = stay_keeps_parts Rule folder old new stay wrote
 
   -- and nothing of it is lost
   pub rule_loses_nothing : AllMoments (LosesNothing folder (files_of old)) old new
-  rule_loses_nothing =
-      AllMoments-from_WroteBy Rule (LosesNothing folder (files_of old)) old new
-      (λ earlier change so_far may.
-      let files = files_of (earlier ++ old) in
-      LosesNothing-then folder (files_of old) files (written files change) so_far (LosesNothing-stays folder files (written files change) (stay earlier change may)))
-      (LosesNothing-none folder (files_of old)) wrote
+  rule_loses_nothing = stay_loses_nothing Rule folder old new stay wrote
 
 module _ (folder other : List ℕ) (old new : History) (apart : Overlap folder other → ⊥) (wrote : Wrote (IsWrite other) old new) where
   abbrev places : (entry : History) (earlier : List Change) (change : Change) → IsWrite other (files_of (earlier ++ entry)) change → IsAtPlace other change

@@ -1,5 +1,6 @@
 pub mod KeptLemmas
 pub mod LossLemmas
+pub mod PackLemmas
 pub mod PartLemmas
 pub mod PlaceLemmas
 pub mod SoundBugLemmas

@@ -1,4 +1,4 @@
--- A folder keeps each part of soundness where its objects and heads stay, and all of it where its files do, as those of a folder apart.
+-- A folder keeps each part of soundness where what it says stays, and so where its files do, as those of a folder apart.
 use Rattle.std.proofs.Common.{◌≡◌, ℕ, false, IsTrue, List, [], ◌∷◌, refl, sym, ◌∙◌, ap, subst, arith}
 use Rattle.gb_text.specs.Digits.{IsId}
 use Rattle.gb_text.specs.Folder.{is_rooted, joined}
@@ -17,7 +17,7 @@ use Rattle.ref_store.proofs.FrameLemmas.{same_ref}
 use Rattle.repo_state.specs.Clocks.{clock_at, clock_in, clock_place}
 use Rattle.repo_state.specs.Rows.{stored_row}
 use Rattle.repo_state.specs.Sides.{has_ref, head_at, is_there, ref_place}
-use Rattle.repo_state.specs.Sound.{AreWhole, HasPart, HasTrueRows, IsAuthoredBug, IsSoundBug, IsSoundIdentity, IsSoundTracking, IsTrueRow, Part}
+use Rattle.repo_state.specs.Sound.{AreWhole, HasPackedRefs, HasPart, HasTrueRows, IsAuthoredBug, IsSoundBug, IsSoundIdentity, IsSoundTracking, IsTrueRow, Part}
 use Rattle.repo_state.specs.Sound as parts
 use Rattle.repo_state.specs.Users.{user_at, user_place}
 use Rattle.repo_state.specs.declared.clocks.ClockFile.{ClockFile}
@@ -87,6 +87,38 @@ module _ (folder : List ℕ) (old new : Files) (same : objects_in new folder ≡
   authored-stays stand id head was =
       subst (IsAuthoredBug folder new id) (sym head) (authored-grew folder old new same-grew stand id (head_at old folder side.Bugs id) was)
 
+-- ---- by what a folder says
+
+-- a folder says the same: its objects, refs, user, clocks and rows are as they were, and its packed refs read if they did
+pub record SaysSame (folder : List ℕ) (old new : Files) : Type 0 where
+  pub objects : objects_in new folder ≡ objects_in old folder
+  pub heads : (of : Side) (id : Id) → head_at new folder of id ≡ head_at old folder of id
+  pub user : user_at new folder ≡ user_at old folder
+  pub clocks : (which : ClockFile) → clock_at new folder which ≡ clock_at old folder which
+  pub rows : (id : Id) → stored_row new folder id ≡ stored_row old folder id
+  pub packed : HasPackedRefs folder old → HasPackedRefs folder new
+
+module _ (folder : List ℕ) (old new : Files) (same : SaysSame folder old new) where
+  -- then each part stays
+  pub part-same : (part : Part) → HasPart part folder old → HasPart part folder new
+  part-same parts.Objects has = whole-stays folder old new same.objects has
+  part-same parts.Identities has = λ id is. identity-stays folder old new same.objects id (same.heads side.Identities id) (has id is)
+  part-same parts.Bugs has = λ id is. bug-stays folder old new same.objects id (same.heads side.Bugs id) (has id is)
+  part-same parts.Authors has = λ id is.
+      authored-stays folder old new same.objects (λ author _ stands. ap is_there (same.heads side.Identities author) ∙ stands) id (same.heads side.Bugs id) (has id is)
+  part-same parts.Tracking has = λ remote id is. (
+    tracking-stays folder old new same.objects (side.RemoteBugs remote) id (same.heads (side.RemoteBugs remote) id) (has remote id is).0,
+    tracking-stays folder old new same.objects (side.RemoteIdentities remote) id (same.heads (side.RemoteIdentities remote) id) (has remote id is).1,
+  )
+  part-same parts.User has = λ bad. has (sym same.user ∙ bad)
+  part-same parts.Packed has = same.packed has
+  part-same parts.Rows has =
+      (λ id is. bug-stays folder old new same.objects id (same.heads side.Bugs id) (has.0 id is), rows-stay folder old new same.objects same.rows has.1)
+
+  -- and nothing is lost
+  pub LosesNothing-same : LosesNothing folder old new
+  LosesNothing-same = nothing_lost folder old new (same-grew folder old new same.objects) (λ of own id. same.heads of id) same.clocks
+
 -- ---- by files
 
 -- each file below a folder is as it was
@@ -94,52 +126,40 @@ abbrev pub FilesStay : List ℕ → Files → Files → Type 0
 FilesStay folder old new = (rest : List ℕ) → is_rooted rest ≡ false → new (joined folder rest) ≡ old (joined folder rest)
 
 -- no ref's place begins with a slash
-plain_ref : (of : Side) (id : Id) → is_rooted (ref_place of id) ≡ false
+pub plain_ref : (of : Side) (id : Id) → is_rooted (ref_place of id) ≡ false
 plain_ref side.Bugs id = refl
 plain_ref side.Identities id = refl
 plain_ref (side.RemoteBugs remote) id = refl
 plain_ref (side.RemoteIdentities remote) id = refl
 
 module _ (folder : List ℕ) (old new : Files) (stay : FilesStay folder old new) where
-  -- so its objects stay
-  objects : objects_in new folder ≡ objects_in old folder
-  objects = λ i name. stay (object_place name) refl i
-
-  -- its refs
+  -- so its refs stay
   head : (of : Side) (id : Id) → head_at new folder of id ≡ head_at old folder of id
   head of id = same_ref new old folder (ref_place of id) (stay (ref_place of id) (plain_ref of id)) (stay packed_place refl)
 
-  -- its clocks
+  -- and its clocks
   clock : (which : ClockFile) → clock_at new folder which ≡ clock_at old folder which
   clock file.BugsCreate = ap clock_in (stay (clock_place file.BugsCreate) refl)
   clock file.BugsEdit = ap clock_in (stay (clock_place file.BugsEdit) refl)
 
-  -- its rows
-  row : (id : Id) → stored_row new folder id ≡ stored_row old folder id
-  row id = stored_row-same old new folder id (stay (row_place id) refl)
-
-  -- and its user
-  user : user_at new folder ≡ user_at old folder
-  user = user_at-same old new folder (stay user_place refl) (head side.Identities)
+  -- and all that it says
+  says_same : SaysSame folder old new
+  says_same = record {
+    objects = λ i name. stay (object_place name) refl i;
+    heads = head;
+    user = user_at-same old new folder (stay user_place refl) (head side.Identities);
+    clocks = clock;
+    rows = λ id. stored_row-same old new folder id (stay (row_place id) refl);
+    packed = λ has. ap reads_as_packed (stay packed_place refl) ∙ has;
+  }
 
   -- each part stays
   pub part-stays : (part : Part) → HasPart part folder old → HasPart part folder new
-  part-stays parts.Objects has = whole-stays folder old new objects has
-  part-stays parts.Identities has = λ id is. identity-stays folder old new objects id (head side.Identities id) (has id is)
-  part-stays parts.Bugs has = λ id is. bug-stays folder old new objects id (head side.Bugs id) (has id is)
-  part-stays parts.Authors has = λ id is.
-      authored-stays folder old new objects (λ author _ stands. ap is_there (head side.Identities author) ∙ stands) id (head side.Bugs id) (has id is)
-  part-stays parts.Tracking has = λ remote id is. (
-    tracking-stays folder old new objects (side.RemoteBugs remote) id (head (side.RemoteBugs remote) id) (has remote id is).0,
-    tracking-stays folder old new objects (side.RemoteIdentities remote) id (head (side.RemoteIdentities remote) id) (has remote id is).1,
-  )
-  part-stays parts.User has = λ bad. has (sym user ∙ bad)
-  part-stays parts.Packed has = ap reads_as_packed (stay packed_place refl) ∙ has
-  part-stays parts.Rows has = (λ id is. bug-stays folder old new objects id (head side.Bugs id) (has.0 id is), rows-stay folder old new objects row has.1)
+  part-stays = part-same folder old new says_same
 
   -- and nothing is lost
   pub LosesNothing-stays : LosesNothing folder old new
-  LosesNothing-stays = nothing_lost folder old new (same-grew folder old new objects) (λ of own id. head of id) clock
+  LosesNothing-stays = LosesNothing-same folder old new says_same
 
 -- ---- by a write elsewhere
 
