@@ -222,13 +222,12 @@ fn write_synced<R: Files>(mut file: R::File, bytes: &[u8]) -> io::Result<()> {
     file.sync_all()
 }
 
-/// Removes the file at a path, and says whether one stood there.
-pub fn remove<R: Files>(rt: &R, path: &str) -> io::Result<bool> {
-    let stood = file_at(rt, path)?.is_some();
-    if stood {
+/// Removes the file at a path, if one stands there.
+pub fn remove<R: Files>(rt: &R, path: &str) -> io::Result<()> {
+    if file_at(rt, path)?.is_some() {
         again(|| fs::remove_file(rt, path))?;
     }
-    Ok(stood)
+    Ok(())
 }
 
 /// Removes the temporary files right in a folder, as far as they can be.

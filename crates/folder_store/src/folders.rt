@@ -114,7 +114,7 @@ impl Folders {
         self.sync_written(rt, alloc, kind)
     }
 
-    /// Removes a file, and has that reach the disk as a put does.
+    /// Removes a file. All that was put before has reached the disk. The removal reaches it when the folder is next synced.
     pub fn remove<R: Locking>(&mut self, rt: &R, alloc: Global, path: &str) -> Result<(), Failure> {
         let kind = Kind::of(path);
         let folder = folder_of(path);
@@ -126,10 +126,7 @@ impl Folders {
         if kind == Kind::Other {
             self.unsynced.add(alloc, folder)?;
         }
-        if !at(alloc, Call::Remove, path, disk::remove(rt, path))? {
-            return Ok(());
-        }
-        self.sync_written(rt, alloc, kind)
+        at(alloc, Call::Remove, path, disk::remove(rt, path))
     }
 
     /// Removes the folders that were made for this run's locks and have stayed empty.
