@@ -1,3 +1,4 @@
-mod PushLemmas
+mod ExchangeLemmas
+mod ListedLemmas
 mod StepLemmas
 mod TurnLemmas

@@ -7,15 +7,16 @@ use Rattle.gb_store.specs.declared.fault.StoreFault.{StoreFault}
 use Rattle.gb_store.specs.declared.fault.StoreFault.TheVariants as store
 use Rattle.object_store.specs.Held.{Objects, objects_after}
 use Rattle.ref_store.specs.Refs.{Ref}
-use Rattle.repo_state.specs.Answers.{IsHeadAt, PutAnswers, Reads, WholeAnswers}
+use Rattle.repo_state.specs.Answers.{EntityAnswers, IsHeadAt, IsRefOf, PutAnswers, Reads, WholeAnswers}
 use Rattle.repo_state.specs.Sides.{IsBadRef, head_at}
+use Rattle.repo_state.specs.Stops.{read_of_store}
 use Rattle.repo_state.specs.declared.refs.EntityRef.{EntityRef}
 use Rattle.repo_state.specs.declared.side.HeadEntry.{HeadEntry}
 use Rattle.repo_state.specs.declared.side.Side.{Side}
 use Rattle.repo_state.specs.declared.stop.ReadStop.{ReadStop}
 use Rattle.repo_state.specs.declared.stop.ReadStop.TheVariants as stop
 use Rattle.remote_copy.specs.Copies.{HasNoCause, IsCopied}
-use Rattle.sync_steps.specs.Carrying.{IsCutOff, IsRefused, PutObjects, head_write}
+use Rattle.sync_steps.specs.Carrying.{IsCarried, IsCutOff, IsRefused, PutObjects, head_write}
 use Rattle.sync_steps.specs.Fetching.{FetchCutOff, FetchOutcome, FetchStops, IsBadTracking, IsOther}
 use Rattle.sync_steps.specs.Pushing.{ForwardAnswers, IsBadLocal, IsForward, IsPushCut, PushCutOff, PushOfRef, PushOutcome, PushStops, Pushes}
 use Rattle.sync_steps.specs.declared.line.CopyCause.{CopyCause}
@@ -54,6 +55,29 @@ module _ (own peer : List ℕ) (to : Side) where
       subst (λ (h : Option Name). FetchOutcome own peer to entity.id h (outcome.DamagedCopy why) old new) (sym is)
       (other_head (files_of old) entity.id name found at differ, subst (λ (h : History). IsRefused true peer own (record { id = entity.id; name = name }) why h new) same refused)
 
+  -- one that memory or the disk ended
+  cut_off : (entity : EntityRef) (name : Name) (found : Option Name) (old new : History) → entity.head ≡ Some name → IsHeadAt (files_of old) own to entity.id found
+      → (found ≡ Some name → ⊥) → IsCutOff true peer own to (record { id = entity.id; name = name }) old new → FetchCutOff own peer to entity.id entity.head old new
+  cut_off entity name found old new is at differ cut =
+      subst (λ (h : Option Name). FetchCutOff own peer to entity.id h old new) (sym is) (inr (other_head (files_of old) entity.id name found at differ, cut))
+
+  pub copy_cut : (entity : EntityRef) (name : Name) (found : Option Name) (fault : StoreFault) (old new : History) → entity.head ≡ Some name → IsHeadAt (files_of old) own to entity.id found
+      → (found ≡ Some name → ⊥) → IsCutOff true peer own to (record { id = entity.id; name = name }) old new → FetchStops own peer to (read_of_store fault) entity old new
+  copy_cut entity name found store.Memory old new is at differ cut = cut_off entity name found old new is at differ cut
+  copy_cut entity name found store.Failed old new is at differ cut = cut_off entity name found old new is at differ cut
+
+  -- one that is done
+  pub copy_made : (entity : EntityRef) (name : Name) (found : Option Name) (old new : History) → entity.head ≡ Some name → IsHeadAt (files_of old) own to entity.id found
+      → (found ≡ Some name → ⊥) → IsCarried true peer own to (record { id = entity.id; name = name }) old new → FetchOutcome own peer to entity.id entity.head outcome.Fetched old new
+  copy_made entity name found old new is at differ carried =
+      subst (λ (h : Option Name). FetchOutcome own peer to entity.id h outcome.Fetched old new) (sym is) (other_head (files_of old) entity.id name found at differ, carried)
+
+  -- a tracking ref with the peer's head
+  pub found_same : (entity : EntityRef) (name : Name) (found : Option Name) (old : History) → entity.head ≡ Some name → IsHeadAt (files_of old) own to entity.id found → found ≡ Some name
+      → FetchOutcome own peer to entity.id entity.head outcome.Same old old
+  found_same entity name found old is at same =
+      subst (λ (h : Option Name). FetchOutcome own peer to entity.id h outcome.Same old old) (sym is) (subst (IsHeadAt (files_of old) own to entity.id) same at, refl)
+
   -- memory may run out behind a turn
   pub fetched_then_ended : (id : Id) (head : Option Name) (out : Outcome) (old new : History) → FetchOutcome own peer to id head out old new → FetchCutOff own peer to id head old new
   fetched_then_ended id None outcome.BadRef old new same = same
@@ -72,6 +96,12 @@ module _ (own peer : List ℕ) (to : Side) where
   fetched_then_ended id (Some name) outcome.Held old new none = absurd none
 
 -- ---- pushes
+
+-- what the peer's ref is, by its entry in a listing
+pub ref_there : (files : Files) (peer : List ℕ) (of : Side) (id : Id) (found : Option EntityRef) (theirs : EntityRef) (head : Option Name) → EntityAnswers files peer of id (Ok found) → found ≡ Some theirs
+    → theirs.head ≡ head → IsRefOf (head_at files peer of id) head
+ref_there files peer of id found theirs head told is has =
+    subst (IsRefOf (head_at files peer of id)) has ((subst (λ (f : Option EntityRef). EntityAnswers files peer of id (Ok f)) is told).1)
 
 -- nothing is settled where a head goes forward
 pub goes_forward : (objects : Objects) (ref : Ref) (name : Name) (settled : Option Outcome) → ((out : Outcome) → settled ≡ Some out → ⊥) → ForwardAnswers objects ref name (Ok settled) → IsForward objects ref name

@@ -77,6 +77,14 @@ AddsLines-next early then late line before between after adds unread lines = rec
       unread (and_parts (is_quiet line.outcome) true both.1).0 ∙ adds.unread both.0;
 }
 
+-- where the lines of both kinds came of refs alone, no object was read
+pub both_unread : (start then late : List Line) (before one mid new : ℕ) → start ≡ [] → one ≡ before → AddsLines start then one mid → AddsLines then late mid new → are_quiet late ≡ true → new ≡ before
+both_unread start then late before one mid new none same first second quiet =
+    let quiet_of = λ (ls : List Line). are_quiet ls in
+    let both = and_parts (are_quiet then) (are_quiet second.added) (sym (list_all-append (λ (l : Line). is_quiet l.outcome) then second.added) ∙ sym (ap quiet_of second.lines) ∙ quiet) in
+    let added : then ≡ first.added = first.lines ∙ ap (λ (ls : List Line). ls ++ first.added) none in
+    second.unread both.1 ∙ first.unread (sym (ap quiet_of added) ∙ both.0) ∙ same
+
 -- what is damaged among the lines of turns is what is among the turns
 pub held_by_lines : (verb : Exchange) (word : EntityWord) (turns : List Turn) → list_any (λ (line : Line). is_damage line.outcome) (lines_of verb word turns) ≡ are_held turns
 held_by_lines verb word [] = refl

@@ -1,16 +1,20 @@
 //! What a peer has comes into the own folder.
 ghost use Rattle.std.specs.Prelude.{◌≡◌, IsTrue, IsErrOf, IfOk, OnOk, true};
 ghost use Rattle.gb_store.specs.Faults.{KeepsFaults};
+ghost use Rattle.gb_store.specs.Files.{files_of};
+ghost use Rattle.listed_refs.specs.AsListed.{AreAsListed, IsAsListed};
 ghost use Rattle.sync_steps.specs.Fetching.{FetchAnswers, FetchStops, Fetches, OneFetched};
 ghost use Rattle.sync_steps.specs.Lines.{are_quiet, is_quiet};
 ghost use Rattle.sync_steps.specs.Turns.{AddsLines, EachAnswers};
 ghost use Rattle.sync_steps.specs.declared.line.Exchange.TheVariants as verb;
 
 use crate::carry::carry;
+use crate::listing::list_refs;
 use gb_store::Store;
 use gb_text::List;
+use listed_refs::ListedSide;
 use remote_name::RemoteName;
-use repo_state::{EntityRef, HeadEntry, ReadStop, Side, all_refs, head};
+use repo_state::{EntityRef, HeadEntry, ReadStop, Side};
 use std::alloc::Global;
 use sync_steps::{EntityWord, Exchange, Line, Outcome};
 use words::FolderPair;
@@ -33,51 +37,52 @@ pub fn fetch<S: Store>(
 {
     let people_side = Side::RemoteIdentities(remote.copied(alloc)?);
     let bugs_side = Side::RemoteBugs(remote.copied(alloc)?);
-    let people = all_refs(alloc, disk, &pair.peer, &Side::Identities)?;
-    let bugs = all_refs(alloc, disk, &pair.peer, &Side::Bugs)?;
+    let refs = list_refs(alloc, disk, &pair.peer, &pair.own, people_side, bugs_side)?;
     let mut lines = Vec::new(alloc);
     fetch_each(
         alloc,
         disk,
         pair,
-        &people_side,
+        &refs.people_there,
         EntityWord::Identity,
-        people.as_slice(),
+        refs.people.as_slice(),
         &mut lines,
     )?;
     fetch_each(
         alloc,
         disk,
         pair,
-        &bugs_side,
+        &refs.bugs_there,
         EntityWord::Bug,
-        bugs.as_slice(),
+        refs.bugs.as_slice(),
         &mut lines,
     )?;
     Ok(List::from_vec(lines))
 }
 
-// Fetches the entities of one kind, and adds a line for each.
+// Fetches the entities of one kind, and adds a line for each. What the tracking refs have is taken from
+// their listing: the turn of an entity sets the ref of no other.
 fn fetch_each<S: Store>(
     alloc: Global,
     disk: &mut S,
     pair: &FolderPair,
-    to: &Side,
+    seen: &ListedSide,
     word: EntityWord,
     refs: &[EntityRef],
     lines: &mut Vec<Line>,
 ) -> Result<(), ReadStop>
     ensures answers { IsTrue S.tells
-        → EachAnswers verb.Fetch word (Fetches pair.now.own pair.now.peer to.now)
-        (FetchStops pair.now.own pair.now.peer to.now) refs.now lines.old.items lines.new.items
-        (S.history disk.old) (S.history disk.new) result }
+        → AreAsListed (files_of (S.history disk.old)) pair.now.own seen.now refs.now
+        → EachAnswers verb.Fetch word (Fetches pair.now.own pair.now.peer seen.now.side)
+        (FetchStops pair.now.own pair.now.peer seen.now.side) refs.now
+        lines.old.items lines.new.items (S.history disk.old) (S.history disk.new) result }
     ensures unread { OnOk result (AddsLines lines.old.items lines.new.items
         (S.object_reads disk.old) (S.object_reads disk.new)) }
     ensures caused { KeepsFaults S.never_fails S.faults (IsErrOf result ReadStop.Disk)
         disk.old disk.new }
 {
     for entity in refs {
-        let outcome = fetch_one(alloc, disk, pair, to, entity)?;
+        let outcome = fetch_one(alloc, disk, pair, seen, entity)?;
         lines.push(Line {
             verb: Exchange::Fetch,
             word,
@@ -93,10 +98,12 @@ fn fetch_one<S: Store>(
     alloc: Global,
     disk: &mut S,
     pair: &FolderPair,
-    to: &Side,
+    seen: &ListedSide,
     entity: &EntityRef,
 ) -> Result<Outcome, ReadStop>
-    ensures answers { IsTrue S.tells → OneFetched pair.now.own pair.now.peer to.now entity.now
+    ensures answers { IsTrue S.tells
+        → IsAsListed (files_of (S.history disk.old)) pair.now.own seen.now entity.now.id
+        → OneFetched pair.now.own pair.now.peer seen.now.side entity.now
         (S.history disk.old) (S.history disk.new) result }
     ensures unread { IfOk result (λ outcome. is_quiet outcome ≡ true
         → S.object_reads disk.new ≡ S.object_reads disk.old) }
@@ -106,14 +113,14 @@ fn fetch_one<S: Store>(
     let Some(name) = entity.head else {
         return Ok(Outcome::BadRef);
     };
-    if head(alloc, disk, &pair.own, to, &entity.id)? == Some(name) {
+    if seen.head(alloc, &pair.own, &entity.id)? == Some(name) {
         return Ok(Outcome::Same);
     }
     let entry = HeadEntry {
         id: entity.id,
         name,
     };
-    match carry(alloc, disk, &pair.peer, &pair.own, true, to, &entry)? {
+    match carry(alloc, disk, &pair.peer, &pair.own, true, &seen.side, &entry)? {
         None => Ok(Outcome::Fetched),
         Some(why) => Ok(Outcome::DamagedCopy(why)),
     }

@@ -3,6 +3,7 @@
 
 mod carry;
 mod fetching;
+mod listing;
 mod pushing;
 
 pub use fetching::fetch;

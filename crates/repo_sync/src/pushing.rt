@@ -3,6 +3,7 @@ ghost use Rattle.std.specs.Prelude.{◌≡◌, IsTrue, IsErrOf, IfOk, IfSome, On
 ghost use Rattle.std.specs.List.{list_any};
 ghost use Rattle.gb_store.specs.Faults.{KeepsFaults};
 ghost use Rattle.gb_store.specs.Files.{files_of};
+ghost use Rattle.listed_refs.specs.AsListed.{AreAsListed, IsAsListed};
 ghost use Rattle.object_store.specs.Held.{objects_after};
 ghost use Rattle.repo_state.specs.Sides.{head_at};
 ghost use Rattle.sync_steps.specs.Lines.{are_quiet, is_quiet};
@@ -11,10 +12,12 @@ ghost use Rattle.sync_steps.specs.Turns.{AddsLines, EachAnswers, is_damage};
 ghost use Rattle.sync_steps.specs.declared.line.Exchange.TheVariants as verb;
 
 use crate::carry::carry;
+use crate::listing::list_refs;
 use commit_walk::lies_below;
 use gb_store::{Store, StoreFault};
 use gb_text::List;
-use repo_state::{EntityRef, HeadEntry, ReadStop, Side, all_refs, entity, whole};
+use listed_refs::ListedSide;
+use repo_state::{EntityRef, HeadEntry, ReadStop, Side, whole};
 use std::alloc::Global;
 use sync_steps::{EntityWord, Exchange, Line, Outcome};
 use words::FolderPair;
@@ -35,17 +38,23 @@ pub fn push<S: Store>(
     ensures caused { KeepsFaults S.never_fails S.faults (IsErrOf result ReadStop.Disk)
         disk.old disk.new }
 {
-    let people = all_refs(alloc, disk, &pair.own, &Side::Identities)?;
-    let bugs = all_refs(alloc, disk, &pair.own, &Side::Bugs)?;
+    let refs = list_refs(
+        alloc,
+        disk,
+        &pair.own,
+        &pair.peer,
+        Side::Identities,
+        Side::Bugs,
+    )?;
     let mut lines = Vec::new(alloc);
     push_each(
         alloc,
         disk,
         pair,
-        &Side::Identities,
+        &refs.people_there,
         EntityWord::Identity,
         false,
-        people.as_slice(),
+        refs.people.as_slice(),
         &mut lines,
     )?;
     let held = are_damaged(lines.as_slice());
@@ -53,10 +62,10 @@ pub fn push<S: Store>(
         alloc,
         disk,
         pair,
-        &Side::Bugs,
+        &refs.bugs_there,
         EntityWord::Bug,
         held,
-        bugs.as_slice(),
+        refs.bugs.as_slice(),
         &mut lines,
     )?;
     Ok(List::from_vec(lines))
@@ -78,20 +87,22 @@ fn is_damaged(line: &Line) -> bool
     }
 }
 
-// Pushes the entities of one kind, and adds a line for each.
+// Pushes the entities of one kind, and adds a line for each. What the peer's refs have is taken from their
+// listing: the turn of an entity sets the ref of no other.
 fn push_each<S: Store>(
     alloc: Global,
     disk: &mut S,
     pair: &FolderPair,
-    of: &Side,
+    there: &ListedSide,
     word: EntityWord,
     held: bool,
     refs: &[EntityRef],
     lines: &mut Vec<Line>,
 ) -> Result<(), ReadStop>
     ensures answers { IsTrue S.tells
-        → EachAnswers verb.Push word (Pushes pair.now.own pair.now.peer of.now held)
-        (PushStops pair.now.own pair.now.peer of.now held) refs.now
+        → AreAsListed (files_of (S.history disk.old)) pair.now.peer there.now refs.now
+        → EachAnswers verb.Push word (Pushes pair.now.own pair.now.peer there.now.side held)
+        (PushStops pair.now.own pair.now.peer there.now.side held) refs.now
         lines.old.items lines.new.items (S.history disk.old) (S.history disk.new) result }
     ensures unread { OnOk result (AddsLines lines.old.items lines.new.items
         (S.object_reads disk.old) (S.object_reads disk.new)) }
@@ -99,7 +110,7 @@ fn push_each<S: Store>(
         disk.old disk.new }
 {
     for entity in refs {
-        let outcome = push_or_hold(alloc, disk, pair, of, held, entity)?;
+        let outcome = push_or_hold(alloc, disk, pair, there, held, entity)?;
         lines.push(Line {
             verb: Exchange::Push,
             word,
@@ -115,11 +126,13 @@ fn push_or_hold<S: Store>(
     alloc: Global,
     disk: &mut S,
     pair: &FolderPair,
-    of: &Side,
+    there: &ListedSide,
     held: bool,
     entity: &EntityRef,
 ) -> Result<Outcome, ReadStop>
-    ensures answers { IsTrue S.tells → OnePushed pair.now.own pair.now.peer of.now held entity.now
+    ensures answers { IsTrue S.tells
+        → IsAsListed (files_of (S.history disk.old)) pair.now.peer there.now entity.now.id
+        → OnePushed pair.now.own pair.now.peer there.now.side held entity.now
         (S.history disk.old) (S.history disk.new) result }
     ensures unread { IfOk result (λ outcome. is_quiet outcome ≡ true
         → S.object_reads disk.new ≡ S.object_reads disk.old) }
@@ -129,8 +142,8 @@ fn push_or_hold<S: Store>(
     if held {
         return Ok(Outcome::Held);
     }
-    let head = whole(alloc, &pair.own, of, entity)?;
-    Ok(push_one(alloc, disk, pair, of, &head)?)
+    let head = whole(alloc, &pair.own, &there.side, entity)?;
+    Ok(push_one(alloc, disk, pair, there, &head)?)
 }
 
 // Pushes a head.
@@ -138,20 +151,22 @@ fn push_one<S: Store>(
     alloc: Global,
     disk: &mut S,
     pair: &FolderPair,
-    of: &Side,
+    there: &ListedSide,
     head: &HeadEntry,
 ) -> Result<Outcome, StoreFault>
-    ensures answers { IsTrue S.tells → HeadPushed pair.now.own pair.now.peer of.now head.now
+    ensures answers { IsTrue S.tells
+        → IsAsListed (files_of (S.history disk.old)) pair.now.peer there.now head.now.id
+        → HeadPushed pair.now.own pair.now.peer there.now.side head.now
         (S.history disk.old) (S.history disk.new) result }
     ensures unread { IfOk result (λ outcome. is_quiet outcome ≡ true
         → S.object_reads disk.new ≡ S.object_reads disk.old) }
     ensures caused { KeepsFaults S.never_fails S.faults (IsErrOf result StoreFault.Failed)
         disk.old disk.new }
 {
-    if let Some(outcome) = settled(alloc, disk, pair, of, head)? {
+    if let Some(outcome) = settled(alloc, disk, pair, there, head)? {
         return Ok(outcome);
     }
-    match carry(alloc, disk, &pair.own, &pair.peer, false, of, head)? {
+    match carry(alloc, disk, &pair.own, &pair.peer, false, &there.side, head)? {
         None => Ok(Outcome::Pushed),
         Some(why) => Ok(Outcome::DamagedCopy(why)),
     }
@@ -162,20 +177,21 @@ fn settled<S: Store>(
     alloc: Global,
     disk: &mut S,
     pair: &FolderPair,
-    of: &Side,
+    there: &ListedSide,
     head: &HeadEntry,
 ) -> Result<Option<Outcome>, StoreFault>
     ensures answers { IsTrue S.tells
+        → IsAsListed (files_of (S.history disk.old)) pair.now.peer there.now head.now.id
         → ForwardAnswers (objects_after (S.history disk.old) pair.now.own)
-        (head_at (files_of (S.history disk.old)) pair.now.peer of.now head.now.id) head.now.name
-        result }
+        (head_at (files_of (S.history disk.old)) pair.now.peer there.now.side head.now.id)
+        head.now.name result }
     ensures unwritten { IsTrue S.tells → S.history disk.new ≡ S.history disk.old }
     ensures unread { IfOk result (λ settled. IfSome settled (λ outcome. is_quiet outcome ≡ true
         → S.object_reads disk.new ≡ S.object_reads disk.old)) }
     ensures caused { KeepsFaults S.never_fails S.faults (IsErrOf result StoreFault.Failed)
         disk.old disk.new }
 {
-    let Some(theirs) = entity(alloc, disk, &pair.peer, of, &head.id)? else {
+    let Some(theirs) = there.entity(&head.id) else {
         return Ok(None);
     };
     let Some(other) = theirs.head else {

@@ -5,6 +5,7 @@ use Rattle.repo_state.specs.declared.stop.ReadStop.TheVariants as stop
 use Rattle.sync_steps.specs.Fetching.{FetchStops, Fetches}
 use Rattle.sync_steps.specs.Turns.{EachAnswers, line_of}
 use Rattle.sync_steps.specs.declared.line.Exchange.TheVariants as verb
+use Rattle.repo_sync.proofs.ListedLemmas.{next_fetched}
 use Rattle.repo_sync.proofs.StepLemmas.{fetched_then_ended}
 use Rattle.repo_sync.proofs.TurnLemmas.{AddsLines-next, Ended-at, WentOn-next}
 use Rattle.repo_sync.proofs.fetching.fetch_each.Goals as goal
@@ -14,32 +15,34 @@ none = record { id = record { bytes = [] }; head = None }
 
 pub returns-in_err-outcome-clause-answers : goal.returns-in_err-outcome-clause-answers
 unfolding none
-returns-in_err-outcome-clause-answers g c = λ tells.
+returns-in_err-outcome-clause-answers g c = λ tells alike.
     let history = g.S.Store.history in
     let a = c.args in
-    let step = Fetches a.pair.now.own a.pair.now.peer a.to.now in
-    let stops = FetchStops a.pair.now.own a.pair.now.peer a.to.now in
+    let step = Fetches a.pair.now.own a.pair.now.peer a.seen.now.side in
+    let stops = FetchStops a.pair.now.own a.pair.now.peer a.seen.now.side in
     let why = c.in_err-outcome.field-0.0 in
     let is : c.from_residual.result ≡ Err why = search rules in
     subst (EachAnswers verb.Fetch a.word step stops a.refs.now a.lines.now.items c.loop-entity.lines.items (history a.disk.now) (history c.fetch_one.new.disk)) (sym is)
     (Ended-at verb.Fetch a.word step stops why a.refs.now c.loop-entity.entity-index none a.lines.now.items c.loop-entity.lines.items (history a.disk.now) (history c.loop-entity.disk) (history c.fetch_one.new.disk)
-    c.loop-entity-test.true (c.loop-entity.invariant.went tells) (c.in_err-outcome.ensures.answers tells))
+    c.loop-entity-test.true (c.loop-entity.invariant.went tells alike) (c.in_err-outcome.ensures.answers tells
+    (next_fetched a.pair.now.own a.pair.now.peer a.word a.seen.now a.refs.now c.loop-entity.entity-index none a.lines.now.items c.loop-entity.lines.items (history a.disk.now) (history c.loop-entity.disk) c.loop-entity-test.true alike (c.loop-entity.invariant.went tells alike))))
 
 pub returns-in_err-push-clause-answers : goal.returns-in_err-push-clause-answers
 unfolding none
-returns-in_err-push-clause-answers g c = λ tells.
+returns-in_err-push-clause-answers g c = λ tells alike.
     let history = g.S.Store.history in
     let a = c.args in
     let own = a.pair.now.own in
     let peer = a.pair.now.peer in
-    let step = Fetches own peer a.to.now in
-    let stops = FetchStops own peer a.to.now in
+    let step = Fetches own peer a.seen.now.side in
+    let stops = FetchStops own peer a.seen.now.side in
     let entity = get_or a.refs.now c.loop-entity.entity-index none in
     let is : c.from_residual-in_err-push.result ≡ Err stop.Memory = search rules in
     subst (EachAnswers verb.Fetch a.word step stops a.refs.now a.lines.now.items c.push.new.self.items (history a.disk.now) (history c.fetch_one.new.disk)) (sym is)
     (Ended-at verb.Fetch a.word step stops stop.Memory a.refs.now c.loop-entity.entity-index none a.lines.now.items c.loop-entity.lines.items (history a.disk.now) (history c.loop-entity.disk) (history c.fetch_one.new.disk)
-    c.loop-entity-test.true (c.loop-entity.invariant.went tells)
-    (fetched_then_ended own peer a.to.now entity.id entity.head c.in_ok-outcome.outcome (history c.loop-entity.disk) (history c.fetch_one.new.disk) (c.in_ok-outcome.ensures.answers tells)))
+    c.loop-entity-test.true (c.loop-entity.invariant.went tells alike)
+    (fetched_then_ended own peer a.seen.now.side entity.id entity.head c.in_ok-outcome.outcome (history c.loop-entity.disk) (history c.fetch_one.new.disk) (c.in_ok-outcome.ensures.answers tells
+    (next_fetched a.pair.now.own a.pair.now.peer a.word a.seen.now a.refs.now c.loop-entity.entity-index none a.lines.now.items c.loop-entity.lines.items (history a.disk.now) (history c.loop-entity.disk) c.loop-entity-test.true alike (c.loop-entity.invariant.went tells alike)))))
 
 pub loop-entity-preserved : goal.loop-entity-preserved
 unfolding none
@@ -51,9 +54,10 @@ loop-entity-preserved g c =
     let out = c.in_ok-outcome.outcome in
     let entity = get_or a.refs.now c.loop-entity.entity-index none in
     record {
-      went = λ tells.
-          WentOn-next verb.Fetch a.word (Fetches a.pair.now.own a.pair.now.peer a.to.now) a.refs.now c.loop-entity.entity-index none out a.lines.now.items c.loop-entity.lines.items c.push.new.self.items
-          (history a.disk.now) (history c.loop-entity.disk) (history c.fetch_one.new.disk) c.loop-entity-test.true (was.went tells) (c.in_ok-outcome.ensures.answers tells) c.in_ok-push.ensures.items;
+      went = λ tells alike.
+          WentOn-next verb.Fetch a.word (Fetches a.pair.now.own a.pair.now.peer a.seen.now.side) a.refs.now c.loop-entity.entity-index none out a.lines.now.items c.loop-entity.lines.items c.push.new.self.items
+          (history a.disk.now) (history c.loop-entity.disk) (history c.fetch_one.new.disk) c.loop-entity-test.true (was.went tells alike) (c.in_ok-outcome.ensures.answers tells
+          (next_fetched a.pair.now.own a.pair.now.peer a.word a.seen.now a.refs.now c.loop-entity.entity-index none a.lines.now.items c.loop-entity.lines.items (history a.disk.now) (history c.loop-entity.disk) c.loop-entity-test.true alike (was.went tells alike))) c.in_ok-push.ensures.items;
       adds = AddsLines-next a.lines.now.items c.loop-entity.lines.items c.push.new.self.items (line_of verb.Fetch a.word (record { entity = entity; outcome = out }))
           (reads a.disk.now) (reads c.loop-entity.disk) (reads c.fetch_one.new.disk) was.adds c.in_ok-outcome.ensures.unread c.in_ok-push.ensures.items;
       caused = KeepsFaults_then g.S.Store.never_fails g.S.Store.faults _ ⊥ a.disk.now c.loop-entity.disk c.fetch_one.new.disk was.caused c.in_ok-outcome.ensures.caused (λ never. absurd never) (λ fails. absurd {A = ⊥} (cc));
