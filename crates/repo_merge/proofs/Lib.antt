@@ -1,6 +1,8 @@
 mod BugLemmas
 mod CutLemmas
+mod FaultLemmas
 mod HeadsLemmas
+mod LocalLemmas
 mod MergeLemmas
 mod PersonLemmas
 mod QuietLemmas

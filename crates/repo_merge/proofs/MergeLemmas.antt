@@ -6,6 +6,7 @@ use Rattle.gb_store.specs.declared.fault.StoreFault.{StoreFault}
 use Rattle.gb_store.specs.declared.fault.StoreFault.TheVariants as store
 use Rattle.remote_name.specs.declared.remote.RemoteName.{RemoteName}
 use Rattle.repo_state.specs.Sides.{AreIds}
+use Rattle.repo_state.specs.declared.refs.EntityRef.{EntityRef}
 use Rattle.repo_state.specs.declared.side.Side.{Side}
 use Rattle.repo_state.specs.declared.side.Side.TheVariants as side
 use Rattle.sync_steps.specs.declared.line.EntityWord.TheVariants as word
@@ -16,8 +17,11 @@ use Rattle.merge_steps.specs.declared.line.MergeLine.{MergeLine}
 use Rattle.merge_steps.specs.declared.stop.MergeStop.{MergeStop}
 use Rattle.merge_steps.specs.declared.stop.MergeStop.TheVariants as stop
 use Rattle.merge_steps.specs.declared.stop.TurnStop.{TurnStop}
-use Rattle.repo_merge.specs.Listing.{IsListing, ListAnswers}
+use Rattle.repo_merge.specs.Heads.{AreLocals}
+use Rattle.repo_merge.specs.Listing.{HasLocals, IsListing, ListAnswers}
 use Rattle.repo_merge.specs.declared.listing.Listing.{Listing}
+use Rattle.repo_merge.specs.declared.listing.Locals.{Locals}
+use Rattle.repo_merge.proofs.LocalLemmas.{all_local}
 
 module _ (folder : List ℕ) (remote : RemoteName) (now : ℕ) where
   -- nothing was begun
@@ -31,6 +35,20 @@ module _ (folder : List ℕ) (remote : RemoteName) (now : ℕ) where
   module _ (listing : Listing) (old one : History) (listed : IsListing (files_of old) folder remote listing) (same : one ≡ old) where
     tracked : Tracked folder remote now old
     tracked = record { user = listing.user; is_user = listed.is_user; people = listing.people; are_people = listed.are_people; bugs = listing.bugs; are_bugs = listed.are_bugs }
+
+    -- what the local refs of identities have is what was listed
+    pub people_here : (refs : List EntityRef) → refs ≡ listing.people → AreLocals (files_of one) folder side.Identities listing.people_here refs
+    people_here refs is =
+        subst (λ (es : List EntityRef). AreLocals (files_of one) folder side.Identities listing.people_here es) (sym is)
+        (subst (λ (h : History). AreLocals (files_of h) folder side.Identities listing.people_here listing.people) (sym same)
+        (all_local (files_of old) (files_of old) folder (side.RemoteIdentities remote) side.Identities listing.people listing.people_here listed.are_people listed.here_side listed.are_here))
+
+    -- and so it is of the bugs, once the identities had their turns
+    pub bugs_here : (mid two : History) → two ≡ mid → (locals : Locals) → HasLocals (files_of mid) folder locals → (refs : List EntityRef) → refs ≡ listing.bugs → AreLocals (files_of two) folder side.Bugs locals.bugs refs
+    bugs_here mid two same_two locals are refs is =
+        subst (λ (es : List EntityRef). AreLocals (files_of two) folder side.Bugs locals.bugs es) (sym is)
+        (subst (λ (h : History). AreLocals (files_of h) folder side.Bugs locals.bugs listing.bugs) (sym same_two)
+        (all_local (files_of mid) (files_of old) folder (side.RemoteBugs remote) side.Bugs listing.bugs locals.bugs listed.are_bugs are.bugs_side are.are_bugs))
 
     -- the call ended at an identity
     pub ended_at_person : (why : TurnStop) (new : History) → Ended (MergesPerson folder) (PersonStops folder listing.people_side) why listing.people one new

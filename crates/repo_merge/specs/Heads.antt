@@ -1,13 +1,26 @@
 -- The heads of a tracked entity.
 use Rattle.std.specs.Prelude.{◌≡◌, ⊤, ℕ, List, Some, Result, Ok, Err}
+use Rattle.gb_text.specs.declared.id.Id.{Id}
 use Rattle.gb_store.specs.Files.{Files, History, files_of}
 use Rattle.repo_state.specs.Answers.{IsHeadAt}
 use Rattle.repo_state.specs.declared.refs.EntityRef.{EntityRef}
 use Rattle.repo_state.specs.declared.side.Side.{Side}
+use Rattle.listed_refs.specs.AsListed.{AreAsListed, IsAsListed}
+use Rattle.listed_refs.specs.declared.listed.ListedSide.{ListedSide}
 use Rattle.merge_steps.specs.Merging.{IsBadTurn}
 use Rattle.merge_steps.specs.declared.stop.TurnStop.{TurnStop}
 use Rattle.merge_steps.specs.declared.stop.TurnStop.TheVariants as stop
 use Rattle.repo_merge.specs.declared.heads.Heads.{Heads}
+
+-- the ref of an id on a local side stands as it was listed
+pub record IsLocal (files : Files) (folder : List ℕ) (local : Side) (locals : ListedSide) (id : Id) : Type 0 where
+  pub side : locals.side ≡ local
+  pub alike : IsAsListed files folder locals id
+
+-- and so do those of the ids of these
+pub record AreLocals (files : Files) (folder : List ℕ) (local : Side) (locals : ListedSide) (refs : List EntityRef) : Type 0 where
+  pub side : locals.side ≡ local
+  pub alike : AreAsListed files folder locals refs
 
 -- the entity was listed with this tracked head, and its local ref has this head, or none stands
 pub record HasHeads (files : Files) (folder : List ℕ) (local : Side) (entity : EntityRef) (heads : Heads) : Type 0 where

@@ -8,7 +8,7 @@ ghost use Rattle.entity_merge.specs.Joins.{PlanAnswers};
 ghost use Rattle.entity_merge.specs.declared.word.Merged.TheVariants as merged;
 ghost use Rattle.merge_steps.specs.Merging.{BugStops, MergesBug};
 ghost use Rattle.merge_steps.specs.Turns.{EachMerged};
-ghost use Rattle.repo_merge.specs.Heads.{HasHeads};
+ghost use Rattle.repo_merge.specs.Heads.{AreLocals, HasHeads, IsLocal};
 ghost use Rattle.repo_merge.specs.Quiet.{AreKnownRefs, IsKnownRef, WasQuiet};
 ghost use Rattle.repo_merge.specs.Turning.{OneBug, new_head, word_outcome};
 ghost use Rattle.repo_state.specs.Clocks.{clock_at};
@@ -26,6 +26,7 @@ use entity_merge::{MergeFault, MergePlan, Merged, plan_merge};
 use gb_store::Store;
 use gb_text::{Folder, Name};
 use lamport::Clock;
+use listed_refs::ListedSide;
 use merge_steps::{MergeLine, MergeOutcome, TurnStop};
 use repo_state::{ClockFile, EntityRef, Side, clock};
 use std::alloc::Global;
@@ -38,15 +39,18 @@ pub fn merge_bugs<S: Store>(
     folder: &Folder,
     maker: &Maker,
     tracked: &Side,
+    locals: &ListedSide,
     refs: &[EntityRef],
     lines: &mut Vec<MergeLine>,
 ) -> Result<(), TurnStop>
     ensures answers { IsTrue S.tells
+        → AreLocals (files_of (S.history disk.old)) folder.now side.Bugs locals.now refs.now
         → EachMerged (MergesBug folder.now maker.now.user maker.now.authors maker.now.time)
         (BugStops folder.now maker.now.user maker.now.authors maker.now.time tracked.now)
         word.Bug refs.now lines.old.items lines.new.items
         (S.history disk.old) (S.history disk.new) result }
     ensures unread { IsTrue S.tells
+        → AreLocals (files_of (S.history disk.old)) folder.now side.Bugs locals.now refs.now
         → AreKnownRefs (files_of (S.history disk.old)) folder.now side.Bugs refs.now
         → WasQuiet (S.history disk.old) (S.history disk.new)
         (S.object_reads disk.old) (S.object_reads disk.new) }
@@ -54,7 +58,7 @@ pub fn merge_bugs<S: Store>(
         disk.old disk.new }
 {
     for entity in refs {
-        let outcome = merge_bug(alloc, disk, folder, maker, tracked, entity)?;
+        let outcome = merge_bug(alloc, disk, folder, maker, tracked, locals, entity)?;
         lines.push(MergeLine {
             word: EntityWord::Bug,
             id: entity.id,
@@ -71,18 +75,22 @@ fn merge_bug<S: Store>(
     folder: &Folder,
     maker: &Maker,
     tracked: &Side,
+    locals: &ListedSide,
     entity: &EntityRef,
 ) -> Result<MergeOutcome, TurnStop>
-    ensures answers { IsTrue S.tells → OneBug folder.now maker.now tracked.now entity.now
+    ensures answers { IsTrue S.tells
+        → IsLocal (files_of (S.history disk.old)) folder.now side.Bugs locals.now entity.now.id
+        → OneBug folder.now maker.now tracked.now entity.now
         (S.history disk.old) (S.history disk.new) result }
     ensures unread { IsTrue S.tells
+        → IsLocal (files_of (S.history disk.old)) folder.now side.Bugs locals.now entity.now.id
         → IsKnownRef (files_of (S.history disk.old)) folder.now side.Bugs entity.now
         → WasQuiet (S.history disk.old) (S.history disk.new)
         (S.object_reads disk.old) (S.object_reads disk.new) }
     ensures caused { KeepsFaults S.never_fails S.faults (IsErrOf result TurnStop.Disk)
         disk.old disk.new }
 {
-    let heads = heads_of(alloc, disk, folder, tracked, &Side::Bugs, entity)?;
+    let heads = heads_of(alloc, folder, tracked, locals, entity)?;
     join_heads(alloc, disk, folder, maker, &heads)
 }
 

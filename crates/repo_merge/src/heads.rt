@@ -1,12 +1,13 @@
 //! The heads of a tracked entity.
-ghost use Rattle.std.specs.Prelude.{◌≡◌, IsTrue, IsErrOf};
-ghost use Rattle.gb_store.specs.Faults.{KeepsFaults};
-ghost use Rattle.repo_merge.specs.Heads.{HeadsAnswers};
+ghost use Rattle.std.specs.Prelude.{IsErrOf};
+ghost use Rattle.gb_store.specs.Files.{History, files_of};
+ghost use Rattle.repo_merge.specs.Heads.{HeadsAnswers, IsLocal};
+ghost use Rattle.repo_state.specs.declared.side.Side.{Side as SideValue};
 
-use gb_store::Store;
 use gb_text::{Folder, Id, Name};
+use listed_refs::ListedSide;
 use merge_steps::TurnStop;
-use repo_state::{EntityRef, Side, head, whole};
+use repo_state::{EntityRef, Side, whole};
 use std::alloc::Global;
 
 /// The heads of an entity: the tracked one, and the local one if there is one.
@@ -18,24 +19,21 @@ pub struct Heads {
 }
 
 /// The heads of an entity that was listed on a tracking side, or `Damaged` where one of its refs is no ref
-/// text.
-pub fn heads_of<S: Store>(
+/// text. Nothing is read of the disk.
+pub fn heads_of(
     alloc: Global,
-    disk: &mut S,
     folder: &Folder,
     tracked: &Side,
-    local: &Side,
+    locals: &ListedSide,
     entity: &EntityRef,
 ) -> Result<Heads, TurnStop>
-    ensures answers { IsTrue S.tells → HeadsAnswers folder.now tracked.now local.now entity.now
-        (S.history disk.old) result }
-    ensures unwritten { IsTrue S.tells → S.history disk.new ≡ S.history disk.old }
-    ensures reads { S.object_reads disk.new ≡ S.object_reads disk.old }
-    ensures caused { KeepsFaults S.never_fails S.faults (IsErrOf result TurnStop.Disk)
-        disk.old disk.new }
+    ensures answers { (local : SideValue) (old : History)
+        → IsLocal (files_of old) folder.now local locals.now entity.now.id
+        → HeadsAnswers folder.now tracked.now local entity.now old result }
+    ensures no_disk { IsErrOf result TurnStop.Disk → ⊥ }
 {
     let theirs = whole(alloc, folder, tracked, entity)?;
-    let ours = head(alloc, disk, folder, local, &entity.id)?;
+    let ours = locals.head(alloc, folder, &entity.id)?;
     Ok(Heads {
         id: entity.id,
         tracked: theirs.name,

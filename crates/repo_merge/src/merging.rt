@@ -6,14 +6,13 @@ ghost use Rattle.merge_steps.specs.Turns.{MergeAnswers};
 ghost use Rattle.repo_merge.specs.Quiet.{IsInStep, WasQuiet};
 
 use crate::bugs::merge_bugs;
-use crate::listing::list_tracked;
+use crate::listing::{list_locals, list_tracked};
 use crate::maker::Maker;
 use crate::people::merge_people;
 use gb_store::Store;
 use gb_text::{Folder, List};
 use merge_steps::{MergeLine, MergeStop};
 use remote_name::RemoteName;
-use repo_state::{Side, ids};
 use std::alloc::Global;
 
 /// Merges the tracking refs of a remote into the local ones: those of the identities first, then those of the
@@ -44,13 +43,14 @@ pub fn merge<S: Store>(
         disk,
         folder,
         &listing.people_side,
+        &listing.people_here,
         listing.people.as_slice(),
         &mut lines,
     )?;
-    let authors = ids(alloc, disk, folder, &Side::Identities)?;
+    let locals = list_locals(alloc, disk, folder)?;
     let maker = Maker {
         user: listing.user,
-        authors,
+        authors: locals.authors,
         time: now,
     };
     merge_bugs(
@@ -59,6 +59,7 @@ pub fn merge<S: Store>(
         folder,
         &maker,
         &listing.bugs_side,
+        &locals.bugs,
         listing.bugs.as_slice(),
         &mut lines,
     )?;

@@ -4,7 +4,7 @@ ghost use Rattle.gb_store.specs.Faults.{KeepsFaults};
 ghost use Rattle.gb_store.specs.Files.{files_of};
 ghost use Rattle.merge_steps.specs.Merging.{MergesPerson, PersonStops};
 ghost use Rattle.merge_steps.specs.Turns.{EachMerged};
-ghost use Rattle.repo_merge.specs.Heads.{HasHeads};
+ghost use Rattle.repo_merge.specs.Heads.{AreLocals, HasHeads, IsLocal};
 ghost use Rattle.repo_merge.specs.Quiet.{AreKnownRefs, IsKnownRef, WasQuiet};
 ghost use Rattle.repo_merge.specs.Turning.{OnePerson};
 ghost use Rattle.repo_state.specs.declared.refs.EntityRef.{EntityRef as EntityRefValue};
@@ -16,6 +16,7 @@ use crate::heads::{Heads, heads_of};
 use gb_store::Store;
 use gb_text::Folder;
 use identity::{AdvanceFault, Step, advance};
+use listed_refs::ListedSide;
 use merge_steps::{MergeLine, MergeOutcome, TurnStop};
 use repo_state::{EntityRef, Side, set_head};
 use std::alloc::Global;
@@ -27,14 +28,17 @@ pub fn merge_people<S: Store>(
     disk: &mut S,
     folder: &Folder,
     tracked: &Side,
+    locals: &ListedSide,
     refs: &[EntityRef],
     lines: &mut Vec<MergeLine>,
 ) -> Result<(), TurnStop>
     ensures answers { IsTrue S.tells
+        → AreLocals (files_of (S.history disk.old)) folder.now side.Identities locals.now refs.now
         → EachMerged (MergesPerson folder.now) (PersonStops folder.now tracked.now)
         word.Identity refs.now lines.old.items lines.new.items
         (S.history disk.old) (S.history disk.new) result }
     ensures unread { IsTrue S.tells
+        → AreLocals (files_of (S.history disk.old)) folder.now side.Identities locals.now refs.now
         → AreKnownRefs (files_of (S.history disk.old)) folder.now side.Identities refs.now
         → WasQuiet (S.history disk.old) (S.history disk.new)
         (S.object_reads disk.old) (S.object_reads disk.new) }
@@ -42,7 +46,7 @@ pub fn merge_people<S: Store>(
         disk.old disk.new }
 {
     for entity in refs {
-        let outcome = merge_person(alloc, disk, folder, tracked, entity)?;
+        let outcome = merge_person(alloc, disk, folder, tracked, locals, entity)?;
         lines.push(MergeLine {
             word: EntityWord::Identity,
             id: entity.id,
@@ -58,18 +62,22 @@ fn merge_person<S: Store>(
     disk: &mut S,
     folder: &Folder,
     tracked: &Side,
+    locals: &ListedSide,
     entity: &EntityRef,
 ) -> Result<MergeOutcome, TurnStop>
-    ensures answers { IsTrue S.tells → OnePerson folder.now tracked.now entity.now
+    ensures answers { IsTrue S.tells
+        → IsLocal (files_of (S.history disk.old)) folder.now side.Identities locals.now entity.now.id
+        → OnePerson folder.now tracked.now entity.now
         (S.history disk.old) (S.history disk.new) result }
     ensures unread { IsTrue S.tells
+        → IsLocal (files_of (S.history disk.old)) folder.now side.Identities locals.now entity.now.id
         → IsKnownRef (files_of (S.history disk.old)) folder.now side.Identities entity.now
         → WasQuiet (S.history disk.old) (S.history disk.new)
         (S.object_reads disk.old) (S.object_reads disk.new) }
     ensures caused { KeepsFaults S.never_fails S.faults (IsErrOf result TurnStop.Disk)
         disk.old disk.new }
 {
-    let heads = heads_of(alloc, disk, folder, tracked, &Side::Identities, entity)?;
+    let heads = heads_of(alloc, folder, tracked, locals, entity)?;
     advance_person(alloc, disk, folder, &heads)
 }
 

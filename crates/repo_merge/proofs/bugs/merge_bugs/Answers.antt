@@ -7,6 +7,7 @@ use Rattle.merge_steps.specs.Merging.{BugStops, MergesBug}
 use Rattle.merge_steps.specs.Turns.{EachMerged}
 use Rattle.merge_steps.specs.declared.stop.TurnStop.TheVariants as stop
 use Rattle.repo_merge.proofs.CutLemmas.{bug_then_ended}
+use Rattle.repo_merge.proofs.LocalLemmas.{next_bug}
 use Rattle.repo_merge.proofs.QuietLemmas.{next_quiet}
 use Rattle.repo_merge.proofs.TurnLemmas.{Ended-at, WentOn-next}
 use Rattle.repo_merge.proofs.bugs.merge_bugs.Goals as goal
@@ -16,7 +17,7 @@ none = record { id = record { bytes = [] }; head = None }
 
 pub returns-in_err-outcome-clause-answers : goal.returns-in_err-outcome-clause-answers
 unfolding none
-returns-in_err-outcome-clause-answers g c = λ tells.
+returns-in_err-outcome-clause-answers g c = λ tells here.
     let history = g.S.Store.history in
     let a = c.args in
     let step = MergesBug a.folder.now a.maker.now.user a.maker.now.authors a.maker.now.time in
@@ -25,11 +26,12 @@ returns-in_err-outcome-clause-answers g c = λ tells.
     let is : c.from_residual.result ≡ Err why = search rules in
     subst (EachMerged step stops word.Bug a.refs.now a.lines.now.items c.loop-entity.lines.items (history a.disk.now) (history c.merge_bug.new.disk)) (sym is)
     (Ended-at step word.Bug stops why a.refs.now c.loop-entity.entity-index none a.lines.now.items c.loop-entity.lines.items (history a.disk.now) (history c.loop-entity.disk) (history c.merge_bug.new.disk)
-    c.loop-entity-test.true (c.loop-entity.invariant.went tells) (c.in_err-outcome.ensures.answers tells))
+    c.loop-entity-test.true (c.loop-entity.invariant.went tells here) (c.in_err-outcome.ensures.answers tells
+    (next_bug a.folder.now a.maker.now a.locals.now a.refs.now c.loop-entity.entity-index none a.lines.now.items c.loop-entity.lines.items (history a.disk.now) (history c.loop-entity.disk) c.loop-entity-test.true here (c.loop-entity.invariant.went tells here))))
 
 pub returns-in_err-push-clause-answers : goal.returns-in_err-push-clause-answers
 unfolding none
-returns-in_err-push-clause-answers g c = λ tells.
+returns-in_err-push-clause-answers g c = λ tells here.
     let history = g.S.Store.history in
     let a = c.args in
     let step = MergesBug a.folder.now a.maker.now.user a.maker.now.authors a.maker.now.time in
@@ -37,8 +39,9 @@ returns-in_err-push-clause-answers g c = λ tells.
     let is : c.from_residual-in_err-push.result ≡ Err stop.Memory = search rules in
     subst (EachMerged step stops word.Bug a.refs.now a.lines.now.items c.push.new.self.items (history a.disk.now) (history c.merge_bug.new.disk)) (sym is)
     (Ended-at step word.Bug stops stop.Memory a.refs.now c.loop-entity.entity-index none a.lines.now.items c.loop-entity.lines.items (history a.disk.now) (history c.loop-entity.disk) (history c.merge_bug.new.disk)
-    c.loop-entity-test.true (c.loop-entity.invariant.went tells) (bug_then_ended a.folder.now a.maker.now.user a.maker.now.authors a.maker.now.time (get_or a.refs.now c.loop-entity.entity-index none) (history c.loop-entity.disk) (history c.merge_bug.new.disk)
-    c.in_ok-outcome.outcome (c.in_ok-outcome.ensures.answers tells)))
+    c.loop-entity-test.true (c.loop-entity.invariant.went tells here) (bug_then_ended a.folder.now a.maker.now.user a.maker.now.authors a.maker.now.time (get_or a.refs.now c.loop-entity.entity-index none) (history c.loop-entity.disk) (history c.merge_bug.new.disk)
+    c.in_ok-outcome.outcome (c.in_ok-outcome.ensures.answers tells
+    (next_bug a.folder.now a.maker.now a.locals.now a.refs.now c.loop-entity.entity-index none a.lines.now.items c.loop-entity.lines.items (history a.disk.now) (history c.loop-entity.disk) c.loop-entity-test.true here (c.loop-entity.invariant.went tells here)))))
 
 pub loop-entity-preserved : goal.loop-entity-preserved
 unfolding none
@@ -48,29 +51,33 @@ loop-entity-preserved g c =
     let a = c.args in
     let was = c.loop-entity.invariant in
     record {
-      went = λ tells.
+      went = λ tells here.
           WentOn-next (MergesBug a.folder.now a.maker.now.user a.maker.now.authors a.maker.now.time) word.Bug a.refs.now c.loop-entity.entity-index none c.in_ok-outcome.outcome a.lines.now.items c.loop-entity.lines.items c.push.new.self.items
-          (history a.disk.now) (history c.loop-entity.disk) (history c.merge_bug.new.disk) c.loop-entity-test.true (was.went tells) (c.in_ok-outcome.ensures.answers tells) c.in_ok-push.ensures.items;
-      quiet = λ tells known.
+          (history a.disk.now) (history c.loop-entity.disk) (history c.merge_bug.new.disk) c.loop-entity-test.true (was.went tells here) (c.in_ok-outcome.ensures.answers tells
+          (next_bug a.folder.now a.maker.now a.locals.now a.refs.now c.loop-entity.entity-index none a.lines.now.items c.loop-entity.lines.items (history a.disk.now) (history c.loop-entity.disk) c.loop-entity-test.true here (was.went tells here))) c.in_ok-push.ensures.items;
+      quiet = λ tells here known.
           next_quiet a.folder.now side.Bugs a.refs.now c.loop-entity.entity-index none (history a.disk.now) (history c.loop-entity.disk) (history c.merge_bug.new.disk)
-          (reads a.disk.now) (reads c.loop-entity.disk) (reads c.merge_bug.new.disk) c.loop-entity-test.true known (was.quiet tells known) (c.merge_bug.ensures.unread tells);
+          (reads a.disk.now) (reads c.loop-entity.disk) (reads c.merge_bug.new.disk) c.loop-entity-test.true known (was.quiet tells here known) (c.merge_bug.ensures.unread tells
+          (next_bug a.folder.now a.maker.now a.locals.now a.refs.now c.loop-entity.entity-index none a.lines.now.items c.loop-entity.lines.items (history a.disk.now) (history c.loop-entity.disk) c.loop-entity-test.true here (was.went tells here)));
       caused = KeepsFaults_then g.S.Store.never_fails g.S.Store.faults _ ⊥ a.disk.now c.loop-entity.disk c.merge_bug.new.disk was.caused c.in_ok-outcome.ensures.caused (λ never. absurd never) (λ fails. absurd {A = ⊥} (cc));
     }
 
 pub returns-in_err-outcome-clause-unread : goal.returns-in_err-outcome-clause-unread
 unfolding none
-returns-in_err-outcome-clause-unread g c = λ tells known.
+returns-in_err-outcome-clause-unread g c = λ tells here known.
     let history = g.S.Store.history in
     let reads = g.S.Store.object_reads in
     let a = c.args in
     next_quiet a.folder.now side.Bugs a.refs.now c.loop-entity.entity-index none (history a.disk.now) (history c.loop-entity.disk) (history c.merge_bug.new.disk)
-    (reads a.disk.now) (reads c.loop-entity.disk) (reads c.merge_bug.new.disk) c.loop-entity-test.true known (c.loop-entity.invariant.quiet tells known) (c.merge_bug.ensures.unread tells)
+    (reads a.disk.now) (reads c.loop-entity.disk) (reads c.merge_bug.new.disk) c.loop-entity-test.true known (c.loop-entity.invariant.quiet tells here known) (c.merge_bug.ensures.unread tells
+    (next_bug a.folder.now a.maker.now a.locals.now a.refs.now c.loop-entity.entity-index none a.lines.now.items c.loop-entity.lines.items (history a.disk.now) (history c.loop-entity.disk) c.loop-entity-test.true here (c.loop-entity.invariant.went tells here)))
 
 pub returns-in_err-push-clause-unread : goal.returns-in_err-push-clause-unread
 unfolding none
-returns-in_err-push-clause-unread g c = λ tells known.
+returns-in_err-push-clause-unread g c = λ tells here known.
     let history = g.S.Store.history in
     let reads = g.S.Store.object_reads in
     let a = c.args in
     next_quiet a.folder.now side.Bugs a.refs.now c.loop-entity.entity-index none (history a.disk.now) (history c.loop-entity.disk) (history c.merge_bug.new.disk)
-    (reads a.disk.now) (reads c.loop-entity.disk) (reads c.merge_bug.new.disk) c.loop-entity-test.true known (c.loop-entity.invariant.quiet tells known) (c.merge_bug.ensures.unread tells)
+    (reads a.disk.now) (reads c.loop-entity.disk) (reads c.merge_bug.new.disk) c.loop-entity-test.true known (c.loop-entity.invariant.quiet tells here known) (c.merge_bug.ensures.unread tells
+    (next_bug a.folder.now a.maker.now a.locals.now a.refs.now c.loop-entity.entity-index none a.lines.now.items c.loop-entity.lines.items (history a.disk.now) (history c.loop-entity.disk) c.loop-entity-test.true here (c.loop-entity.invariant.went tells here)))

@@ -6,6 +6,7 @@ use Rattle.sync_steps.specs.declared.line.EntityWord.TheVariants as word
 use Rattle.merge_steps.specs.Merging.{MergesPerson, PersonStops}
 use Rattle.merge_steps.specs.Turns.{EachMerged}
 use Rattle.merge_steps.specs.declared.stop.TurnStop.TheVariants as stop
+use Rattle.repo_merge.proofs.LocalLemmas.{next_person}
 use Rattle.repo_merge.proofs.QuietLemmas.{next_quiet}
 use Rattle.repo_merge.proofs.TurnLemmas.{Ended-at, WentOn-next}
 use Rattle.repo_merge.proofs.people.merge_people.Goals as goal
@@ -15,7 +16,7 @@ none = record { id = record { bytes = [] }; head = None }
 
 pub returns-in_err-outcome-clause-answers : goal.returns-in_err-outcome-clause-answers
 unfolding none
-returns-in_err-outcome-clause-answers g c = λ tells.
+returns-in_err-outcome-clause-answers g c = λ tells here.
     let history = g.S.Store.history in
     let a = c.args in
     let step = MergesPerson a.folder.now in
@@ -24,11 +25,12 @@ returns-in_err-outcome-clause-answers g c = λ tells.
     let is : c.from_residual.result ≡ Err why = search rules in
     subst (EachMerged step stops word.Identity a.refs.now a.lines.now.items c.loop-entity.lines.items (history a.disk.now) (history c.merge_person.new.disk)) (sym is)
     (Ended-at step word.Identity stops why a.refs.now c.loop-entity.entity-index none a.lines.now.items c.loop-entity.lines.items (history a.disk.now) (history c.loop-entity.disk) (history c.merge_person.new.disk)
-    c.loop-entity-test.true (c.loop-entity.invariant.went tells) (c.in_err-outcome.ensures.answers tells))
+    c.loop-entity-test.true (c.loop-entity.invariant.went tells here) (c.in_err-outcome.ensures.answers tells
+    (next_person a.folder.now a.locals.now a.refs.now c.loop-entity.entity-index none a.lines.now.items c.loop-entity.lines.items (history a.disk.now) (history c.loop-entity.disk) c.loop-entity-test.true here (c.loop-entity.invariant.went tells here))))
 
 pub returns-in_err-push-clause-answers : goal.returns-in_err-push-clause-answers
 unfolding none
-returns-in_err-push-clause-answers g c = λ tells.
+returns-in_err-push-clause-answers g c = λ tells here.
     let history = g.S.Store.history in
     let a = c.args in
     let step = MergesPerson a.folder.now in
@@ -36,7 +38,11 @@ returns-in_err-push-clause-answers g c = λ tells.
     let is : c.from_residual-in_err-push.result ≡ Err stop.Memory = search rules in
     subst (EachMerged step stops word.Identity a.refs.now a.lines.now.items c.push.new.self.items (history a.disk.now) (history c.merge_person.new.disk)) (sym is)
     (Ended-at step word.Identity stops stop.Memory a.refs.now c.loop-entity.entity-index none a.lines.now.items c.loop-entity.lines.items (history a.disk.now) (history c.loop-entity.disk) (history c.merge_person.new.disk)
-    c.loop-entity-test.true (c.loop-entity.invariant.went tells) (inr (c.in_ok-outcome.outcome, c.in_ok-outcome.ensures.answers tells)))
+    c.loop-entity-test.true (c.loop-entity.invariant.went tells here) (inr (
+      c.in_ok-outcome.outcome,
+      c.in_ok-outcome.ensures.answers tells
+          (next_person a.folder.now a.locals.now a.refs.now c.loop-entity.entity-index none a.lines.now.items c.loop-entity.lines.items (history a.disk.now) (history c.loop-entity.disk) c.loop-entity-test.true here (c.loop-entity.invariant.went tells here)),
+    )))
 
 pub loop-entity-preserved : goal.loop-entity-preserved
 unfolding none
@@ -46,29 +52,33 @@ loop-entity-preserved g c =
     let a = c.args in
     let was = c.loop-entity.invariant in
     record {
-      went = λ tells.
+      went = λ tells here.
           WentOn-next (MergesPerson a.folder.now) word.Identity a.refs.now c.loop-entity.entity-index none c.in_ok-outcome.outcome a.lines.now.items c.loop-entity.lines.items c.push.new.self.items
-          (history a.disk.now) (history c.loop-entity.disk) (history c.merge_person.new.disk) c.loop-entity-test.true (was.went tells) (c.in_ok-outcome.ensures.answers tells) c.in_ok-push.ensures.items;
-      quiet = λ tells known.
+          (history a.disk.now) (history c.loop-entity.disk) (history c.merge_person.new.disk) c.loop-entity-test.true (was.went tells here) (c.in_ok-outcome.ensures.answers tells
+          (next_person a.folder.now a.locals.now a.refs.now c.loop-entity.entity-index none a.lines.now.items c.loop-entity.lines.items (history a.disk.now) (history c.loop-entity.disk) c.loop-entity-test.true here (was.went tells here))) c.in_ok-push.ensures.items;
+      quiet = λ tells here known.
           next_quiet a.folder.now side.Identities a.refs.now c.loop-entity.entity-index none (history a.disk.now) (history c.loop-entity.disk) (history c.merge_person.new.disk)
-          (reads a.disk.now) (reads c.loop-entity.disk) (reads c.merge_person.new.disk) c.loop-entity-test.true known (was.quiet tells known) (c.merge_person.ensures.unread tells);
+          (reads a.disk.now) (reads c.loop-entity.disk) (reads c.merge_person.new.disk) c.loop-entity-test.true known (was.quiet tells here known) (c.merge_person.ensures.unread tells
+          (next_person a.folder.now a.locals.now a.refs.now c.loop-entity.entity-index none a.lines.now.items c.loop-entity.lines.items (history a.disk.now) (history c.loop-entity.disk) c.loop-entity-test.true here (was.went tells here)));
       caused = KeepsFaults_then g.S.Store.never_fails g.S.Store.faults _ ⊥ a.disk.now c.loop-entity.disk c.merge_person.new.disk was.caused c.in_ok-outcome.ensures.caused (λ never. absurd never) (λ fails. absurd {A = ⊥} (cc));
     }
 
 pub returns-in_err-outcome-clause-unread : goal.returns-in_err-outcome-clause-unread
 unfolding none
-returns-in_err-outcome-clause-unread g c = λ tells known.
+returns-in_err-outcome-clause-unread g c = λ tells here known.
     let history = g.S.Store.history in
     let reads = g.S.Store.object_reads in
     let a = c.args in
     next_quiet a.folder.now side.Identities a.refs.now c.loop-entity.entity-index none (history a.disk.now) (history c.loop-entity.disk) (history c.merge_person.new.disk)
-    (reads a.disk.now) (reads c.loop-entity.disk) (reads c.merge_person.new.disk) c.loop-entity-test.true known (c.loop-entity.invariant.quiet tells known) (c.merge_person.ensures.unread tells)
+    (reads a.disk.now) (reads c.loop-entity.disk) (reads c.merge_person.new.disk) c.loop-entity-test.true known (c.loop-entity.invariant.quiet tells here known) (c.merge_person.ensures.unread tells
+    (next_person a.folder.now a.locals.now a.refs.now c.loop-entity.entity-index none a.lines.now.items c.loop-entity.lines.items (history a.disk.now) (history c.loop-entity.disk) c.loop-entity-test.true here (c.loop-entity.invariant.went tells here)))
 
 pub returns-in_err-push-clause-unread : goal.returns-in_err-push-clause-unread
 unfolding none
-returns-in_err-push-clause-unread g c = λ tells known.
+returns-in_err-push-clause-unread g c = λ tells here known.
     let history = g.S.Store.history in
     let reads = g.S.Store.object_reads in
     let a = c.args in
     next_quiet a.folder.now side.Identities a.refs.now c.loop-entity.entity-index none (history a.disk.now) (history c.loop-entity.disk) (history c.merge_person.new.disk)
-    (reads a.disk.now) (reads c.loop-entity.disk) (reads c.merge_person.new.disk) c.loop-entity-test.true known (c.loop-entity.invariant.quiet tells known) (c.merge_person.ensures.unread tells)
+    (reads a.disk.now) (reads c.loop-entity.disk) (reads c.merge_person.new.disk) c.loop-entity-test.true known (c.loop-entity.invariant.quiet tells here known) (c.merge_person.ensures.unread tells
+    (next_person a.folder.now a.locals.now a.refs.now c.loop-entity.entity-index none a.lines.now.items c.loop-entity.lines.items (history a.disk.now) (history c.loop-entity.disk) c.loop-entity-test.true here (c.loop-entity.invariant.went tells here)))
