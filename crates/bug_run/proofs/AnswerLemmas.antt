@@ -23,8 +23,9 @@ use Rattle.repo_view.proofs.MissedLemmas.{one_log_missed, one_show_missed, one_u
 use Rattle.repo_view.proofs.ShownLemmas.{one_show, one_users, show_not_missed, shown_not_damaged}
 use Rattle.bug_run.specs.Run.{CommandAnswers}
 use Rattle.bug_run.specs.Answer.{Answer}
+use Rattle.bug_run.proofs.PackLemmas.{one_pack_refusal, one_pack_told, pack_not_refused}
 use Rattle.words.specs.declared.words.Command.{Command}
-use Rattle.words.specs.declared.words.Command.TheVariants.{Edit, Log, Show, Users}
+use Rattle.words.specs.declared.words.Command.TheVariants.{Edit, Log, PackRefs, Show, Users}
 
 -- answers with the same text, none of whose lines is a refusal, are one
 same_answer : (first second : Answer) → first.text ≡ second.text → first.refused ≡ 0 → second.refused ≡ 0 → first ≡ second
@@ -46,6 +47,7 @@ one_told env (Edit edit) old elder one two first second same (id, here, is) (oth
     let step = subst (λ (files : Files). Steps env edit files (files_of two) other) (sym same) (done_steps env edit elder two other there) in
     let told : id ≡ other = (steps-same env edit (files_of old) (files_of one) (files_of two) id other (done_steps env edit old one id here) step).told in
     cc (told, is, also)
+one_told env PackRefs old elder one two first second same here there = one_pack_told env.folder old elder one two first second same here there
 
 -- and has no refusal
 pub done_not_refused : (env : Env) (command : Command) (old one two : History) (said : Answer) (r : Refusal)
@@ -54,6 +56,7 @@ done_not_refused env Users old one two said r here ((path, there, is), same) = s
 done_not_refused env (Show bug) old one two said r here ((why, there, is), same) = show_not_missed (files_of old) env.folder bug said.text why here.0.0 there
 done_not_refused env (Log bug) old one two said r here ((why, there, is), same) = log_not_missed (files_of old) env.folder bug said.text why here.0.0 there
 done_not_refused env (Edit edit) old one two said r (id, (op, done), is) (other, refused) = never_refused env edit old r (op, done.may) (other, refused.0)
+done_not_refused env PackRefs old one two said r here there = pack_not_refused env.folder old one two said r here there
 
 -- one that edits nothing has one refusal
 pub one_refusal : (env : Env) (command : Command) (old elder one two : History) (first second : Refusal) → files_of old ≡ files_of elder
@@ -68,6 +71,7 @@ one_refusal env (Log bug) old elder one two first second same reads ((why, here,
     let told = one_log_missed (files_of old) env.folder bug why other here (subst (λ (files : Files). LogAnswers files env.folder bug (Err (find.Missed other))) (sym same) there) in
     is ∙ ap of_missed told ∙ sym also
 one_refusal env (Edit edit) old elder one two first second same reads here there = absurd (reads edit refl)
+one_refusal env PackRefs old elder one two first second same reads here there = one_pack_refusal env.folder old elder one two first second same here there
 
 -- one that edits and is done tells the line of the id of its step
 pub tells_its_id : (env : Env) (edit : Edits) (old new : History) (said : Answer) → CommandAnswers env (Edit edit) old new (Ok said)

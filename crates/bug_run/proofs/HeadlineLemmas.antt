@@ -27,7 +27,7 @@ use Rattle.words.specs.declared.pair.FolderPair.{FolderPair}
 use Rattle.words.specs.declared.words.Asked.{Asked}
 use Rattle.words.specs.declared.words.Asked.TheVariants as asked
 use Rattle.words.specs.declared.words.Command.{Command}
-use Rattle.words.specs.declared.words.Command.TheVariants.{Edit, Log, Show, Users}
+use Rattle.words.specs.declared.words.Command.TheVariants.{Edit, Log, PackRefs, Show, Users}
 use Rattle.words.specs.declared.words.MergeRequest.{MergeRequest}
 use Rattle.words.specs.declared.words.PeerCommand.{PeerCommand}
 use Rattle.words.specs.declared.words.PeerCommand.TheVariants.{Fetch, Pull, Push}
@@ -102,6 +102,7 @@ module _ (call : Call) (old new : History) (before after : List ℕ) (answer : S
   command_ends folder (Log sought) sound asks = tt
   command_ends folder Users sound asks = tt
   command_ends folder (Edit edit) sound asks = tt
+  command_ends folder PackRefs sound asks = tt
 
   -- ---- merge and pull
 

@@ -7,6 +7,8 @@ pub mod LookLemmas
 pub mod LineLemmas
 pub mod ListLemmas
 pub mod MergeLawLemmas
+pub mod PackLawLemmas
+pub mod PackLemmas
 pub mod ReadLemmas
 pub mod RunLemmas
 pub mod RunsLemmas

@@ -17,7 +17,7 @@ use Rattle.words.specs.declared.pair.FolderPair.{FolderPair}
 use Rattle.words.specs.declared.words.PeerCommand.{PeerCommand}
 use Rattle.words.specs.declared.words.PeerCommand.TheVariants.{Fetch, Pull, Push}
 use Rattle.words.specs.declared.words.Command.{Command}
-use Rattle.words.specs.declared.words.Command.TheVariants.{Edit, Log, Show, Users}
+use Rattle.words.specs.declared.words.Command.TheVariants.{Edit, Log, PackRefs, Show, Users}
 
 -- a status by which lines were answered is told of no failure
 pub never_lines : (s : Stop) → HasLines (status_of (Err s)) → ⊥
@@ -69,6 +69,7 @@ command_narrower files folder Users P Q before after less reads = reads
 command_narrower files folder (Show bug) P Q before after less reads = reads
 command_narrower files folder (Log bug) P Q before after less reads = reads
 command_narrower files folder (Edit edit) P Q before after less reads = edit_narrower files folder edit P Q before after less reads
+command_narrower files folder PackRefs P Q before after less reads = reads
 
 pub exchange_narrower : (command : PeerCommand) (pair : FolderPair) (files : Files) (P Q : Type 0) (before after : ℕ) → (Q → P)
     → ReadsExchange command pair files P before after → ReadsExchange command pair files Q before after

@@ -10,7 +10,9 @@ use Rattle.repo_state.specs.Sound.{IsSound, KeepsParts}
 use Rattle.repo_state.proofs.EmptyLemmas.{empty_is_sound}
 use Rattle.repo_state.proofs.PlaceLemmas.{same_or_other}
 use Rattle.repo_writes.specs.Kept.{LosesNothing}
+use Rattle.ref_packing.specs.Kinds.{IsPackWrite}
 use Rattle.repo_writes.specs.Kinds.{IsWrite}
+use Rattle.repo_writes.proofs.PackLemmas.{pack_apart_keeps_parts, pack_apart_loses_nothing, pack_keeps_parts, pack_loses_nothing}
 use Rattle.repo_writes.proofs.KeptLemmas.{LosesNothing-none, LosesNothing-then, apart_keeps_parts, apart_loses_nothing, loses_nothing}
 use Rattle.repo_writes.proofs.SoundLemmas.{keeps_parts, keeps_sound}
 use Rattle.bug_run.specs.Exchanges.{ExchangeWrites, written_by}
@@ -56,6 +58,14 @@ module _ (folders : List (List ℕ)) (apart : AreApart folders) (folder : List �
   there other old new (inr other_place) wrote =
       by_parts old new (apart_keeps_parts folder other old new other_place wrote) (apart_loses_nothing folder other old new other_place wrote)
 
+  -- and so is what a pack writes
+  packed_there : (other : List ℕ) (old new : History) → IsThisOrApart folder other → Wrote (IsPackWrite other) old new → Keeps folders folder old new
+  packed_there other old new (inl same) wrote =
+      let writes = subst (λ (f : List ℕ). Wrote (IsPackWrite f) old new) same wrote in
+      by_parts old new (pack_keeps_parts folder old new writes) (pack_loses_nothing folder old new writes)
+  packed_there other old new (inr other_place) wrote =
+      by_parts old new (pack_apart_keeps_parts folder other old new other_place wrote) (pack_apart_loses_nothing folder other old new other_place wrote)
+
   -- a fetch and a pull keep their own folder; a push keeps the peer, if it is from a sound folder
   written : (command : PeerCommand) (pair : FolderPair) (old new : History) → (command ≡ Push → Contains folders pair.peer → Contains folders pair.own)
       → written_by command pair ≡ folder → WroteBy (ExchangeWrites command pair) old new → Keeps folders folder old new
@@ -94,7 +104,11 @@ module _ (folders : List (List ℕ)) (apart : AreApart folders) (folder : List �
   asked_keeps (asked.Refused bad) moment old new place wrote =
       there folder old new (inl refl) (WroteBy-wider (AskedWrites (asked.Refused bad) moment) (at_moment (IsWrite folder)) old new (λ (earlier : List Change) (change : Change) none. absurd none) wrote)
   asked_keeps (asked.Request request) moment old new place wrote =
-      there request.folder old new (this_or_apart request.folder place) (of_kinds request moment old new wrote)
+      let at = this_or_apart request.folder place in
+      elim (of_kinds request moment old new wrote) [
+        | inl writes ↦ there request.folder old new at writes
+        | inr packs ↦ packed_there request.folder old new at packs
+      ]
   asked_keeps (asked.Exchange request) moment old new place wrote =
       exchanged request.command request.pair old new place.1 (this_or_apart (written_by request.command request.pair) place.0) wrote
   asked_keeps (asked.Merge request) moment old new place wrote = there request.folder old new (this_or_apart request.folder place) wrote

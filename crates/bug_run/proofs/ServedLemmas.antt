@@ -25,9 +25,10 @@ use Rattle.bug_run.specs.declared.status.Status.{Status}
 use Rattle.bug_run.specs.declared.status.Status.TheVariants as status
 use Rattle.words.specs.declared.words.Asked.TheVariants as asked
 use Rattle.words.specs.declared.words.Command.{Command}
-use Rattle.words.specs.declared.words.Command.TheVariants.{Edit, Log, Show, Users}
+use Rattle.words.specs.declared.words.Command.TheVariants.{Edit, Log, PackRefs, Show, Users}
 use Rattle.words.specs.declared.words.Request.{Request}
 use Rattle.bug_run.proofs.LookLemmas.{begun, look_done, not_begun}
+use Rattle.bug_run.proofs.PackLemmas.{pack_served}
 use Rattle.bug_run.proofs.WordLemmas.{answered, printed_told}
 
 -- ---- commands that read
@@ -50,6 +51,7 @@ served env Users old new sound none r ((path, is, told), same) = users_not_damag
 served env (Show word) old new sound none r ((why, is, told), same) = show_served (files_of old) env.folder sound word none why is
 served env (Log word) old new sound none r ((why, is, told), same) = log_served (files_of old) env.folder sound word none why is
 served env (Edit edit) old new sound none r is = none (r, (is.0, is.1.0))
+served env PackRefs old new sound none r is = pack_served env.folder old sound none r is.1
 
 -- one that is done prints no line that is a refusal
 no_line : (env : Env) (command : Command) (old new : History) (said : Answer) → CommandAnswers env command old new (Ok said) → said.refused ≡ 0
@@ -57,6 +59,7 @@ no_line env Users old new said is = is.0.1
 no_line env (Show word) old new said is = is.0.1
 no_line env (Log word) old new said is = is.0.1
 no_line env (Edit edit) old new said is = ap (λ (s : Answer). s.refused) is.2
+no_line env PackRefs old new said is = ap (λ (s : Answer). s.refused) is.2
 
 -- ---- a run
 

@@ -14,7 +14,7 @@ use Rattle.repo_view.specs.Shown.{ReadsShow}
 use Rattle.bug_run.specs.Exchanges.{ReadsExchange, ReadsMerge}
 use Rattle.bug_run.specs.Looks.{ReadsGuarded}
 use Rattle.words.specs.declared.words.Command.{Command}
-use Rattle.words.specs.declared.words.Command.TheVariants.{Edit, Log, Show, Users}
+use Rattle.words.specs.declared.words.Command.TheVariants.{Edit, Log, PackRefs, Show, Users}
 use Rattle.words.specs.declared.words.Asked.{Asked}
 use Rattle.words.specs.declared.words.Asked.TheVariants as asked
 
@@ -24,6 +24,7 @@ ReadsCommand files folder Users IsDone before after = ReadsPeople files folder b
 ReadsCommand files folder (Show bug) IsDone before after = ReadsShow files folder bug before after
 ReadsCommand files folder (Log bug) IsDone before after = ReadsLog files folder bug before after
 ReadsCommand files folder (Edit edit) IsDone before after = ReadsFor files folder edit IsDone before after
+ReadsCommand files folder PackRefs IsDone before after = after ≡ before
 
 -- of what arguments ask, by whether it was done and whether lines were answered: none, or those of the command in its folder
 abbrev pub ReadsAsked : Asked → Files → Type 0 → Type 0 → ℕ → ℕ → Type 0

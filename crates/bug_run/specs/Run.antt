@@ -1,5 +1,5 @@
 -- What a run of the program answers and prints, and what it writes.
-use Rattle.std.specs.Prelude.{◌≡◌, ◌++◌, ⊤, ℕ, zero, suc, Bool, IsTrue, List, [], ◌∷◌, Result, Ok, Err}
+use Rattle.std.specs.Prelude.{◌≡◌, ◌++◌, ⊤, ℕ, zero, suc, Bool, IsTrue, List, [], ◌∷◌, Result, Ok, Err, codes, decimal}
 use Rattle.gb_text.specs.declared.id.Id.{Id}
 use Rattle.gb_store.specs.Files.{History, files_of}
 use Rattle.gb_store.specs.Moments.{Wrote}
@@ -19,6 +19,8 @@ use Rattle.repo_steps.specs.declared.env.Env.{Env}
 use Rattle.repo_steps.specs.declared.refusal.Refusal.TheVariants as refusal
 use Rattle.repo_steps.specs.declared.refusal.Stop.{Stop}
 use Rattle.repo_steps.specs.declared.refusal.Stop.TheVariants as stop
+use Rattle.repo_edit.specs.Packing.{PackRefsAnswers}
+use Rattle.ref_packing.specs.Kinds.{IsPackWrite}
 use Rattle.repo_lists.specs.Lists.{ListAnswers}
 use Rattle.repo_writes.specs.Kinds.{IsRowWrite, IsWrite}
 use Rattle.repo_view.specs.Log.{LogAnswers}
@@ -35,7 +37,7 @@ use Rattle.bug_run.specs.declared.status.Status.TheVariants as status
 use Rattle.words.specs.declared.words.Asked.{Asked}
 use Rattle.words.specs.declared.words.Asked.TheVariants as asked
 use Rattle.words.specs.declared.words.Command.{Command}
-use Rattle.words.specs.declared.words.Command.TheVariants.{Edit, Log, Show, Users}
+use Rattle.words.specs.declared.words.Command.TheVariants.{Edit, Log, PackRefs, Show, Users}
 use Rattle.words.specs.declared.list.ListRequest.{ListRequest}
 use Rattle.words.specs.declared.words.MergeRequest.{MergeRequest}
 use Rattle.words.specs.declared.words.PeerRequest.{PeerRequest}
@@ -76,12 +78,23 @@ EditTells env edit old new (Ok answer) =
     (id : Id) × EditAnswers env edit old new (Ok id) × (answer ≡ record { text = id_line id; refused = 0 })
 EditTells env edit old new (Err s) = EditAnswers env edit old new (Err s)
 
+-- what is printed of a pack
+abbrev pub packed_line : ℕ → List ℕ
+packed_line count = codes "packed " ++ decimal count ++ codes "\n"
+
+-- the answer to a pack of the refs, which tells how many were packed; memory may run out for that line
+abbrev pub PackTells : List ℕ → History → History → Result Answer Stop → Type 0
+PackTells folder old new (Ok answer) =
+    (count : ℕ) × PackRefsAnswers folder old new (Ok count) × (answer ≡ record { text = packed_line count; refused = 0 })
+PackTells folder old new (Err s) = PackRefsAnswers folder old new (Err s)
+
 -- the answer to a command in a folder, with what was written: that of the one call that it makes
 abbrev pub CommandAnswers : Env → Command → History → History → Result Answer Stop → Type 0
 CommandAnswers env Users old new result = TextRead (UsersAnswers (files_of old) env.folder) result × (new ≡ old)
 CommandAnswers env (Show bug) old new result = TextFound (ShowAnswers (files_of old) env.folder bug) result × (new ≡ old)
 CommandAnswers env (Log bug) old new result = TextFound (LogAnswers (files_of old) env.folder bug) result × (new ≡ old)
 CommandAnswers env (Edit edit) old new result = EditTells env edit old new result
+CommandAnswers env PackRefs old new result = PackTells env.folder old new result
 
 -- the answer to a list of bugs, which writes rows alone
 abbrev pub ListTold : ListRequest → History → History → Result Answer Stop → Type 0
@@ -162,10 +175,11 @@ RunAnswers call old new before after answer = AskedAnswers call.asked call old n
 
 -- ---- the writes
 
--- the writes that a command may make, by the history at entry and the writes of the call so far: an edit its own, a command
--- that reads none
+-- the writes that a command may make, by the history at entry and the writes of the call so far: an edit its own, a pack those of its
+-- kinds, a command that reads none
 abbrev pub CommandWrites : Env → Command → History → List Change → Change → Type 0
 CommandWrites env (Edit edit) entry earlier change = IsWriteOf env edit entry earlier change
+CommandWrites env PackRefs entry earlier change = IsPackWrite env.folder (files_of (earlier ++ entry)) change
 CommandWrites env _ entry earlier change = ⊥
 
 -- the writes that a run may make: those of what its arguments ask for

@@ -3,6 +3,7 @@ use Rattle.std.specs.Prelude.{◌≡◌, ◌⊎◌, ⊤, ℕ, false, List, ◌�
 use Rattle.gb_text.specs.Folder.{joined}
 use Rattle.gb_store.specs.Files.{Files, History, files_of}
 use Rattle.object_store.specs.Held.{objects_in}
+use Rattle.ref_packing.specs.Answers.{IsTooLong}
 use Rattle.bug_ops.specs.Kind.{bug_kind}
 use Rattle.bug_ops.specs.declared.op.BugOp.{BugOp}
 use Rattle.dag_entity.specs.Entities.{IsOperationList}
@@ -27,16 +28,18 @@ use Rattle.bug_run.specs.declared.status.Status.{Status}
 use Rattle.bug_run.specs.declared.status.Status.TheVariants as status
 use Rattle.words.specs.declared.pair.FolderPair.{FolderPair}
 use Rattle.words.specs.declared.words.Command.{Command}
-use Rattle.words.specs.declared.words.Command.TheVariants.{Edit, Log, Show, Users}
+use Rattle.words.specs.declared.words.Command.TheVariants.{Edit, Log, PackRefs, Show, Users}
 use Rattle.words.specs.declared.words.PeerCommand.{PeerCommand}
 use Rattle.words.specs.declared.words.PeerCommand.TheVariants.{Fetch, Pull, Push}
 
--- a command has a cause to be refused: a check of an edit fails, or the word of a command that reads a bug finds none, or several
+-- a command has a cause to be refused: a check of an edit fails, or the word of a command that reads a bug finds none, or several, or the
+-- packed refs would be too long
 abbrev pub HasCause : Env → Command → History → Type 0
 HasCause env Users old = ⊥
 HasCause env (Show word) old = (why : Missed) × FindsNoId (files_of old) env.folder side.Bugs word why
 HasCause env (Log word) old = (why : Missed) × FindsNoId (files_of old) env.folder side.Bugs word why
 HasCause env (Edit edit) old = (r : Refusal) × Refused env edit old r
+HasCause env PackRefs old = IsTooLong env.folder (files_of old)
 
 -- a text shows the bug that a word finds: by what the operations of the operation commits below its head say, in order of edit
 -- clock, pack id and name, with the names of the folder's people

@@ -3,13 +3,13 @@ ghost use Rattle.std.specs.Prelude.{◌≡◌, IfOk};
 ghost use Rattle.gb_store.specs.Faults.{KeepsFaults};
 ghost use Rattle.bug_run.specs.Exchanges.{answer_of, answer_of_merge, answer_of_pull};
 ghost use Rattle.bug_run.specs.Printed.{Printed};
-ghost use Rattle.bug_run.specs.Run.{status_for};
+ghost use Rattle.bug_run.specs.Run.{packed_line, status_for};
 ghost use Rattle.repo_state.specs.Users.{id_line};
 
 use crate::print::print;
 use crate::status::{Refused, Status};
 use gb_store::Sink;
-use gb_text::{Id, Memory, Text};
+use gb_text::{Id, Memory, Text, push_line_end, push_number};
 use merge_steps::{MergeLine, Pulled};
 use std::alloc::Global;
 use std::marker::Model;
@@ -85,6 +85,16 @@ impl Answer {
             source: Source::Text(Text::from_string(text)),
             refused,
         })
+    }
+
+    /// The number of refs that were packed.
+    pub fn packed(alloc: Global, count: u64) -> Result<Answer, Memory>
+        ensures { IfOk result (λ answer. answer ≡ record { text = packed_line count; refused = 0 }) }
+    {
+        let mut line = String::from_str(alloc, "packed ")?;
+        push_number(&mut line, count)?;
+        push_line_end(&mut line)?;
+        Ok(Answer::text(Text::from_string(line)))
     }
 
     /// The line of an id.

@@ -6,7 +6,11 @@ ghost use Rattle.gb_text.specs.declared.ruled.Line.{Line};
 ghost use Rattle.gb_text.specs.declared.ruled.Message.{Message};
 ghost use Rattle.gb_text.specs.declared.ruled.Title.{Title};
 ghost use Rattle.gb_store.specs.Files.{Files, History, files_of};
+ghost use Rattle.gb_store.specs.Moments.{AllMoments};
+ghost use Rattle.ref_packing.specs.Answers.{Packs};
 ghost use Rattle.repo_state.specs.Sound.{IsSound};
+ghost use Rattle.repo_state.specs.Sides.{head_at};
+ghost use Rattle.repo_state.specs.declared.side.Side.{Side as SideValue};
 ghost use Rattle.repo_state.specs.declared.side.Side.TheVariants as side;
 ghost use Rattle.repo_writes.specs.Kept.{LosesNothing};
 ghost use Rattle.bug_edits.specs.declared.edit.BugEdit.{BugEdit as BugEditValue};
@@ -20,7 +24,7 @@ ghost use Rattle.repo_steps.specs.declared.refusal.Stop.TheVariants as stop;
 ghost use Rattle.bug_run.specs.Alike.{FindsAlike, FindsCommentAlike};
 ghost use Rattle.bug_run.specs.Printed.{IsTold};
 ghost use Rattle.bug_run.specs.Reads.{ReadsCommand};
-ghost use Rattle.bug_run.specs.Run.{Call, CommandAnswers, RunAnswers, env_at};
+ghost use Rattle.bug_run.specs.Run.{Call, CommandAnswers, RunAnswers, env_at, packed_line};
 ghost use Rattle.bug_run.specs.Runs.{AreAllSound, AreApart, Runs};
 ghost use Rattle.bug_run.specs.Served.{HasCause, ShowsOperations};
 ghost use Rattle.bug_run.specs.Answer.{Answer};
@@ -130,8 +134,25 @@ pub fn edits_tell_what_they_made()
         × (answer.text ≡ encode_lower id.bytes ++ codes "\n") × (answer.refused ≡ 0) }
 {}
 
+/// A pack of the refs changes no ref of a bug, of an identity or of a remote's, at any moment, whether or
+/// not it is done. Where it is done, each loose ref of a bug and of an identity was moved, and it prints how
+/// many those were.
+pub fn packs_change_no_head()
+    ensures heads { (call : Call) (old new : History) (before after folder : List ℕ)
+        (answer : StatusValue) (of : SideValue) (id : Id) → IsTrue call.store_tells
+        → call.asked ≡ asked.Request (record { folder = folder; command = ask.PackRefs })
+        → RunAnswers call old new before after answer
+        → AllMoments (λ files. head_at files folder of id ≡ head_at (files_of old) folder of id)
+        old new }
+    ensures done { (call : Call) (old new : History) (before after folder : List ℕ)
+        → IsTrue call.store_tells → IsTrue call.sink_tells
+        → call.asked ≡ asked.Request (record { folder = folder; command = ask.PackRefs })
+        → RunAnswers call old new before after status.Done
+        → (count : ℕ) × Packs folder old new count × (after ≡ before ++ packed_line count) }
+{}
+
 /// Commands that read no chain and no bug read few objects: `user-new` at most three, `new` four,
-/// `user-set` none.
+/// `user-set` and `pack-refs` none.
 pub fn edits_read_few_objects()
     ensures person { (files : Files) (folder : List ℕ) (name : Title) (email : Line)
         (before after : ℕ)
@@ -144,6 +165,8 @@ pub fn edits_read_few_objects()
     ensures user { (files : Files) (folder id : List ℕ) (before after : ℕ)
         → ReadsCommand files folder (ask.Edit (edits.UserSet id)) ⊥ before after
         → after ≡ before }
+    ensures pack { (files : Files) (folder : List ℕ) (before after : ℕ)
+        → ReadsCommand files folder ask.PackRefs ⊥ before after → after ≡ before }
 {}
 
 /// What the arguments alone decide, over every store: the usage is reported if and only if they give no

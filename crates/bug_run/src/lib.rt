@@ -11,6 +11,7 @@ mod list_laws;
 mod look;
 mod merge_laws;
 mod moment;
+mod pack;
 mod print;
 mod refusal;
 mod status;
@@ -23,8 +24,9 @@ pub use exchange_laws::{
 pub use headline::{same_commits_are_printed_the_same, the_headline};
 pub use laws::{
     answers_are_determined, answers_depend_on_what_words_find, edits_read_few_objects,
-    edits_tell_what_they_made, runs_from_nothing_are_sound, runs_keep_folders,
-    show_prints_the_operations_in_order, sound_folders_are_served, words_decide_first,
+    edits_tell_what_they_made, packs_change_no_head, runs_from_nothing_are_sound,
+    runs_keep_folders, show_prints_the_operations_in_order, sound_folders_are_served,
+    words_decide_first,
 };
 pub use list_laws::{
     failed_lists_are_cut_short, lists_print_bugs_compiled_from_scratch, sound_folders_are_listed,

@@ -15,6 +15,7 @@ use crate::answer::Answer;
 use crate::exchange::{exchange, merge_tracked};
 use crate::list::list;
 use crate::look::look;
+use crate::pack::pack;
 use crate::print::print;
 use crate::refusal::refusal_line;
 use crate::status::{Refused, Status};
@@ -126,6 +127,7 @@ fn run_command<S: Store>(
         Command::Show { bug } => Ok(Answer::text(show(alloc, disk, &env.folder, bug.as_str())?)),
         Command::Log { bug } => Ok(Answer::text(log(alloc, disk, &env.folder, bug.as_str())?)),
         Command::Edit(command) => Ok(Answer::line(run_edit(alloc, disk, env, command)?)),
+        Command::PackRefs => pack(alloc, disk, &env.folder),
     }
 }
 
