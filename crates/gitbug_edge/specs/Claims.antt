@@ -6,13 +6,14 @@ use Rattle.folder_store.specs.declared.claim.Purpose.TheVariants.{Read, Write}
 use Rattle.words.specs.declared.words.Asked.{Asked}
 use Rattle.words.specs.declared.words.Asked.TheVariants as asked
 use Rattle.words.specs.declared.words.Command.{Command}
-use Rattle.words.specs.declared.words.Command.TheVariants.{Edit}
+use Rattle.words.specs.declared.words.Command.TheVariants.{Edit, PackRefs}
 use Rattle.words.specs.declared.words.PeerCommand.{PeerCommand}
 use Rattle.words.specs.declared.words.PeerCommand.TheVariants.{Fetch, Pull, Push}
 
--- an edit writes, and any other command reads
+-- an edit and a pack write, and any other command reads
 abbrev pub purpose_of : Command → Purpose
 purpose_of (Edit edit) = Write
+purpose_of PackRefs = Write
 purpose_of _ = Read
 
 -- a fetch and a pull write in their own folder and read the peer's, and a push does the opposite

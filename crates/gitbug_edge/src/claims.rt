@@ -66,6 +66,6 @@ fn purpose_of(command: &Command) -> Purpose
 {
     match command {
         Command::Users | Command::Show { .. } | Command::Log { .. } => Purpose::Read,
-        Command::Edit(_) => Purpose::Write,
+        Command::Edit(_) | Command::PackRefs => Purpose::Write,
     }
 }
