@@ -187,7 +187,11 @@ fn set_user_at(alloc: Global, call: u64) -> Result<u8, Fail> {
 #[test]
 fn a_user_is_set_without_a_look_at_the_user_file(rt: HostRuntime) -> Result<(), Fail> {
     let alloc = rt.alloc();
-    assert_eq!(rt; set_user_at(alloc, 12)?, DISK_FAULT, "the packed refs are read");
+    assert_eq!(rt;
+        set_user_at(alloc, 12)?,
+        DISK_FAULT,
+        "the packed refs are read"
+    );
     assert_eq!(rt;
         set_user_at(alloc, 13)?,
         DISK_FAULT,

@@ -10,7 +10,7 @@ const BEGIN: &[Step] = &[
 ];
 
 // Each command, with its refusals by arguments before and those of the user after.
-const COMMANDS: [&[&str]; 16] = [
+const COMMANDS: [&[&str]; 17] = [
     &["f", "users"],
     &["f", "show", "$B"],
     &["f", "log", "$B"],
@@ -22,6 +22,7 @@ const COMMANDS: [&[&str]; 16] = [
     &["f", "new", "Two", "m"],
     &["f", "comment", "$B", "m"],
     &["f", "close", "$B"],
+    &["f", "pack-refs"],
     &["f", "merge", "p"],
     &["f", "fetch", "p", "g"],
     &["f", "push", "g"],
