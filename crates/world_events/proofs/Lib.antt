@@ -1,0 +1,4 @@
+pub mod DrawLemmas
+pub mod ExchangeLemmas
+pub mod PeerLemmas
+pub mod SeedLemmas

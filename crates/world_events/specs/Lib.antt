@@ -1,0 +1,5 @@
+pub mod Draws
+pub mod Events
+pub mod Exchange
+pub mod Within
+pub mod Words
