@@ -63,39 +63,92 @@ const BUGS: &[Step] = &[
     Does(&["f", "new", "Three", "m"], 6, "$E\n"),
 ];
 
-const READS: [&[&str]; 5] = [
+// Each command that may be asked for, but `pack-refs`.
+const EACH: [&[&str]; 21] = [
     &["f", "users"],
     &["f", "ls"],
+    &["f", "board"],
     &["f", "show", "$B"],
     &["f", "show", "$E"],
     &["f", "log", "$C"],
+    &["f", "user-new", "Bo", "bo@x"],
+    &["f", "user-edit", "Ana", "ana@y"],
+    &["f", "user-set", "$A"],
+    &["f", "new", "Four", "m"],
+    &["f", "comment", "$B", "more"],
+    &["f", "title", "$E", "Five"],
+    &["f", "close", "$C"],
+    &["f", "label-add", "$C", "x"],
+    &["f", "meta", "$B", "k", "v"],
+    &["f", "noop", "$E"],
+    &["f", "push", "h"],
+    &["f", "fetch", "g", "g"],
+    &["f", "merge", "g"],
+    &["f", "pull", "g", "g"],
+    &["g", "fetch", "f", "f"],
 ];
 
-// What each command prints that reads, one after the other.
-fn all_printed(script: &mut Script) -> Result<String, Fail> {
-    let mut all = String::new(script.disk.alloc);
-    for words in READS {
-        all.push_str(script.printed(words, 9)?.as_str())?;
+// A peer that has gone on with a bug.
+const PEER: &[Step] = &[
+    Does(
+        &["f", "push", "g"],
+        7,
+        "push identity $A pushed\npush bug $E pushed\npush bug $B pushed\npush bug $C pushed\n",
+    ),
+    Does(&["g", "user-set", "$A"], 8, "$A\n"),
+    Does(&["g", "comment", "$C", "there"], 9, "$F\n"),
+];
+
+// What a command prints over the first writes of the store and a front of those of a pack.
+fn printed_at(
+    script: &mut Script,
+    begun: u64,
+    count: u64,
+    words: &[&str],
+) -> Result<(u8, String), Fail> {
+    let alloc = script.disk.alloc;
+    script.disk.store.cut(alloc, begun)?;
+    script.printed(&["f", "pack-refs"], 10)?;
+    script.disk.store.cut(alloc, begun + count)?;
+    script.run(words, 11)
+}
+
+// Sees that a command ends and prints the same, wherever a pack stopped before it.
+fn is_the_same(script: &mut Script, begun: u64, words: &[&str]) -> Result<(), Fail> {
+    let wanted = printed_at(script, begun, 0, words)?;
+    for count in 1..4 {
+        let found = printed_at(script, begun, count, words)?;
+        if found.0 != wanted.0 || found.1.as_str() != wanted.1.as_str() {
+            return Err(Fail::new(format_args!("{words:?}, cut at {count}: {found:?}")));
+        }
     }
-    Ok(all)
+    Ok(())
+}
+
+#[test]
+fn every_command_goes_on_where_a_pack_stopped(rt: HostRuntime) -> Result<(), Fail> {
+    let mut script = Script::new(rt.alloc(), "f")?;
+    script.play(BUGS)?;
+    script.play(PEER)?;
+    let begun = script.disk.store.writes();
+    for words in EACH {
+        is_the_same(&mut script, begun, words)?;
+    }
+    Ok(())
 }
 
 #[test]
 fn a_pack_goes_on_where_it_stopped(rt: HostRuntime) -> Result<(), Fail> {
     let mut script = Script::new(rt.alloc(), "f")?;
     script.play(BUGS)?;
-    let before = all_printed(&mut script)?;
     let begun = script.disk.store.writes();
-    script.play(&[Does(&["f", "pack-refs"], 7, "packed 2\n")])?;
+    script.play(&[Does(&["f", "pack-refs"], 10, "packed 2\n")])?;
     let packed = text_at(&mut script.disk, "f/packed-refs")?.ok_or("packed refs")?;
-    let ended = script.disk.store.writes();
-    for count in begun..ended {
-        script.disk.store.cut(rt.alloc(), count)?;
-        assert!(rt; all_printed(&mut script)?.as_str() == before.as_str());
-        script.printed(&["f", "pack-refs"], 8)?;
+    assert_eq!(rt; script.disk.store.writes(), begun + 3);
+    for count in 0..4 {
+        printed_at(&mut script, begun, count, &["f", "pack-refs"])?;
         let again = text_at(&mut script.disk, "f/packed-refs")?.ok_or("packed refs")?;
         assert!(rt; again.as_str() == packed.as_str());
-        assert!(rt; all_printed(&mut script)?.as_str() == before.as_str());
     }
     Ok(())
 }
