@@ -1,0 +1,6 @@
+pub mod Counts
+pub mod Digests
+pub mod Plays
+pub mod Shown
+pub mod Told
+pub mod Worlds
