@@ -109,7 +109,7 @@ fn printed_at(
     let alloc = script.disk.alloc;
     script.disk.store.cut(alloc, begun)?;
     script.printed(&["f", "pack-refs"], 10)?;
-    script.disk.store.cut(alloc, begun + count)?;
+    script.disk.store.cut(alloc, begun.saturating_add(count))?;
     script.run(words, 11)
 }
 
@@ -144,7 +144,7 @@ fn a_pack_goes_on_where_it_stopped(rt: HostRuntime) -> Result<(), Fail> {
     let begun = script.disk.store.writes();
     script.play(&[Does(&["f", "pack-refs"], 10, "packed 2\n")])?;
     let packed = text_at(&mut script.disk, "f/packed-refs")?.ok_or("packed refs")?;
-    assert_eq!(rt; script.disk.store.writes(), begun + 3);
+    assert_eq!(rt; script.disk.store.writes(), begun.saturating_add(3));
     for count in 0..4 {
         printed_at(&mut script, begun, count, &["f", "pack-refs"])?;
         let again = text_at(&mut script.disk, "f/packed-refs")?.ok_or("packed refs")?;
