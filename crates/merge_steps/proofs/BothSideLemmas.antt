@@ -1,15 +1,14 @@
 -- A merge in a sound folder: what a line says of a bug holds of the folder before the merge and after it.
-use Rattle.std.proofs.Common.{◌≡◌, ◌<◌, ◌^◌, ◌⊎◌, inl, inr, ℕ, false, List, [], ◌∷◌, Contains, Option, Some, None, Ok, refl, sym, ◌∙◌, ap, subst, arith}
+use Rattle.std.proofs.Common.{◌≡◌, ◌<◌, ◌^◌, ◌⊎◌, inl, inr, ℕ, false, List, [], ◌∷◌, Contains, Option, Some, None, Ok, refl, ◌∙◌, ap, subst, arith}
 use Rattle.std.proofs.lemmas.List.Elements.{Contains-append_cases}
 use Rattle.git_object.specs.declared.frame.Kind.TheVariants as kinds
-use Rattle.gb_store.specs.Moments.{AllMoments, IsMoment}
+use Rattle.gb_store.specs.Moments.{AllMoments}
 use Rattle.gb_store.proofs.MomentLemmas.{WroteBy-after, at_moment-from_later}
 use Rattle.gb_store.specs.Moments.{at_moment}
 use Rattle.object_store.specs.Growth.{OnlyGrew}
 use Rattle.object_batch.specs.Needs.{IsHeldAs}
 use Rattle.dag_entity.specs.Agreeing.{SameNeeded}
 use Rattle.dag_entity.specs.Entities.{IsOperationCommit}
-use Rattle.dag_entity.specs.declared.entity.Placed.{Placed}
 use Rattle.dag_entity.proofs.AgreeLemmas.{below_over}
 use Rattle.entity_merge.specs.Joins.{AreUnion, heads_in}
 use Rattle.repo_state.specs.Sound.{IsSound}
@@ -17,16 +16,14 @@ use Rattle.repo_state.specs.Sound as parts
 use Rattle.repo_state.specs.declared.side.Side.TheVariants as side
 use Rattle.repo_state.proofs.LedLemmas.{led_from_heads}
 use Rattle.repo_state.proofs.ListingLemmas.{Contains-from_map}
-use Rattle.repo_writes.specs.Kept.{LosesNothing}
 use Rattle.repo_writes.proofs.KeptLemmas.{loses_nothing}
 use Rattle.repo_writes.proofs.SoundLemmas.{keeps_parts, keeps_sound}
 use Rattle.sync_steps.specs.declared.line.EntityWord.TheVariants as word
-use Rattle.merge_steps.specs.Left.{IsJoinOf}
 use Rattle.merge_steps.specs.LineJoins.{JoinedBug, JoinedLine}
 use Rattle.merge_steps.specs.MergeLines.{is_refused}
 use Rattle.merge_steps.specs.Turns.{IsMerged, line_of, lines_of}
 use Rattle.merge_steps.specs.declared.line.MergeLine.{MergeLine}
-use Rattle.merge_steps.proofs.Names.{BugOp, Contains-one, Head, History, Id, IsHeadAt, IsId, IsWrite, MergeTurn, Name, Objects, RemoteName, Side, Wrote, bug_kind, files_of, head_at, objects_after}
+use Rattle.merge_steps.proofs.Names.{Contains-one, Head, History, Id, IsHeadAt, IsId, IsWrite, Name, Objects, RemoteName, Side, Wrote, bug_kind, files_of, head_at, objects_after}
 use Rattle.merge_steps.proofs.LineJoinLemmas.{line_joined}
 use Rattle.merge_steps.proofs.MergeWriteLemmas.{ids_of_turns, merge_wrote}
 use Rattle.merge_steps.proofs.WholeLemmas.{operation_back, operation_over, whole_stays}

@@ -1,6 +1,5 @@
 //! The text of the lines of a merge.
-ghost use Rattle.std.specs.Prelude.{◌≡◌, ◌++◌, ◌∷◌, [], IfOk, OnOk, codes, decimal, string_bytes};
-ghost use Rattle.hex.specs.Hex.{encode_lower};
+ghost use Rattle.std.specs.Prelude.{◌≡◌, ◌++◌, IfOk, OnOk, codes, decimal, string_bytes};
 ghost use Rattle.sync_steps.specs.Lines.{word_text};
 ghost use Rattle.dag_entity.specs.declared.fault.EntityFault.TheVariants.{BadOperation, UnknownVersion};
 ghost use Rattle.merge_steps.specs.FaultTexts.{entity_fault_text, identity_fault_text, op_fault_text, with_id, with_name};

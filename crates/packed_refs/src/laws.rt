@@ -39,8 +39,8 @@ pub fn heads_in_a_dir_are_heads()
         → head_of (dir ++ 47 ∷ encode_lower id.bytes) refs ≡ id_head_of id (heads_in dir refs) }
 {}
 
-/// The text that refs are written as has these refs again, in their order; and the refs that a packed
-/// text has can be written again.
+/// The text that refs are written as has these refs again, in their order; and the refs that a
+/// packed text has can be written again.
 pub fn packed_texts_read_back()
     ensures written { (refs : List PackedRef) → All IsPackable refs
         → packed_refs (packed_text refs) ≡ Some refs }

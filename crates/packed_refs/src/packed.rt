@@ -14,9 +14,9 @@ pub struct PackedHead {
     pub head: Name,
 }
 
-/// Whether a text is a packed text: each line is `#` and any bytes, or `^` and 40 lower-case digits,
-/// or 40 lower-case digits, a space and a name. The last line feed is optional. The empty text is a
-/// packed text.
+/// Whether a text is a packed text: each line is `#` and any bytes, or `^` and 40 lower-case
+/// digits, or 40 lower-case digits, a space and a name. The last line feed is optional. The empty
+/// text is a packed text.
 pub fn is_packed(text: &[u8]) -> bool
     ensures { result ≡ is_packed text.now }
 {

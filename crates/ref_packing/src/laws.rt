@@ -35,7 +35,8 @@ pub fn packed_refs_have_no_loose_ones()
         → Packs folder old new count → IsLoose (files_of new) folder one → ⊥ }
 {}
 
-/// A front of a pack's writes is of its two kinds. Where refs are packed, all of its writes were made.
+/// A front of a pack's writes is of its two kinds. Where refs are packed, all of its writes were
+/// made.
 pub fn packs_write_of_their_kinds()
     ensures kinds { (folder : List ℕ) (old new : History) → MaybePacks folder old new
         → Wrote (IsPackWrite folder) old new }
@@ -43,8 +44,8 @@ pub fn packs_write_of_their_kinds()
         → Packs folder old new count → MaybePacks folder old new }
 {}
 
-/// Over the same files a pack moves one number of refs, or is refused, and for one reason: a first bad ref
-/// or packed refs that would be too long.
+/// Over the same files a pack moves one number of refs, or is refused, and for one reason: a first
+/// bad ref or packed refs that would be too long.
 pub fn packs_are_determined()
     ensures counts { (folder : List ℕ) (old elder one two : History) (count other : ℕ)
         → files_of old ≡ files_of elder → Packs folder old one count → Packs folder elder two other

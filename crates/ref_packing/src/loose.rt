@@ -12,8 +12,8 @@ use ref_store::{get, place_of};
 use std::alloc::Global;
 use std::marker::Model;
 
-/// A loose ref: the path of its file in the folder, which is its name, and its head. Contracts see it
-/// as a packed ref.
+/// A loose ref: the path of its file in the folder, which is its name, and its head. Contracts see
+/// it as a packed ref.
 #[derive(Debug, Drop)]
 pub(crate) struct Loose {
     pub(crate) place: Text,
@@ -28,7 +28,8 @@ impl Model for Loose {
     ghost view = { λ l. record { name = l.place; head = l.head } };
 }
 
-/// The loose refs of ids, in byte order of their names. `BadRef` of the first one that is no ref text.
+/// The loose refs of ids, in byte order of their names. `BadRef` of the first one that is no ref
+/// text.
 pub(crate) fn loose_refs<S: Store>(
     alloc: Global,
     disk: &mut S,

@@ -10,7 +10,8 @@ use packed_refs::{RefLine, RefName};
 use std::alloc::{AllocError, Global};
 use std::collections::BTreeMap;
 
-/// The last of the refs with each name, in byte order of names: those taken come behind those before.
+/// The last of the refs with each name, in byte order of names: those taken come behind those
+/// before.
 pub(crate) fn merged(
     alloc: Global,
     before: List<RefLine>,

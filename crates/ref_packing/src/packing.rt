@@ -20,12 +20,12 @@ use packed_refs::{RefLine, packed_text};
 use ref_store::{MOST_PACKED_BYTES, packed_path};
 use std::alloc::Global;
 
-/// Moves each loose ref of an id in `refs/bugs` and `refs/identities` into the packed refs: first one
-/// put of `packed-refs`, with a line for each of them and the last line of each other name, in byte
-/// order of names; then the removal of their files, in byte order of paths. Answers how many were moved.
-/// Where there is none, nothing is written. `BadRef` of the packed refs comes first, then that of the
-/// first bad loose ref; `TooLarge(16777217)` where the new text would have more than 16,777,216 bytes.
-/// No ref changes, at any moment.
+/// Moves each loose ref of an id in `refs/bugs` and `refs/identities` into the packed refs: first
+/// one put of `packed-refs`, with a line for each of them and the last line of each other name, in
+/// byte order of names; then the removal of their files, in byte order of paths. Answers how many
+/// were moved. Where there is none, nothing is written. `BadRef` of the packed refs comes first,
+/// then that of the first bad loose ref; `TooLarge(16777217)` where the new text would have more
+/// than 16,777,216 bytes. No ref changes, at any moment.
 pub fn pack<S: Store>(alloc: Global, disk: &mut S, folder: &Folder) -> Result<u64, PackFault>
     ensures answers { IsTrue S.tells → PackAnswers folder.now (S.history disk.old)
         (S.history disk.new) result }

@@ -1,5 +1,6 @@
-//! The rows of the local bugs. A row that is stored serves while it names the bug's head. An older one is
-//! brought up to date by the commits above it, if they form a chain; any other bug is read whole.
+//! The rows of the local bugs. A row that is stored serves while it names the bug's head. An older
+//! one is brought up to date by the commits above it, if they form a chain; any other bug is read
+//! whole.
 ghost use Rattle.std.specs.Prelude.{◌≡◌, IsTrue, IsErrOf, IfOk, OnOk, Some};
 ghost use Rattle.bug_ops.specs.Kind.{bug_kind};
 ghost use Rattle.dag_entity.specs.Entities.{ops_in};
@@ -33,11 +34,11 @@ use row_text::HeadRow;
 use snapshot::{compile, excerpt_of, follow};
 use std::alloc::Global;
 
-/// What lists show of each local bug, in the order of ids. A stored row serves if it names the bug's
-/// head. One of another head is brought up to date by the commits above that, if steps by the single
-/// parent lead there. Any other bug is read whole. A new row is stored if it fits. `Damaged`, with the path of the
-/// ref, of a bug whose ref is no ref text, or that has no such row and with which something is wrong.
-/// Rows that were written before that stay.
+/// What lists show of each local bug, in the order of ids. A stored row serves if it names the
+/// bug's head. One of another head is brought up to date by the commits above that, if steps by the
+/// single parent lead there. Any other bug is read whole. A new row is stored if it fits.
+/// `Damaged`, with the path of the ref, of a bug whose ref is no ref text, or that has no such row
+/// and with which something is wrong. Rows that were written before that stay.
 pub fn rows<S: Store>(
     alloc: Global,
     disk: &mut S,
@@ -56,8 +57,8 @@ pub fn rows<S: Store>(
     rows_among(alloc, disk, folder, identities.as_slice())
 }
 
-/// The same, where these are the refs of the local identities, so that a command which needs them for
-/// people too lists them once.
+/// The same, where these are the refs of the local identities, so that a command which needs them
+/// for people too lists them once.
 pub fn rows_among<S: Store>(
     alloc: Global,
     disk: &mut S,
@@ -214,8 +215,8 @@ fn judge(stored: Option<HeadRow>, head: &Name) -> Judged
     }
 }
 
-// The row of a bug of which no row of its head is stored, by an older one if there is one. It is stored
-// if it fits.
+// The row of a bug of which no row of its head is stored, by an older one if there is one. It is
+// stored if it fits.
 fn new_row<S: Store>(
     alloc: Global,
     disk: &mut S,
@@ -239,7 +240,8 @@ fn new_row<S: Store>(
         → Wrote (IsRowWriteOf folder.now bug.now.id) (S.history disk.old) (S.history disk.new) }
     ensures below { IsTrue S.tells → ReadsBelow (files_of (S.history disk.old)) folder.now bug.now
         (S.object_reads disk.old) (S.object_reads disk.new) }
-    ensures above { IsTrue S.tells → ReadsAboveRow (files_of (S.history disk.old)) folder.now bug.now older
+    ensures above { IsTrue S.tells
+        → ReadsAboveRow (files_of (S.history disk.old)) folder.now bug.now older
         (S.object_reads disk.old) (S.object_reads disk.new) }
     ensures caused { KeepsFaults S.never_fails S.faults (IsErrOf result ReadStop.Disk)
         disk.old disk.new }
@@ -273,7 +275,8 @@ fn fresh_row<S: Store>(
     ensures unwritten { IsTrue S.tells → S.history disk.new ≡ S.history disk.old }
     ensures below { IsTrue S.tells → ReadsBelow (files_of (S.history disk.old)) folder.now bug.now
         (S.object_reads disk.old) (S.object_reads disk.new) }
-    ensures above { IsTrue S.tells → ReadsAboveRow (files_of (S.history disk.old)) folder.now bug.now older
+    ensures above { IsTrue S.tells
+        → ReadsAboveRow (files_of (S.history disk.old)) folder.now bug.now older
         (S.object_reads disk.old) (S.object_reads disk.new) }
     ensures caused { KeepsFaults S.never_fails S.faults (IsErrOf result ReadStop.Disk)
         disk.old disk.new }
@@ -284,8 +287,8 @@ fn fresh_row<S: Store>(
     }
 }
 
-// The row of a bug by one of another head: further by the operations since then if steps by the single
-// parent lead to that head, and otherwise by all commits.
+// The row of a bug by one of another head: further by the operations since then if steps by the
+// single parent lead to that head, and otherwise by all commits.
 fn grown_row<S: Store>(
     alloc: Global,
     disk: &mut S,
@@ -300,7 +303,8 @@ fn grown_row<S: Store>(
     ensures unwritten { IsTrue S.tells → S.history disk.new ≡ S.history disk.old }
     ensures below { IsTrue S.tells → ReadsBelow (files_of (S.history disk.old)) folder.now bug.now
         (S.object_reads disk.old) (S.object_reads disk.new) }
-    ensures above { IsTrue S.tells → ReadsAbove (files_of (S.history disk.old)) folder.now bug.now older.head
+    ensures above { IsTrue S.tells
+        → ReadsAbove (files_of (S.history disk.old)) folder.now bug.now older.head
         (S.object_reads disk.old) (S.object_reads disk.new) }
     ensures caused { KeepsFaults S.never_fails S.faults (IsErrOf result ReadStop.Disk)
         disk.old disk.new }

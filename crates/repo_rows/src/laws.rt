@@ -43,9 +43,9 @@ pub fn current_rows_read_nothing()
         → after ≡ before }
 {}
 
-/// Where steps by the single parent lead from a bug's head to the commit of its stored row, at most three
-/// objects are read for each commit above that, and never more than three for each of some commits below
-/// the head.
+/// Where steps by the single parent lead from a bug's head to the commit of its stored row, at most
+/// three objects are read for each commit above that, and never more than three for each of some
+/// commits below the head.
 pub fn chains_read_what_is_new()
     ensures above { (files : Files) (folder : List ℕ) (bug : HeadEntryValue) (row : HeadRowValue)
         (packs : List (PlacedValue OpValue)) (before after : ℕ)

@@ -1,5 +1,5 @@
 -- What a bug has since a known commit, by what its entity has.
-use Rattle.std.proofs.Common.{ℕ, List, [], ◌∷◌, Ok, Err}
+use Rattle.std.proofs.Common.{ℕ, List, Ok}
 use Rattle.gb_text.specs.declared.id.Id.{Id}
 use Rattle.gb_text.specs.declared.id.Name.{Name}
 use Rattle.gb_store.specs.Files.{Files}

@@ -1,5 +1,5 @@
 //! How a head comes into another folder.
-ghost use Rattle.std.specs.Prelude.{◌≡◌, IsTrue, IsErrOf};
+ghost use Rattle.std.specs.Prelude.{IsTrue, IsErrOf};
 ghost use Rattle.gb_text.specs.Overlap.{Overlap};
 ghost use Rattle.gb_store.specs.Faults.{KeepsFaults};
 ghost use Rattle.sync_steps.specs.Carrying.{CarryAnswers, CauseAnswers};

@@ -1,5 +1,5 @@
 //! Laws of what arguments ask, each the contract of a function that does nothing.
-ghost use Rattle.std.specs.Prelude.{◌≡◌, ◌↔◌, ◌∷◌, ◌++◌, [], ℕ, List, IsSome, Option, Some, None, Result, Ok, Err, codes, length, map, false, true};
+ghost use Rattle.std.specs.Prelude.{◌≡◌, ◌↔◌, ◌∷◌, ◌++◌, [], ℕ, List, IsSome, Option, Some, None, Ok, Err, codes, length, map, false, true};
 ghost use Rattle.std.specs.List.{AllByRecursion};
 ghost use Rattle.gb_text.specs.Folder.{folder_of};
 ghost use Rattle.gb_text.specs.Overlap.{Overlap};

@@ -1,5 +1,5 @@
 //! An event: a command, its folder, its time and its seed.
-ghost use Rattle.std.specs.Prelude.{◌≡◌, ◌+◌, ℤ, pos};
+ghost use Rattle.std.specs.Prelude.{◌≡◌, ◌+◌};
 ghost use Rattle.world_events.specs.Events.{event_at, seed_of};
 
 use crate::act::Act;
