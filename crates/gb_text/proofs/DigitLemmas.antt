@@ -1,13 +1,12 @@
 -- Digits of bytes read back, and only digits read.
-use Rattle.std.proofs.Common.{◌≡◌, ℕ, ◌*◌, cond, List, length, Option, Some, None, Result, Ok, Err, refl, sym, ◌∙◌, ap, arith}
+use Rattle.std.proofs.Common.{◌≡◌, ℕ, ◌*◌, List, length, Option, Some, None, Result, Ok, Err, refl, sym, ◌∙◌, ap, arith}
 use Rattle.std.proofs.lemmas.Grind.{common_steps}
 use Rattle.std.proofs.lemmas.Slice.Eq.{bytes_eq-Decides}
 use Rattle.std.specs.Option.{option_and_then, option_map}
 use Rattle.std.specs.Result.{result_ok}
-use Rattle.std.specs.Str.{bytes_eq}
 use Rattle.hex.specs.declared.error.FromHexError.{FromHexError}
 use Rattle.hex.specs.Hex.{IsBytes, encode_lower, lower_digits, decode_of, decode_sized}
-use Rattle.hex.proofs.HexLemmas.{length-encode_with, decode_of-encode_lower, decode_of-ok, decode_sized-ok, decode_sized-twice}
+use Rattle.hex.proofs.HexLemmas.{length-encode_with, decode_of-encode_lower, decode_of-ok, decode_sized-twice}
 use Rattle.gb_text.specs.declared.id.Id.{Id}
 use Rattle.gb_text.specs.declared.id.Name.{Name}
 use Rattle.gb_text.specs.Digits.{IsId, IsName, printed_as, bytes_of_digits, id_of, name_of}
@@ -26,7 +25,7 @@ bytes_of_digits-encode_lower n bytes sized are =
     ∙ printed_as-self n bytes sized
 
 -- what reads is n bytes, and the text is their digits
-bytes_of_digits-is : (n : ℕ) (text bytes : List ℕ) → bytes_of_digits n text ≡ Some bytes
+pub bytes_of_digits-is : (n : ℕ) (text bytes : List ℕ) → bytes_of_digits n text ≡ Some bytes
     → (length bytes ≡ n) × IsBytes bytes × (text ≡ encode_lower bytes)
 bytes_of_digits-is n text bytes e = each (decode_of text) refl
   where
@@ -47,14 +46,6 @@ refused_digits n text fault e = each (bytes_of_digits n text) refl
         let decodes : decode_of text ≡ Ok bytes = ap decode_of is.2 ∙ decode_of-encode_lower bytes is.1 in
         let twice : length text ≡ 2 * n = omega (arith, is.0, (decode_of-ok text bytes decodes).2) in
         cc (sym e ∙ decode_sized-twice text n twice ∙ decodes)
-
--- what decodes into room for n bytes is their text where it is what they print as
-pub read_digits_are : (n : ℕ) (text bytes : List ℕ) → decode_sized text n ≡ Ok bytes → length bytes ≡ n
-    → bytes_of_digits n text ≡ cond (bytes_eq (encode_lower bytes) text) (Some bytes) None
-read_digits_are n text bytes e sized =
-    let decodes : decode_of text ≡ Ok bytes = sym (decode_sized-twice text n (decode_sized-ok text n bytes e)) ∙ e in
-    ap (λ (r : Result (List ℕ) FromHexError). option_and_then (printed_as n text) (result_ok r)) decodes
-    ∙ grind (arith, common_steps)
 
 -- the digits of an id read as it
 pub id_of-encode_lower : (id : Id) → IsId id → id_of (encode_lower id.bytes) ≡ Some id

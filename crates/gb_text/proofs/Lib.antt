@@ -4,6 +4,7 @@ pub mod DigitLemmas
 mod Examples
 pub mod FolderLemmas
 pub mod LineEndLemmas
+pub mod LowerDigitLemmas
 pub mod OrderLemmas
 pub mod OverlapLemmas
 pub mod PartLemmas

@@ -3,6 +3,8 @@ ghost use Rattle.std.specs.Prelude.{◌≡◌, ◌*◌, length, Some, IfSome};
 ghost use Rattle.hex.specs.Hex.{encode_lower};
 ghost use Rattle.gb_text.specs.Digits.{bytes_of_digits};
 
+use crate::prefix::are_lower_digits;
+
 /// The name of an entity or of an operation: a SHA-256, printed as 64 lower-case hexadecimal
 /// digits, two a byte, the high half first. Ids are ordered by their bytes, as their texts are.
 #[derive(Clone, Copy, Debug, PartialEq, Eq, PartialOrd, Ord, Hash)]
@@ -93,23 +95,16 @@ impl Name {
     }
 }
 
-ghost use Rattle.std.specs.Prelude.{◌≤◌, if◌then◌else◌, None};
+ghost use Rattle.std.specs.Prelude.{if◌then◌else◌, None};
 ghost use Rattle.hex.specs.Hex.{IsBytes};
 
 // Reads the digits of as many bytes as there is room for, and says whether the text is such digits.
-#[tactic(auto, using(crate::proofs::DigitLemmas::refused_digits, crate::proofs::DigitLemmas::read_digits_are))]
+#[tactic(auto, using(crate::proofs::DigitLemmas::refused_digits, crate::proofs::LowerDigitLemmas::others_refused, crate::proofs::LowerDigitLemmas::decoded_read))]
 fn read_digits(text: &[u8], bytes: &mut [u8]) -> bool
-    requires { length bytes.old ≤ 32 }
     ensures { bytes_of_digits (length bytes.old) text.now
         ≡ (if result then Some bytes.new else None) }
 {
-    if hex::decode_to_slice(text, bytes).is_err() {
-        return false;
-    }
-    let mut printed = [0; 64];
-    let printed = &mut printed[..2 * bytes.len()];
-    write_digits(bytes, printed);
-    &*printed == text
+    are_lower_digits(text) && hex::decode_to_slice(text, bytes).is_ok()
 }
 
 // Writes the digits of some bytes.

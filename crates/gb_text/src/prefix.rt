@@ -49,7 +49,7 @@ fn is_prefix_text(text: &[u8]) -> bool
 }
 
 // Whether each byte is a lower-case hexadecimal digit.
-fn are_lower_digits(text: &[u8]) -> bool
+pub(crate) fn are_lower_digits(text: &[u8]) -> bool
     ensures { result ≡ list_all is_lower_digit text.now }
 {
     text.iter()
