@@ -45,8 +45,13 @@ pub fn read_synced<R: Files>(rt: &R, alloc: Global, path: &str, limit: u64) -> i
     read_from(alloc, file, size, limit)
 }
 
-// What an open file holds, which had so many bytes when it was looked at.
-fn read_from<F: Read + Drop>(alloc: Global, file: F, size: u64, limit: u64) -> io::Result<Content>
+/// What an open file holds, which had so many bytes when it was looked at: at most `limit` bytes, or that it has more.
+pub fn read_from<F: Read + Drop>(
+    alloc: Global,
+    file: F,
+    size: u64,
+    limit: u64,
+) -> io::Result<Content>
     ensures within { IfOk result (IsWithin limit) }
 {
     let mut file = file;
@@ -90,8 +95,13 @@ fn open_file<R: Files>(rt: &R, path: &str) -> io::Result<Option<(R::File, u64)>>
     let Some(entry) = file_at(rt, path)? else {
         return Ok(None);
     };
+    Ok(open_plain(rt, path)?.map(|file| (file, entry.len())))
+}
+
+/// Opens what stands at a path, which was looked at. None where nothing stands there any more.
+pub fn open_plain<R: Files>(rt: &R, path: &str) -> io::Result<Option<R::File>> {
     match fs::open(rt, path) {
-        Ok(file) => Ok(Some((file, entry.len()))),
+        Ok(file) => Ok(Some(file)),
         Err(e) if is_absence(&e) => Ok(None),
         Err(e) => Err(e),
     }
@@ -100,11 +110,7 @@ fn open_file<R: Files>(rt: &R, path: &str) -> io::Result<Option<(R::File, u64)>>
 /// Opens the folder at a path, where links are followed. None where no folder stands there; a pipe is not waited for.
 pub fn open_folder<R: Files>(rt: &R, alloc: Global, path: &str) -> io::Result<Option<R::File>> {
     let inside = format!(in alloc; "{path}/.")?;
-    match fs::open(rt, inside.as_str()) {
-        Ok(file) => Ok(Some(file)),
-        Err(e) if is_absence(&e) => Ok(None),
-        Err(e) => Err(e),
-    }
+    open_plain(rt, inside.as_str())
 }
 
 /// The names of the plain files right in a folder but the temporary ones, each once, in byte order. Where a signal
@@ -273,8 +279,8 @@ pub fn target_at<R: Files>(rt: &R, path: &str) -> io::Result<Option<Metadata>> {
     found(again(|| fs::metadata(rt, path)))
 }
 
-// The plain file at a path.
-fn file_at<R: Files>(rt: &R, path: &str) -> io::Result<Option<Metadata>> {
+/// The plain file at a path.
+pub fn file_at<R: Files>(rt: &R, path: &str) -> io::Result<Option<Metadata>> {
     Ok(entry_at(rt, path)?.filter(|entry| entry.is_file()))
 }
 

@@ -9,7 +9,8 @@ use crate::claim::{Claim, Purpose};
 use crate::disk;
 use crate::failure::{Call, Failure, at};
 use crate::lock::{Locking, Locks};
-use crate::place::{Kind, folder_of, is_tracking};
+use crate::packed::PackedFiles;
+use crate::place::{Kind, folder_of, is_packed, is_tracking};
 use crate::settled::{Settled, is_commit};
 use crate::unsynced::Unsynced;
 use crate::ways::Ways;
@@ -30,6 +31,7 @@ pub struct Folders {
     unsynced: Unsynced,
     settled: Settled,
     found: BTreeSet<String>,
+    packed: PackedFiles,
     exchanges: bool,
     cleaned: BTreeSet<String>,
 }
@@ -45,6 +47,7 @@ impl Folders {
             unsynced: Unsynced::new(alloc),
             settled: Settled::new(alloc),
             found: BTreeSet::new(alloc),
+            packed: PackedFiles::none(alloc),
             exchanges,
             cleaned: BTreeSet::new(alloc),
         }
@@ -66,7 +69,11 @@ impl Folders {
         if !self.ways.stands(rt, alloc, claim, folder_of(path))? {
             return Ok(Content::Absent);
         }
-        let content = at(alloc, Call::Read, path, disk::read(rt, alloc, path, limit))?;
+        let read = match is_packed(path) {
+            true => self.packed.read(rt, alloc, path, limit),
+            false => disk::read(rt, alloc, path, limit),
+        };
+        let content = at(alloc, Call::Read, path, read)?;
         if claim.purpose == Purpose::Write && !is_object && Kind::of(path) == Kind::Other {
             self.note_found(rt, alloc, path, &content)?;
         }

@@ -7,6 +7,7 @@ mod disk;
 mod failure;
 mod folders;
 mod lock;
+mod packed;
 mod place;
 mod settled;
 mod signals;

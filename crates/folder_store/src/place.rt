@@ -40,6 +40,11 @@ pub fn is_tracking(path: &str) -> bool {
     path.starts_with("refs/remotes/") || path.contains("/refs/remotes/")
 }
 
+/// Whether a path is that of a file of packed refs.
+pub fn is_packed(path: &str) -> bool {
+    path == "packed-refs" || path.ends_with("/packed-refs")
+}
+
 // Whether the last parts of a path are `git-bug`, `cache`, a kind of row and an id.
 fn is_row_path(path: &str) -> bool {
     let Some((front, name)) = path.rsplit_once('/') else {

@@ -10,6 +10,8 @@ mod fake;
 #[cfg(test)]
 mod folders;
 #[cfg(test)]
+mod packed;
+#[cfg(test)]
 mod planted;
 #[cfg(test)]
 mod system;
