@@ -2,6 +2,10 @@
 // does nothing else. It trusts what it reads, but for each text's SHA-1, which has to be the file's name.
 //
 //     floor FOLDER ID
+//
+// The floor of an exchange of nothing new: opens, reads and closes each file whose path stands in a line of NAMES.
+//
+//     floor --files NAMES
 
 #include <fcntl.h>
 #include <stdint.h>
@@ -114,7 +118,20 @@ static char *entry(const char *front) {
     return at;
 }
 
+static void read_files(const char *names) {
+    read_file(names);
+    char *all = strdup((const char *)text);
+    if (!all)
+        fail("no memory");
+    for (char *name = strtok(all, "\n"); name; name = strtok(NULL, "\n"))
+        read_file(name);
+}
+
 int main(int argc, char **argv) {
+    if (argc == 3 && strcmp(argv[1], "--files") == 0) {
+        read_files(argv[2]);
+        return 0;
+    }
     if (argc != 3 || strlen(argv[1]) > 4000 || strlen(argv[2]) > 4000)
         fail("FOLDER ID");
     snprintf(path, sizeof path, "%s/refs/bugs/%s", argv[1], argv[2]);
