@@ -1,6 +1,10 @@
+pub mod FolderLemmas
 pub mod PlayLemmas
 pub mod RunLemmas
 pub mod ShowLemmas
+pub mod StayLemmas
+pub mod StopLemmas
 pub mod ToldLemmas
 pub mod WordLemmas
+pub mod WorldLemmas
 pub mod ZipLemmas

@@ -3,16 +3,17 @@ use Rattle.std.proofs.Common.{◌≡◌, ◌≢◌, inl, inr, ℕ, List, [], Som
 use Rattle.std.specs.Prelude.{IfOk}
 use Rattle.gb_text.specs.declared.id.Id.{Id}
 use Rattle.gb_store.specs.Files.{History, files_of}
+use Rattle.gb_store.specs.Moments.{WroteBy}
 use Rattle.bug_edits.specs.declared.moment.Moment.{Moment}
 use Rattle.bug_run.specs.Headline.{HeadlineHolds, IsFault, OwnIsSound}
-use Rattle.bug_run.specs.Run.{RunAnswers, RunStaysSound}
+use Rattle.bug_run.specs.Run.{RunAnswers, RunStaysSound, RunWrites}
 use Rattle.bug_run.specs.declared.status.Status.{Status}
 use Rattle.bug_run.specs.declared.status.Status.TheVariants as status
 use Rattle.bug_run.proofs.WordLemmas.{usage_only}
 use Rattle.words.specs.Words.{asked_of}
 use Rattle.words.specs.declared.words.Asked.TheVariants as asked
 use Rattle.world.proofs.WordLemmas.{event_asks}
-use Rattle.world.specs.Plays.{EndsAs, EndsBy, HasBugs, IsAt, IsRun, MayEndAs, RunsEvent, call_with}
+use Rattle.world.specs.Plays.{EndsAs, EndsBy, HasBugs, IsAt, IsRun, MayEndAs, RunsWhole, call_with}
 use Rattle.world.specs.declared.world.Ended.{Ended}
 use Rattle.world.specs.declared.world.Ended.TheVariants.{Done, Refused, Skipped}
 use Rattle.world_events.specs.Words.{words_of}
@@ -28,12 +29,14 @@ pub run_is : (words : List (List ℕ)) (moment : Moment) (old new : History) (be
     → RunAnswers (call_with words moment) old new before text answer
     → (OwnIsSound (asked_of words) (files_of old) → HeadlineHolds (asked_of words) moment old new before text answer)
     → RunStaysSound (asked_of words) old new
+    → WroteBy (RunWrites (call_with words moment)) old new
     → answer ≢ status.Memory → (answer ≡ status.DiskFault → ⊥) → (answer ≡ status.OutFault → ⊥)
     → IsRun words moment old new text answer
-run_is words moment old new before text answer empty answers headline sound memory disk out = record {
+run_is words moment old new before text answer empty answers headline sound wrote memory disk out = record {
   answers = subst (λ (b : List ℕ). RunAnswers (call_with words moment) old new b text answer) empty answers;
   headline = λ own. subst (λ (b : List ℕ). HeadlineHolds (asked_of words) moment old new b text answer) empty (headline own);
   sound = sound;
+  wrote = wrote;
   reached = no_fault answer memory disk out;
 }
 
@@ -63,7 +66,7 @@ ends_as words moment old new text answer ended asks runs (inr ends) =
 -- an event whose arguments are run
 pub event_ran : {E : Type 0} (r : Result Ended E) (event : Event) (bugs : List Id) (words : List (List ℕ)) (moment : Moment) (old mid new : History)
     → HasBugs (files_of old) event.folder bugs → mid ≡ old → words_of event bugs ≡ Some words → IsAt event.now event.seed moment
-    → IfOk r (EndsBy words moment mid new) → IfOk r (λ ended. RunsEvent (event, ended) old new)
+    → IfOk r (EndsBy words moment mid new) → IfOk r (λ ended. RunsWhole (event, ended) old new)
 event_ran (Ok ended) event bugs words moment old mid new has same are at ends =
     let by = subst (λ (h : History). EndsBy words moment h new ended) same ends in
     let asks = event_asks event bugs words (λ id contained. ((has.are.members id).0 contained).0) are in

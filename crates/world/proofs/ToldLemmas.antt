@@ -1,7 +1,7 @@
 -- The text of the world that is asked for.
-use Rattle.std.proofs.Common.{◌≡◌, ◌+◌, ◌∙◌, ℕ, ℤ, pos, List, [], All, length, None, Result, Ok, Err, sym, ap, subst, arith}
+use Rattle.std.proofs.Common.{◌≡◌, ◌+◌, ◌∙◌, ℕ, ℤ, pos, List, [], length, Result, Ok, Err, ap, subst}
 use Rattle.std.specs.Prelude.{IfOk}
-use Rattle.std.proofs.lemmas.List.FromFn.{get_or-map-range_with_len, length-map-range_with_len}
+use Rattle.std.proofs.lemmas.List.FromFn.{length-map-range_with_len}
 use Rattle.world_events.specs.Events.{event_of, events_of}
 use Rattle.world_events.specs.Exchange.{exchange_of}
 use Rattle.world_events.specs.declared.event.Event.{Event}
@@ -12,15 +12,6 @@ use Rattle.world.specs.Told.{IsSummary, IsTold}
 use Rattle.world.specs.Worlds.{IsPlayed}
 use Rattle.world.specs.declared.world.Ended.{Ended}
 use Rattle.world.specs.declared.world.World.{World}
-
--- the events that a number makes are not stopped
-pub never_stopped : (number folders count : ℕ) (events : List Event) → events ≡ events_of number folders count → All (λ event. event.stop ≡ None) events
-never_stopped number folders count events are = subst (All (λ event. event.stop ≡ None)) (sym are) each
-  where
-    each : All (λ event. event.stop ≡ None) (events_of number folders count)
-    each k d within =
-        ap (λ (event : Event). event.stop)
-        (get_or-map-range_with_len (event_of number folders) 0 count k k d (omega (arith, within, length-map-range_with_len (event_of number folders) 0 count)) (omega arith))
 
 -- the world after its exchange
 module _ (asked : Asked) (events : List Event) (played world : World) (now : ℤ)

@@ -23,7 +23,7 @@ use Rattle.words.proofs.ArgumentLemmas.{all_plain}
 use Rattle.words.proofs.AskLemmas.{asked_with}
 use Rattle.world_events.specs.Words.{alone, arguments_for, folder_word, label_text, mail_text, message_text, of_bug, of_comment, picked, title_text, user_text, verb_of, words_from, words_of}
 use Rattle.world_events.specs.declared.act.Act.{Act}
-use Rattle.world_events.specs.declared.act.Act.TheVariants.{UserNew, NewBug, Comment, Title, Edit, Close, Reopen, LabelAdd, LabelRm, Noop, Pull, Push}
+use Rattle.world_events.specs.declared.act.Act.TheVariants.{UserNew, NewBug, Comment, Title, Edit, Close, Reopen, LabelAdd, LabelRm, Noop, PackRefs, Pull, Push}
 use Rattle.world_events.specs.declared.event.Event.{Event}
 
 -- ---- what is asked
@@ -54,7 +54,7 @@ by_peer folder None name words some e = cc some
 by_peer folder (Some p) name words some e = in_folders folder (folder_of p.0) p.1 e
 
 -- this name with these arguments asks for something in a folder, or between two
-abbrev Asks : List ℕ → List (List ℕ) → Type 0
+abbrev pub Asks : List ℕ → List (List ℕ) → Type 0
 Asks name words = AllByRecursion IsPlain words × (IsSome (command_of name words) ⊎ ((command_of name words ≡ None) × IsSome (peer_command_of name words)))
 
 asks : (folder name : List ℕ) (words : List (List ℕ)) → Asks name words → asked_of (folder ∷ name ∷ words) ≢ asked.Nothing
@@ -162,6 +162,9 @@ each (Pull peer) folder number bugs words ids e =
 each (Push peer) folder number bugs words ids e =
     let same : folder_word peer ∷ [] ≡ words = cc e in
     subst (Asks (codes "push")) same ((folder_plain peer, tt), inr (refl, refl))
+each PackRefs folder number bugs words ids e =
+    let same : [] ≡ words = cc e in
+    subst (Asks (codes "pack-refs")) same (tt, inl (counted_gives (codes "pack-refs") [] (inl (8, omega arith, refl))))
 
 -- the bugs of a folder have ids
 picked_is : (bugs : List Id) → ((id : Id) → Contains bugs id → IsId id) → (pick : ℕ) (bug : Id) → picked bugs pick ≡ Some bug → IsId bug
@@ -172,6 +175,11 @@ picked_is (first ∷ more) all pick bug e =
     let same : get_or bugs place first ≡ bug = cc e in
     subst IsId same (all (get_or bugs place first) (Contains-get_or bugs place first (omega arith)))
 
+-- what an event's command takes asks for something
+pub event_arguments_ask : (event : Event) (bugs : List Id) (arguments : List (List ℕ)) → ((id : Id) → Contains bugs id → IsId id)
+    → arguments_for event.act event.folder event.number bugs ≡ Some arguments → Asks (verb_of event.act) arguments
+event_arguments_ask event bugs arguments all is = each event.act event.folder event.number bugs arguments (picked_is bugs all) is
+
 -- the arguments of an event ask for something
 pub event_asks : (event : Event) (bugs : List Id) (words : List (List ℕ)) → ((id : Id) → Contains bugs id → IsId id) → words_of event bugs ≡ Some words → asked_of words ≢ asked.Nothing
 event_asks event bugs words all are = by (arguments_for event.act event.folder event.number bugs) refl are
@@ -181,4 +189,4 @@ event_asks event bugs words all are = by (arguments_for event.act event.folder e
     by (Some arguments) is e =
         let same : words_from event arguments ≡ words = cc e in
         subst (λ (ws : List (List ℕ)). asked_of ws ≢ asked.Nothing) same
-        (asks (folder_word event.folder) (verb_of event.act) arguments (each event.act event.folder event.number bugs arguments (picked_is bugs all) is))
+        (asks (folder_word event.folder) (verb_of event.act) arguments (event_arguments_ask event bugs arguments all is))

@@ -1,5 +1,6 @@
 pub mod Counts
 pub mod Digests
+pub mod Folders
 pub mod Plays
 pub mod Shown
 pub mod Told

@@ -1,14 +1,15 @@
 -- Events that are run one after another over a store.
-use Rattle.std.specs.Prelude.{◌≡◌, ◌⊎◌, ℕ, ℤ, true, List, [], length, Some, None}
+use Rattle.std.specs.Prelude.{◌≡◌, ◌+◌, ◌⊎◌, ℕ, ℤ, true, List, [], length, Option, Some, None}
 use Rattle.std.specs.List.{zip}
 use Rattle.gb_text.specs.Folder.{folder_of}
 use Rattle.gb_text.specs.declared.id.Id.{Id}
 use Rattle.gb_store.specs.Files.{Files, History, files_of}
+use Rattle.gb_store.specs.Moments.{WroteBy, first_writes}
 use Rattle.gb_store.specs.Turns.{InTurn}
 use Rattle.bug_edits.specs.declared.moment.Moment.{Moment}
 use Rattle.bug_run.specs.Headline.{HeadlineHolds, IsFault, OwnIsSound}
 use Rattle.bug_run.specs.Moments.{seconds_of}
-use Rattle.bug_run.specs.Run.{Call, RunAnswers, RunStaysSound, call_of}
+use Rattle.bug_run.specs.Run.{Call, RunAnswers, RunStaysSound, RunWrites, call_of}
 use Rattle.bug_run.specs.declared.status.Refused.{Refused as Why}
 use Rattle.bug_run.specs.declared.status.Status.{Status}
 use Rattle.bug_run.specs.declared.status.Status.TheVariants as status
@@ -31,6 +32,7 @@ pub record IsRun (words : List (List ℕ)) (moment : Moment) (old new : History)
   pub answers : RunAnswers (call_with words moment) old new [] text answer
   pub headline : OwnIsSound (asked_of words) (files_of old) → HeadlineHolds (asked_of words) moment old new [] text answer
   pub sound : RunStaysSound (asked_of words) old new
+  pub wrote : WroteBy (RunWrites (call_with words moment)) old new
   pub reached : IsFault answer → ⊥
 
 -- the moment of a run at this time and with this seed
@@ -83,9 +85,20 @@ pub record IsDone (event : Event) (ended : Ended) (old new : History) : Type 0 w
   pub runs : IsRun words moment old new text answer
   pub ends : EndsAs ended answer
 
--- an event that ends so takes one history to another
-abbrev pub RunsEvent : Event × Ended → History → History → Type 0
-RunsEvent run old new = ((run.1 ≡ Skipped) × IsSkipped run.0 old new) ⊎ IsDone run.0 run.1 old new
+-- an event that ends so takes one history to another, where nothing stops it
+abbrev pub RunsWhole : Event × Ended → History → History → Type 0
+RunsWhole run old end = ((run.1 ≡ Skipped) × IsSkipped run.0 old end) ⊎ IsDone run.0 run.1 old end
+
+-- what is left of writes behind a history, where a stop keeps so many of them; all of them without a stop
+abbrev pub stopped_at : Option ℕ → History → History → History
+stopped_at None old end = end
+stopped_at (Some count) old end = first_writes (length old + count) end
+
+-- an event that ends so takes one history to another: after its whole run, the writes behind its stop are gone
+pub record RunsEvent (run : Event × Ended) (old new : History) : Type 0 where
+  pub end : History
+  pub runs : RunsWhole run old end
+  pub stopped : new ≡ stopped_at run.0.stop old end
 
 -- ---- all events
 

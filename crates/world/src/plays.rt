@@ -1,23 +1,42 @@
 //! Playing events.
-ghost use Rattle.std.specs.Prelude.{◌≡◌, ◌≤◌, None, All, IfOk, IsTrue, length};
+ghost use Rattle.std.specs.Prelude.{◌≡◌, ◌≤◌, All, IfOk, IsTrue, length};
 ghost use Rattle.gb_store.specs.MemStore.{has_no_fails};
 ghost use Rattle.world.specs.Counts.{IsUnfilled, counted};
 ghost use Rattle.world.specs.Worlds.{IsPlayed};
 ghost use Rattle.world_events.specs.Within.{IsWithin};
 
 use crate::runs::run_event;
+use crate::watch::{Unwatched, Watch};
 use crate::world::{Ended, World};
 use gb_store::MemStore;
 use gb_text::{List, Memory};
 use std::alloc::Global;
 use world_events::Event;
 
-/// The world that these events leave, each run after the one before.
+/// The world that these events leave, each run after the one before. An event that a stop cuts
+/// counts as its whole run ended.
 pub fn play(alloc: Global, folders: u32, events: &[Event]) -> Result<World, Memory>
     requires some { 2 ≤ folders }
     requires most { folders ≤ 16 }
     requires within { All (IsWithin folders) events.now }
-    requires whole { All (λ event. event.stop ≡ None) events.now }
+    ensures plays { IfOk result (IsPlayed events.now) }
+    ensures numbers { IfOk result (λ world. (world.folders ≡ folders)
+        × (world.events ≡ length events.now)) }
+    ensures calm { IfOk result (λ world. IsTrue (has_no_fails world.store)) }
+{
+    play_watched(alloc, folders, events, &mut Unwatched)
+}
+
+/// The same, where somebody is told after each event how far it has come.
+pub fn play_watched<W: Watch>(
+    alloc: Global,
+    folders: u32,
+    events: &[Event],
+    watch: &mut W,
+) -> Result<World, Memory>
+    requires some { 2 ≤ folders }
+    requires most { folders ≤ 16 }
+    requires within { All (IsWithin folders) events.now }
     ensures plays { IfOk result (IsPlayed events.now) }
     ensures numbers { IfOk result (λ world. (world.folders ≡ folders)
         × (world.events ≡ length events.now)) }
@@ -31,9 +50,12 @@ pub fn play(alloc: Global, folders: u32, events: &[Event]) -> Result<World, Memo
         refused: 0,
         skipped: 0,
     };
+    let mut played: u64 = 0;
     for event in events {
         let ended = run_event(alloc, &mut world.store, event)?;
         count(&mut world, ended);
+        played = played.saturating_add(1);
+        watch.played(played, world.events);
     }
     Ok(world)
 }

@@ -1,11 +1,11 @@
 //! Runs over the store of a world.
-ghost use Rattle.std.specs.Prelude.{◌≡◌, ◌≢◌, [], IfOk, IsTrue, map, string_bytes};
-ghost use Rattle.gb_store.specs.Files.{files_of};
+ghost use Rattle.std.specs.Prelude.{◌≡◌, ◌≢◌, [], IfOk, IsTrue, OnOk, length, map, string_bytes};
+ghost use Rattle.gb_store.specs.Files.{History, files_of};
 ghost use Rattle.gb_store.specs.MemSink.{empty_sink};
 ghost use Rattle.gb_store.specs.MemStore.{has_no_fails};
 ghost use Rattle.gb_store.specs.Moments.{WroteBy};
 ghost use Rattle.bug_run.specs.Run.{RunWrites};
-ghost use Rattle.world.specs.Plays.{EndsBy, HasBugs, IsAt, IsRun, MayEndAs, RunsEvent, call_with};
+ghost use Rattle.world.specs.Plays.{EndsBy, HasBugs, IsAt, IsRun, MayEndAs, RunsEvent, RunsWhole, call_with, stopped_at};
 
 use crate::world::Ended;
 use bug_edits::Moment;
@@ -64,10 +64,41 @@ pub fn bugs_of(alloc: Global, store: &mut MemStore, folder: u32) -> Result<List<
     }
 }
 
-/// Runs an event, and says how it ended.
+/// Runs an event, and says how it ended. Where it has a stop, the writes behind that are then gone.
 pub fn run_event(alloc: Global, store: &mut MemStore, event: &Event) -> Result<Ended, Memory>
     requires { IsTrue (has_no_fails store.old) }
     ensures runs { IfOk result (λ ended. RunsEvent (event.entry.now, ended)
+        store.old.history store.new.history) }
+    ensures calm { IsTrue (has_no_fails store.new) }
+{
+    let before = store.writes();
+    let ended = run_whole(alloc, store, event)?;
+    stop_after(alloc, store, before, event.stop)?;
+    Ok(ended)
+}
+
+// Keeps so many of the writes behind the first ones, or all of them.
+fn stop_after(
+    alloc: Global,
+    store: &mut MemStore,
+    before: u64,
+    stop: Option<u64>,
+) -> Result<(), Memory>
+    ensures stopped { OnOk result ((old : History) → length old ≡ before
+        → store.new.history ≡ stopped_at stop old store.old.history) }
+    ensures calm { IsTrue (has_no_fails store.old) → IsTrue (has_no_fails store.new) }
+{
+    let written = store.writes().saturating_sub(before);
+    match stop {
+        Some(count) if count < written => store.cut(alloc, before + count),
+        _ => Ok(()),
+    }
+}
+
+// Runs an event to its end.
+fn run_whole(alloc: Global, store: &mut MemStore, event: &Event) -> Result<Ended, Memory>
+    requires { IsTrue (has_no_fails store.old) }
+    ensures runs { IfOk result (λ ended. RunsWhole (event.entry.now, ended)
         store.old.history store.new.history) }
     ensures calm { IsTrue (has_no_fails store.new) }
 {

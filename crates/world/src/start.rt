@@ -6,8 +6,9 @@ ghost use Rattle.world.specs.Told.{EndsFor, IsTold};
 ghost use Rattle.world_texts.specs.Asked.{asked_of, IsInBounds};
 
 use crate::exchanges::exchange;
-use crate::plays::play;
+use crate::plays::play_watched;
 use crate::summaries::summary;
+use crate::watch::Watch;
 use bug_run::Status;
 use gb_store::{Sink, SinkFault, write_whole};
 use gb_text::{Memory, Text};
@@ -19,40 +20,46 @@ use world_texts::{Asked, USAGE, read_asked};
 const FIRST_TIME: i64 = 1_000_000;
 
 /// Makes a world from a number, plays and exchanges it, and prints its summary. The arguments are
-/// the number, how many folders there are, and how many events.
-pub fn run_world<K: Sink>(alloc: Global, words: &[String], out: &mut K) -> Status
+/// the number, how many folders there are, and how many events. Somebody is told after each event
+/// how far it has come.
+pub fn run_world<K: Sink, W: Watch>(
+    alloc: Global,
+    words: &[String],
+    out: &mut K,
+    watch: &mut W,
+) -> Status
     ensures ends { EndsFor (asked_of (map string_bytes words.now)) K.tells K.takes_memory
         (K.written out.old) (K.written out.new) result }
     ensures caused { KeepsFaults K.never_fails K.faults (result ≡ Status.OutFault)
         out.old out.new }
 {
     match read_asked(words) {
-        Some(asked) => tell(alloc, out, asked),
+        Some(asked) => tell(alloc, out, asked, watch),
         None => print(alloc, out, USAGE.as_bytes(), Status::Usage),
     }
 }
 
 // Prints the summary of the world that a number makes.
-fn tell<K: Sink>(alloc: Global, out: &mut K, asked: Asked) -> Status
+fn tell<K: Sink, W: Watch>(alloc: Global, out: &mut K, asked: Asked, watch: &mut W) -> Status
     requires { IsInBounds asked }
     ensures ends { EndsFor (Some asked) K.tells K.takes_memory
         (K.written out.old) (K.written out.new) result }
     ensures caused { KeepsFaults K.never_fails K.faults (result ≡ Status.OutFault)
         out.old out.new }
 {
-    match text_of(alloc, asked) {
+    match text_of(alloc, asked, watch) {
         Ok(text) => print(alloc, out, text.as_str().as_bytes(), Status::Done),
         Err(_) => Status::Memory,
     }
 }
 
 // The summary of the world that a number makes.
-fn text_of(alloc: Global, asked: Asked) -> Result<Text, Memory>
+fn text_of<W: Watch>(alloc: Global, asked: Asked, watch: &mut W) -> Result<Text, Memory>
     requires { IsInBounds asked }
     ensures { IfOk result (IsTold asked) }
 {
     let events = generate(alloc, asked.number, asked.folders, asked.events)?;
-    let mut world = play(alloc, asked.folders, events.as_slice())?;
+    let mut world = play_watched(alloc, asked.folders, events.as_slice(), watch)?;
     exchange(alloc, &mut world, time_after(asked.events))?;
     summary(alloc, &mut world)
 }

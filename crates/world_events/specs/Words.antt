@@ -5,10 +5,10 @@ use Rattle.hex.specs.Hex.{encode_lower}
 use Rattle.combined_id.specs.Combined.{combined_of}
 use Rattle.gb_text.specs.declared.id.Id.{Id}
 use Rattle.world_events.specs.declared.act.Act.{Act}
-use Rattle.world_events.specs.declared.act.Act.TheVariants.{UserNew, NewBug, Comment, Title, Edit, Close, Reopen, LabelAdd, LabelRm, Noop, Pull, Push}
+use Rattle.world_events.specs.declared.act.Act.TheVariants.{UserNew, NewBug, Comment, Title, Edit, Close, Reopen, LabelAdd, LabelRm, Noop, PackRefs, Pull, Push}
 use Rattle.world_events.specs.declared.event.Event.{Event}
 use Rattle.world_events.specs.declared.words.Taken.{Taken}
-use Rattle.world_events.specs.declared.words.Taken.TheVariants.{One, Two}
+use Rattle.world_events.specs.declared.words.Taken.TheVariants.{Nothing, One, Two}
 
 -- the word of a folder, which is also its name as a remote
 abbrev pub folder_word : ℕ → List ℕ
@@ -45,13 +45,14 @@ verb_of (LabelRm pick label) = codes "label-rm"
 verb_of (Noop pick) = codes "noop"
 verb_of (Pull peer) = codes "pull"
 verb_of (Push peer) = codes "push"
+verb_of PackRefs = codes "pack-refs"
 
 -- the bug at the picked place, counted around; none where there is no bug
 abbrev pub picked : List Id → ℕ → Option Id
 picked [] pick = None
 picked (bug ∷ bugs) pick = Some (get_or (bug ∷ bugs) (pick % length (bug ∷ bugs)) bug)
 
--- what a command takes: a bug alone, a bug and a text, or the first comment of a bug and a text
+-- what a command of a bug takes: it alone, a bug and a text, or the first comment of a bug and a text
 abbrev pub alone : Id → List (List ℕ)
 alone bug = encode_lower bug.bytes ∷ []
 
@@ -75,6 +76,7 @@ arguments_for (LabelRm pick label) folder number bugs = option_map (of_bug (labe
 arguments_for (Noop pick) folder number bugs = option_map alone (picked bugs pick)
 arguments_for (Pull peer) folder number bugs = Some (folder_word peer ∷ folder_word peer ∷ [])
 arguments_for (Push peer) folder number bugs = Some (folder_word peer ∷ [])
+arguments_for PackRefs folder number bugs = Some []
 
 abbrev pub arguments_of : Event → List Id → Option (List (List ℕ))
 arguments_of event bugs = arguments_for event.act event.folder event.number bugs
@@ -89,5 +91,6 @@ words_of event bugs = option_map (words_from event) (arguments_of event bugs)
 
 -- the texts of arguments
 abbrev pub texts_of : Taken → List (List ℕ)
+texts_of Nothing = []
 texts_of (One one) = string_bytes one ∷ []
 texts_of (Two one two) = string_bytes one ∷ string_bytes two ∷ []

@@ -19,4 +19,6 @@ pub enum Act {
     Noop { pick: u64 },
     Pull { peer: u32 },
     Push { peer: u32 },
+    /// The refs of the folder are packed.
+    PackRefs,
 }

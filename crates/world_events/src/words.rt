@@ -14,6 +14,7 @@ use std::alloc::Global;
 // What a command takes after its name.
 #[derive(Drop)]
 enum Taken {
+    Nothing,
     One(String),
     Two(String, String),
 }
@@ -38,6 +39,7 @@ fn line(alloc: Global, event: &Event, arguments: Taken) -> Result<Vec<String>, M
     let folder = folder_word(alloc, event.folder)?;
     let verb = String::from_str(alloc, verb_of(event.act))?;
     Ok(match arguments {
+        Taken::Nothing => vec![in alloc; folder, verb]?,
         Taken::One(one) => vec![in alloc; folder, verb, one]?,
         Taken::Two(one, two) => vec![in alloc; folder, verb, one, two]?,
     })
@@ -60,6 +62,7 @@ fn verb_of(act: Act) -> &'static str
         Act::Noop { .. } => "noop",
         Act::Pull { .. } => "pull",
         Act::Push { .. } => "push",
+        Act::PackRefs => "pack-refs",
     }
 }
 
@@ -92,6 +95,7 @@ fn arguments(alloc: Global, event: &Event, bugs: &[Id]) -> Result<Option<Taken>,
             folder_word(alloc, peer)?,
         ))),
         Act::Push { peer } => Ok(Some(Taken::One(folder_word(alloc, peer)?))),
+        Act::PackRefs => Ok(Some(Taken::Nothing)),
     }
 }
 

@@ -1,14 +1,9 @@
 use Rattle.std.proofs.Common.{◌≡◌, ◌+◌, ◌∙◌, pos, to_z, of_z, w64, rules}
-use Rattle.world.proofs.ToldLemmas.{never_stopped, told}
+use Rattle.world.proofs.ToldLemmas.{told}
 use Rattle.world.proofs.start.text_of.Goals as goal
 
-pub play-requires-clause-whole : goal.play-requires-clause-whole
-play-requires-clause-whole c =
-    let asked = c.args.asked in
-    never_stopped asked.number asked.folders asked.events c.as_slice.result.now (c.as_slice.ensures ∙ c.in_ok-events.ensures.exact)
-
 pub returns : goal.returns
-returns c =
+returns g c =
     let played = c.in_ok-world.ensures in
     let moved = c.in_ok-exchange.ensures in
     let time : to_z w64 (of_z w64 c.time_after.result) ≡ pos (1000000 + c.args.asked.events) = search rules in

@@ -1,7 +1,7 @@
 use Rattle.std.proofs.Common.{◌≡◌, map, string_bytes, Some}
 use Rattle.world_events.specs.Words.{words_of}
 use Rattle.world.proofs.RunLemmas.{event_ran}
-use Rattle.world.proofs.runs.run_event.Goals as goal
+use Rattle.world.proofs.runs.run_whole.Goals as goal
 
 pub returns-in-Some-clause-runs : goal.returns-in-Some-clause-runs
 returns-in-Some-clause-runs c =

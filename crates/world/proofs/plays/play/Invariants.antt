@@ -1,5 +1,0 @@
-use Rattle.world.proofs.PlayLemmas.{IsAfter}
-use Rattle.world.proofs.plays.play.Given as goal
-
-abbrev pub invariant-loop-event : goal.invariant-loop-event
-invariant-loop-event l = IsAfter l.events l.folders l.event-index l.world
