@@ -1,8 +1,8 @@
 -- Writes in one folder leave each ref of a folder apart from it; and rows and packs leave each ref of their own.
-use Rattle.std.proofs.Common.{◌≡◌, inl, inr, refl, sym, ◌∙◌, ap, ℕ, List, ◌++◌}
+use Rattle.std.proofs.Common.{◌≡◌, refl, ◌∙◌, ap, ℕ, List, ◌++◌}
 use Rattle.gb_text.specs.Overlap.{Overlap}
 use Rattle.gb_text.specs.declared.id.Id.{Id}
-use Rattle.gb_store.specs.Files.{Files, History, files_of, written}
+use Rattle.gb_store.specs.Files.{History, files_of, written}
 use Rattle.gb_store.specs.Moments.{Wrote, WroteBy}
 use Rattle.gb_store.specs.declared.store.Change.{Change}
 use Rattle.gb_store.proofs.MomentLemmas.{AllMoments-from_WroteBy}

@@ -1,5 +1,5 @@
 -- A head that is carried sets one ref, as the last write; and a copy of objects sets none.
-use Rattle.std.proofs.Common.{◌≡◌, ◌⊎◌, inl, inr, refl, ◌∙◌, ap, ℕ, Bool, List, Option, Some}
+use Rattle.std.proofs.Common.{inl, inr, refl, ◌∙◌, ap, ℕ, Bool, List, Some}
 use Rattle.gb_text.specs.Digits.{IsName}
 use Rattle.gb_text.specs.declared.id.Id.{Id}
 use Rattle.gb_text.specs.declared.id.Name.{Name}
@@ -17,7 +17,7 @@ use Rattle.ref_moments.specs.Once.{IsSetOnce, StaysSame}
 use Rattle.ref_moments.proofs.ExchangeLemmas.{HasHead}
 use Rattle.ref_moments.proofs.OnceLemmas.{set_one, stays_by}
 use Rattle.ref_moments.proofs.PutLemmas.{StaysOrIs, put_once}
-use Rattle.ref_moments.proofs.TurnLemmas.{Once, Sets}
+use Rattle.ref_moments.proofs.TurnLemmas.{Once}
 
 module _ (closed : Bool) (source target : List ℕ) where
   -- objects of a copy leave each ref

@@ -1,5 +1,5 @@
 -- A command that edits sets one ref at most, its own, and once.
-use Rattle.std.proofs.Common.{◌≡◌, ◌⊎◌, inl, inr, refl, sym, ◌∙◌, ap, subst, append_assoc, ℕ, List, [], ◌∷◌, ◌++◌, reverse, Option, Some, None, Result, Ok, Err}
+use Rattle.std.proofs.Common.{◌≡◌, inl, inr, refl, sym, ◌∙◌, ap, subst, append_assoc, ℕ, List, [], ◌∷◌, ◌++◌, reverse, Option, Some, None, Result, Ok, Err}
 use Rattle.std.specs.Prelude.{option_and_then}
 use Rattle.std.specs.List.{AllByRecursion}
 use Rattle.std.specs.Option.{option_map}
@@ -21,9 +21,9 @@ use Rattle.repo_steps.specs.declared.refusal.Stop.{Stop}
 use Rattle.repo_steps.specs.declared.refusal.Stop.TheVariants as stop
 use Rattle.words.specs.declared.edit.Edit.{Edit}
 use Rattle.words.specs.declared.edit.Edit.TheVariants as edit
-use Rattle.repo_steps.proofs.Names.{Id, Name, Line, Title, Files, History, files_of, Change, IsName-object_name, bug_kind, BugOp, clock_at, ref_write, ref_place, missing_writes, UserFound, User, NoUser, BadUser, user_at, user_entry, user_write, HeadEntry, Side, DoingAnswers, IsStopped, Doing, doing_of, EditAnswers, Picked, addition_objects, addition_writes, clock_writes, later_by, root_addition, some_id, create_op, new_made, new_objects, new_text, first_user_write, user_writes, version_writes}
-use Rattle.ref_moments.specs.Once.{IsSetOnce, StaysSame}
-use Rattle.ref_moments.specs.Sets.{IsOwnSet, StaysOrIsSet}
+use Rattle.repo_steps.proofs.Names.{Id, Name, Line, Title, Files, History, files_of, Change, IsName-object_name, bug_kind, clock_at, ref_write, ref_place, missing_writes, UserFound, User, NoUser, BadUser, user_at, user_entry, HeadEntry, Side, IsStopped, Doing, doing_of, EditAnswers, Picked, addition_objects, addition_writes, clock_writes, later_by, root_addition, some_id, create_op, new_made, new_objects, new_text, first_user_write, user_writes, version_writes}
+use Rattle.ref_moments.specs.Once.{IsSetOnce}
+use Rattle.ref_moments.specs.Sets.{StaysOrIsSet}
 use Rattle.ref_moments.proofs.OnceLemmas.{Leaves, all_set, some_stay, stays_none}
 use Rattle.ref_moments.proofs.PutLemmas.{both_leave, missing_leave, see_leave, some_once, user_leaves}
 

@@ -1,11 +1,10 @@
 -- What came of a ref by all turns of an exchange: it stays, or is set once.
-use Rattle.std.proofs.Common.{◌≡◌, ◌≢◌, ◌⊎◌, inl, inr, refl, sym, ◌∙◌, ap, subst, ℕ, Bool, false, List, ◌∷◌, ◌++◌, Contains, map, Some, Result, Ok, Err}
+use Rattle.std.proofs.Common.{◌≡◌, ◌≢◌, ◌⊎◌, inl, inr, refl, sym, subst, ℕ, Bool, false, List, Contains, Some, Result, Ok, Err}
 use Rattle.std.proofs.lemmas.List.Elements.{Contains-append_cases}
 use Rattle.gb_text.specs.declared.id.Id.{Id}
 use Rattle.gb_text.specs.declared.id.Name.{Name}
 use Rattle.gb_store.specs.Files.{History, files_of}
 use Rattle.repo_state.specs.Listed.{AreRefs}
-use Rattle.repo_state.specs.Sides.{ref_place}
 use Rattle.repo_state.specs.declared.refs.EntityRef.{EntityRef}
 use Rattle.repo_state.specs.declared.side.Side.{Side}
 use Rattle.repo_state.specs.declared.stop.ReadStop.{ReadStop}
@@ -17,7 +16,7 @@ use Rattle.sync_steps.specs.declared.line.EntityWord.TheVariants as word
 use Rattle.sync_steps.specs.declared.line.Exchange.{Exchange}
 use Rattle.sync_steps.specs.declared.line.Line.{Line}
 use Rattle.ref_moments.specs.Once.{StaysSame}
-use Rattle.ref_moments.proofs.ListedLemmas.{IsListed, OnceBy, SetBy, end_listed, ended_once, other_side, set_by_then, then_set_by, turn_at, turns_listed, went_once}
+use Rattle.ref_moments.proofs.ListedLemmas.{IsListed, SetBy, end_listed, ended_once, other_side, set_by_then, then_set_by, turn_at, turns_listed, went_once}
 use Rattle.ref_moments.proofs.OnceLemmas.{stays_none, stays_then}
 use Rattle.ref_moments.proofs.TurnLemmas.{Once}
 

@@ -1,13 +1,10 @@
 -- Which write changes the ref of an id: the put of its own file alone.
-use Rattle.std.proofs.Common.{◌≡◌, ◌≢◌, ◌⊎◌, inl, inr, refl, sym, ◌∙◌, ap, subst, ℕ, List, ◌++◌}
+use Rattle.std.proofs.Common.{◌≡◌, ◌≢◌, ◌⊎◌, inl, inr, sym, ◌∙◌, ap, subst, ℕ, List, ◌++◌}
 use Rattle.gb_text.specs.Digits.{IsId, IsName}
-use Rattle.gb_text.specs.Folder.{joined}
 use Rattle.gb_text.specs.declared.id.Id.{Id}
 use Rattle.gb_text.specs.declared.id.Name.{Name}
 use Rattle.gb_store.specs.Files.{Files, History, files_of, written}
 use Rattle.gb_store.specs.declared.store.Change.{Change}
-use Rattle.object_store.proofs.HeldLemmas.{object_at-is}
-use Rattle.ref_store.specs.Refs.{Head}
 use Rattle.ref_store.specs.Setting.{ref_write}
 use Rattle.ref_store.proofs.FrameLemmas.{head_is_name, ref_at-other}
 use Rattle.ref_store.proofs.MapLemmas.{joined-same, set_ref_reads}
@@ -31,8 +28,11 @@ module _ (folder : List ℕ) (of : Side) (id : Id) (files : Files) where
   -- a put of a ref's file
   pub put_changes : (on : Side) (other : Id) (head : Name) → IsName head → LeavesOrPuts folder of id files (ref_write folder (ref_place on other) head)
   put_changes on other head named = elim (this_or_leaves folder of id on other head) [
-    | inl place ↦ inr (head, ap (λ (p : List ℕ). ref_write folder p head) place,
-        ap (λ (p : List ℕ). head_at (written files (ref_write folder p head)) folder of id) place ∙ set_ref_reads files folder (ref_place of id) head named)
+    | inl place ↦ inr (
+      head,
+      ap (λ (p : List ℕ). ref_write folder p head) place,
+      ap (λ (p : List ℕ). head_at (written files (ref_write folder p head)) folder of id) place ∙ set_ref_reads files folder (ref_place of id) head named,
+    )
     | inr leaves ↦ inl (leaves files)
   ]
 

@@ -1,7 +1,7 @@
 -- Where each write only adds objects, what refs lead to is kept from each moment to each later one.
-use Rattle.std.proofs.Common.{◌≡◌, inl, inr, refl, sym, ◌∙◌, ap, ℕ, List, [], ◌∷◌, ◌++◌}
+use Rattle.std.proofs.Common.{◌≡◌, inl, inr, refl, ◌∙◌, ap, ℕ, List, [], ◌∷◌, ◌++◌}
 use Rattle.gb_store.specs.Files.{Files, History, files_of, written}
-use Rattle.gb_store.specs.Moments.{IsMoment, Wrote, WroteBy, at_moment}
+use Rattle.gb_store.specs.Moments.{Wrote, WroteBy, at_moment}
 use Rattle.gb_store.specs.declared.store.Change.{Change}
 use Rattle.gb_store.proofs.MomentLemmas.{AllMoments-from_Wrote, IsMoment-of_second, WroteBy-after, WroteBy-before, WroteBy-wider, at_moment-from_later}
 use Rattle.commit_walk.proofs.BelowLemmas.{IsBelow-stays}
@@ -9,14 +9,12 @@ use Rattle.object_store.specs.Growth.{OnlyGrew}
 use Rattle.object_store.specs.Held.{Objects, objects_in}
 use Rattle.remote_copy.specs.NeedWrites.{PutsOneAfterNeeds}
 use Rattle.remote_name.specs.declared.remote.RemoteName.{RemoteName}
-use Rattle.repo_state.specs.Sides.{ref_place}
 use Rattle.repo_state.proofs.KindLemmas.{objects-ref_write}
 use Rattle.repo_writes.specs.Kinds.{IsWrite, an_object}
 use Rattle.repo_writes.proofs.SoundLemmas.{write-grew}
-use Rattle.ref_store.specs.Setting.{ref_write}
 use Rattle.sync_steps.specs.Places.{local_side, tracking_side}
 use Rattle.sync_writes.specs.Kinds.{FetchWrites, PushWrites}
-use Rattle.ref_moments.specs.Leads.{LeadsAsBefore, LeadsOn}
+use Rattle.ref_moments.specs.Leads.{LeadsOn}
 use Rattle.ref_moments.proofs.OnceLemmas.{first_moment, last_moment}
 
 -- a write only adds objects to a folder

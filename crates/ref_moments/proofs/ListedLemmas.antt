@@ -1,5 +1,5 @@
 -- Turns of the entities whose refs were listed on a side.
-use Rattle.std.proofs.Common.{◌≡◌, ◌≢◌, ◌⊎◌, inl, inr, refl, sym, ◌∙◌, ap, subst, ℕ, List, ◌∷◌, ◌++◌, Contains, map, Some}
+use Rattle.std.proofs.Common.{◌≡◌, ◌≢◌, ◌⊎◌, inl, inr, sym, ◌∙◌, ap, subst, ℕ, List, ◌∷◌, ◌++◌, Contains, map, Some}
 use Rattle.std.proofs.lemmas.List.Elements.{Contains-append_left, Contains-append_right}
 use Rattle.gb_text.specs.Digits.{IsId, IsName}
 use Rattle.gb_text.specs.declared.id.Id.{Id}
@@ -7,7 +7,6 @@ use Rattle.gb_text.specs.declared.id.Name.{Name}
 use Rattle.gb_store.specs.Files.{History, files_of}
 use Rattle.gb_store.specs.Turns.{InTurn}
 use Rattle.object_batch.proofs.ClashLemmas.{Contains-first}
-use Rattle.ref_store.specs.Refs.{Head}
 use Rattle.ref_store.proofs.FrameLemmas.{head_is_name}
 use Rattle.repo_state.specs.Listed.{AreRefs, ref_with}
 use Rattle.repo_state.specs.Sides.{head_at, ref_place}
@@ -16,7 +15,6 @@ use Rattle.repo_state.specs.declared.side.Side.{Side}
 use Rattle.repo_state.proofs.ListingLemmas.{Contains-map}
 use Rattle.repo_state.proofs.PlaceLemmas.{ref_place-same, ref_place-side}
 use Rattle.ref_moments.specs.Once.{StaysSame}
-use Rattle.ref_moments.proofs.OnceLemmas.{stays_then}
 use Rattle.ref_moments.proofs.TurnLemmas.{AllApart, AtTurn, Once, Sets, Turned, at_turn, front_apart, middle_apart, refs_apart, sets_then, then_sets, turned, turned_end}
 
 -- the ref of an entity was listed on a side

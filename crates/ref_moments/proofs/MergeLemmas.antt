@@ -1,5 +1,5 @@
 -- A merge sets the local ref of each tracked entity once at most, and no other ref.
-use Rattle.std.proofs.Common.{◌≡◌, ◌≢◌, ◌⊎◌, inl, inr, refl, sym, ◌∙◌, ap, subst, ℕ, true, false, List, [], ◌∷◌, ◌++◌, Contains, Option, Some, None, Result, Ok, Err, reverse}
+use Rattle.std.proofs.Common.{◌≡◌, ◌≢◌, ◌⊎◌, inl, inr, refl, sym, ◌∙◌, ap, subst, ℕ, true, false, List, [], ◌∷◌, ◌++◌, Contains, Option, Some, None, Result, Ok, Err}
 use Rattle.std.proofs.lemmas.List.{append-nil}
 use Rattle.std.proofs.lemmas.List.Elements.{Contains-append_cases}
 use Rattle.std.proofs.lemmas.Option.{same_Some}
@@ -17,11 +17,10 @@ use Rattle.dag_entity.specs.Joining.{merge_pack}
 use Rattle.entity_merge.specs.Joins.{head_of}
 use Rattle.entity_merge.specs.declared.word.Merged.{Merged}
 use Rattle.entity_merge.specs.declared.word.Merged.TheVariants as merged
-use Rattle.ref_store.specs.Refs.{Head}
 use Rattle.ref_store.specs.Setting.{ref_write}
 use Rattle.remote_name.specs.declared.remote.RemoteName.{RemoteName}
 use Rattle.repo_state.specs.Clocks.{clock_at, see_writes}
-use Rattle.repo_state.specs.Listed.{AreRefs, ref_with}
+use Rattle.repo_state.specs.Listed.{ref_with}
 use Rattle.repo_state.specs.Sides.{head_at, ref_place}
 use Rattle.repo_state.specs.declared.clocks.ClockFile.TheVariants as file
 use Rattle.repo_state.specs.declared.refs.EntityRef.{EntityRef}
@@ -32,7 +31,7 @@ use Rattle.sync_steps.specs.Places.{local_side, tracking_side}
 use Rattle.sync_steps.specs.declared.line.EntityWord.{EntityWord}
 use Rattle.sync_steps.specs.declared.line.EntityWord.TheVariants as word
 use Rattle.merge_steps.specs.Merging.{BugCutOff, BugOutcome, BugStops, GetsHead, HasPlan, MergeTurn, MergesBug, MergesPerson, PersonCutOff, PersonOutcome, PersonStops, merged_writes}
-use Rattle.merge_steps.specs.Turns.{Ended, IsMerged, MergeAnswers, NotBegun, PeopleMerged, Tracked, Went, line_of, lines_of}
+use Rattle.merge_steps.specs.Turns.{Ended, MergeAnswers, Tracked, Went, line_of, lines_of}
 use Rattle.merge_steps.specs.declared.line.MergeLine.{MergeLine}
 use Rattle.merge_steps.specs.declared.line.MergeOutcome.{MergeOutcome}
 use Rattle.merge_steps.specs.declared.line.MergeOutcome.TheVariants as outcome
@@ -47,7 +46,7 @@ use Rattle.ref_moments.proofs.ListedLemmas.{IsListed, SetBy, end_listed, ended_o
 use Rattle.ref_moments.proofs.OnceLemmas.{all_set, set_one, set_then, stays_none, stays_then, then_set}
 use Rattle.ref_moments.proofs.PushLemmas.{local_apart}
 use Rattle.ref_moments.proofs.PutLemmas.{StaysOrIs, both_leave, missing_leave, put_once, see_leave, some_once}
-use Rattle.ref_moments.proofs.TurnLemmas.{Once, Sets}
+use Rattle.ref_moments.proofs.TurnLemmas.{Once}
 
 -- any head may be given to an entity whose tracking ref has one
 abbrev pub AnyHead : EntityRef → Name → Type 0

@@ -1,9 +1,7 @@
 -- What follows for each moment where a ref changes once at most.
-use Rattle.std.proofs.Common.{◌≡◌, ◌≢◌, ◌⊎◌, ◌<◌, ◌≤◌, ◌+◌, inl, inr, refl, sym, ◌∙◌, ap, subst, arith, append_assoc, length-append, ℕ, List, [], ◌∷◌, ◌++◌, length, drop}
-use Rattle.std.proofs.lemmas.List.{append_cancel_right}
+use Rattle.std.proofs.Common.{◌≡◌, ◌⊎◌, ◌+◌, inl, inr, refl, sym, ◌∙◌, ap, subst, arith, length-append, ℕ, List, [], ◌∷◌, ◌++◌, length}
 use Rattle.gb_text.specs.declared.id.Id.{Id}
 use Rattle.gb_text.specs.declared.id.Name.{Name}
-use Rattle.gb_text.proofs.PathLemmas.{append_cases}
 use Rattle.gb_store.specs.Files.{Files, History, files_of}
 use Rattle.gb_store.specs.Moments.{AllMoments, IsMoment}
 use Rattle.gb_store.specs.declared.store.Change.{Change}
@@ -12,7 +10,7 @@ use Rattle.ref_store.specs.Refs.{Ref, Head}
 use Rattle.ref_store.specs.Setting.{ref_write}
 use Rattle.repo_state.specs.Sides.{head_at, ref_place}
 use Rattle.repo_state.specs.declared.side.Side.{Side}
-use Rattle.ref_moments.specs.Once.{ChangesAt, ChangesOnce, IsOldOrNew, IsSetOnce, StaysSame}
+use Rattle.ref_moments.specs.Once.{ChangesAt, ChangesOnce, IsOldOrNew, IsSetOnce}
 use Rattle.ref_moments.proofs.OnceLemmas.{AllMoments-wider, first_moment, last_moment}
 
 -- what holds at each moment holds at those up to one of them

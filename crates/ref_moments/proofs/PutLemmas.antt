@@ -1,8 +1,7 @@
 -- What writes of each kind leave of a ref, and what a put of a ref's file does with each ref.
-use Rattle.std.proofs.Common.{◌≡◌, ◌⊎◌, inl, inr, ℕ, Bool, true, false, List, [], ◌∷◌, ◌++◌, reverse, refl, sym, ◌∙◌, ap, subst}
+use Rattle.std.proofs.Common.{◌≡◌, ◌⊎◌, inl, inr, ℕ, Bool, true, false, List, [], ◌∷◌, ◌++◌, refl, ◌∙◌, ap, subst}
 use Rattle.std.specs.Prelude.{is_some, nat_lt}
 use Rattle.std.specs.List.{AllByRecursion}
-use Rattle.std.proofs.lemmas.List.{append-nil}
 use Rattle.gb_text.specs.Digits.{IsName}
 use Rattle.gb_text.specs.Folder.{joined}
 use Rattle.gb_text.specs.declared.id.Id.{Id}
@@ -18,7 +17,7 @@ use Rattle.lamport.specs.Clock.{seen_by}
 use Rattle.ref_store.specs.Setting.{ref_write}
 use Rattle.ref_store.proofs.FrameLemmas.{ref_at-other}
 use Rattle.ref_store.proofs.MapLemmas.{joined-same}
-use Rattle.repo_state.specs.Clocks.{clock_write, see_writes}
+use Rattle.repo_state.specs.Clocks.{see_writes}
 use Rattle.repo_state.specs.Sides.{ref_place}
 use Rattle.repo_state.specs.Users.{user_write}
 use Rattle.repo_state.specs.declared.clocks.ClockFile.{ClockFile}
@@ -26,7 +25,7 @@ use Rattle.repo_state.specs.declared.side.Side.{Side}
 use Rattle.repo_state.proofs.KindLemmas.{head_at-clock_write, head_at-object_write, head_at-user_write}
 use Rattle.repo_state.proofs.PlaceLemmas.{ref-not_packed, same_or_other}
 use Rattle.ref_moments.specs.Once.{IsSetOnce, StaysSame}
-use Rattle.ref_moments.proofs.OnceLemmas.{Leaves, all_set, all_stay, some_set, some_stay, set_one, stays_none, stays_then}
+use Rattle.ref_moments.proofs.OnceLemmas.{Leaves, all_stay, some_set, some_stay, set_one, stays_then}
 
 module _ (folder : List ℕ) (of : Side) (id : Id) where
   abbrev L : Change → Type 0

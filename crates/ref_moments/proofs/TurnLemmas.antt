@@ -1,5 +1,5 @@
 -- Turns of different entities on one side: each ref changes in one of them at most.
-use Rattle.std.proofs.Common.{◌≡◌, ◌≢◌, ◌⊎◌, inl, inr, refl, sym, ◌∙◌, ap, subst, arith, ℕ, zero, suc, List, [], ◌∷◌, ◌++◌, Contains, length, map, Some}
+use Rattle.std.proofs.Common.{◌≡◌, ◌≢◌, ◌⊎◌, inl, inr, refl, sym, ◌∙◌, ap, subst, arith, ℕ, zero, suc, List, [], ◌∷◌, ◌++◌, Contains, map}
 use Rattle.std.specs.Prelude.{⊤}
 use Rattle.std.specs.List.{AllPairs}
 use Rattle.std.specs.List.Sorted.{IsStrictlySortedBy}
@@ -18,7 +18,7 @@ use Rattle.repo_state.specs.Sides.{ref_place}
 use Rattle.repo_state.specs.declared.refs.EntityRef.{EntityRef}
 use Rattle.repo_state.specs.declared.side.Side.{Side}
 use Rattle.repo_state.proofs.ListingLemmas.{Contains-map}
-use Rattle.repo_state.proofs.PlaceLemmas.{ref_place-same, same_or_other}
+use Rattle.repo_state.proofs.PlaceLemmas.{ref_place-same}
 use Rattle.ref_moments.specs.Once.{IsSetOnce, StaysSame}
 use Rattle.ref_moments.proofs.OnceLemmas.{set_then, stays_none, stays_then, then_set}
 
@@ -128,9 +128,12 @@ module _ (folder : List ℕ) (to of : Side) (id : Id) (Heads : EntityRef → Nam
         by (inl stays) (inl on) = inl (stays_then folder of id old mid new stays on)
         by (inl stays) (inr sets) = inr (sets.0, sets.1, then_sets sets.0 old mid new stays sets.2)
         by (inr sets) on =
-            inr (ref_of item, listed item (Contains-first item items),
-            sets_then (ref_of item) old mid new sets
-            (others_stay items (λ x c. listed x (Contains-later item items x c)) (behind item items listed apart sets.place) mid new rest))
+            inr (
+              ref_of item,
+              listed item (Contains-first item items),
+              sets_then (ref_of item) old mid new sets
+                  (others_stay items (λ x c. listed x (Contains-later item items x c)) (behind item items listed apart sets.place) mid new rest),
+            )
 
     -- the same where the call ended at an entity behind them
     pub turned_end : (items : List A) (at : EntityRef) → AreListed items → Listed at → AllApart (map ref_of items) → ((one : EntityRef) → Contains (map ref_of items) one → one.id ≢ at.id)
@@ -140,10 +143,14 @@ module _ (folder : List ℕ) (to of : Side) (id : Id) (Heads : EntityRef → Nam
       | inr sets ↦ inr (sets.0, sets.1, sets_then sets.0 old mid new sets.2 stays)
     ]
     turned_end items at listed ended apart before old mid new went (inr sets) =
-        inr (at, ended, then_sets at old mid new
-        (others_stay items listed
-        (λ x c same. before (ref_of x) (Contains-map ref_of items x c)
-        (ref_place-same to (ref_of x).id at.id (sized (ref_of x) (listed x c)) (sized at ended) (same ∙ sym sets.place))) old mid went) sets)
+        inr (
+          at,
+          ended,
+          then_sets at old mid new
+              (others_stay items listed
+              (λ x c same. before (ref_of x) (Contains-map ref_of items x c)
+              (ref_place-same to (ref_of x).id at.id (sized (ref_of x) (listed x c)) (sized at ended) (same ∙ sym sets.place))) old mid went) sets,
+        )
 
     -- a turn among others, of the entity whose ref this is: it stays before and behind
     pub record AtTurn (item : A) (old new : History) : Type 0 where

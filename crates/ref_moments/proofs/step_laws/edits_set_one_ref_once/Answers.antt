@@ -1,4 +1,3 @@
-use Rattle.std.proofs.Common.{Err}
 use Rattle.ref_moments.proofs.EditLemmas.{edit_is_set, edit_sets}
 use Rattle.ref_moments.proofs.step_laws.edits_set_one_ref_once.Goals as goal
 
