@@ -1,0 +1,15 @@
+pub mod ApartLemmas
+pub mod CarryLemmas
+pub mod EditLemmas
+pub mod ExchangeLemmas
+pub mod FetchLemmas
+pub mod KindLemmas
+pub mod LeadLemmas
+pub mod ListedLemmas
+pub mod MergeLemmas
+pub mod MomentLemmas
+pub mod OnceLemmas
+pub mod PullLemmas
+pub mod PushLemmas
+pub mod PutLemmas
+pub mod TurnLemmas
