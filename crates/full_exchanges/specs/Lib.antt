@@ -1,0 +1,4 @@
+pub mod Exchanges
+pub mod Having
+pub mod Leaving
+pub mod Pulls
