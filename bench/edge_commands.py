@@ -1,13 +1,13 @@
 #!/usr/bin/env python3
 """Tries every command of the program against kills, errors, power cuts, full disks, read-only folders and lost peers.
 
-    bench/edge_commands.py [--program FILE] [--folder FOLDER] [--other FOLDER] [--every N] [--commands NAME,..] [KIND ..]
-    bench/edge commands ...                                  the same, as a part of `bench/edge`
+    bench/edge_commands.py [--program FILE] [--folder FOLDER] [--other FOLDER] [--every N] [--commands NAME,..] [KIND]
+    bench/edge commands ...                                  all of it, as a part of `bench/edge`
 
 It needs strace. Each command gets a folder in which it has something to do, and a peer if it takes one. The kinds:
 
-    kill EIO ENOSPC EINTR EACCES ENOMEM    at each call that touches the disk; what was acknowledged stands, every ref leads
-                                           to held objects, and the same command again puts things right
+    kill EIO ENOSPC EINTR EACCES ENOMEM    at each call that touches the disk; what was acknowledged stands, every ref
+                                           leads to held objects, and the same command again puts things right
     cut         a power cut after each call that changes the disk, whose order is free (the disk of `bench/edge`)
     again       the same command over what such a cut leaves at least
     full        every call that needs room fails from some place on; a limit on the size of a file; a small file system
@@ -16,8 +16,9 @@ It needs strace. Each command gets a folder in which it has something to do, and
     gone        the peer is moved away while the run is held at a call
     at-once     two and three programs over two folders that push into each other
 
-One row is printed for each command and kind, with its count and its faults. The exit status is 1 where there is a fault.
-`--every N` tries only each call of so many. A part that cannot be tried (no right to mount, or to be another person) says so.
+One row is printed for each command and kind, with its count and its faults. The exit status is 1 where there is a
+fault. `--every N` tries only each call of so many. Where nothing can be mounted, a row says so; without the right to be
+another person nothing is tried as `read-only`.
 """
 import argparse
 import collections
@@ -51,9 +52,9 @@ Unsound = edge.Unsound
 ERRORS = ("EIO", "ENOSPC", "EINTR", "EACCES", "ENOMEM")
 NOBODY = 65_534
 
-# Every command: its words, where BUG, CLOSED and so on stand for what was made in the folder; the folders that it writes;
-# and what tells that it is done: a command that reads, and a line that it prints then. None where what is printed by the
-# command itself, or the refs, tell it.
+# Every command: its words, where BUG, CLOSED and so on stand for what was made in the folder; the folder that it
+# writes; and what tells that it is done: a command that reads, and a line that it prints then. None where what the
+# command itself prints tells it, or the refs.
 COMMANDS = {
     "user-new": (["f", "user-new", "Cy", "c@x"], "f", (["users"], "^[0-9a-f]{64}\tCy\tc@x$")),
     "user-edit": (["f", "user-edit", "Ana B", "b@x"], "f", (["users"], "\tAna B\tb@x\t\\*$")),
@@ -83,7 +84,10 @@ EXCHANGES = ("fetch", "pull", "push")
 READS = ("users", "show", "log")
 LISTS = ("ls", "board")
 # Once done, these are refused with a reason if they are given again.
-ONCE = {"close": "6 same status", "open": "6 same status", "label-add": "5 no label change", "label-rm": "5 no label change"}
+ONCE = {
+    **dict.fromkeys(["close", "open"], "6 same status"),
+    **dict.fromkeys(["label-add", "label-rm"], "5 no label change"),
+}
 
 
 def base(program, above):
@@ -117,7 +121,7 @@ def base(program, above):
 
 
 class Scene:
-    """A command in a room where it has something to do: the words, the room before it, and the one after it undisturbed."""
+    """A command in a room where it has something to do: its words, the room before it, and the one after it."""
 
     def __init__(self, name, before, said, program=None):
         words, self.written, self.tells = COMMANDS[name]
@@ -159,12 +163,8 @@ class Scene:
 
 
 def bugs_of(room):
-    files = edge.files_in(room.top / "f")
-    return sorted({it.group(1) for it in map(re.compile("(?:^|.* )refs/bugs/([0-9a-f]{64})$").match, refs_of(files)) if it})
-
-
-def refs_of(files):
-    return list(edge.refs_in(files))
+    found = map(re.compile("refs/bugs/([0-9a-f]{64})").fullmatch, edge.refs_in(edge.files_in(room.top / "f")))
+    return sorted(it.group(1) for it in found if it)
 
 
 def texts_of(room):
@@ -183,7 +183,7 @@ def comments_of(room):
 
 
 def check_kept(scene, room, besides=()):
-    """What was acknowledged before a run still prints, every ref leads to held objects, and no other folder has changed."""
+    """What was acknowledged before still prints, every ref leads to held objects, and no other folder has changed."""
     for name in ("f", "h", "p"):
         files = edge.files_in(room.top / name) if (room.top / name).exists() else {}
         edge.heads_in(files)
@@ -314,13 +314,13 @@ ROOM_CALLS = ("write", "mkdir", "rename", "fsync", "openat")
 
 
 def full(scene, every):
-    """Every call that needs room fails from some place on; then a limit on the size of a file; then a small file system."""
+    """Calls that need room fail from some place on; then a limit on the size of a file; then a small file system."""
     count, faults = 0, []
     calls = [at for at in scene.counts() if at[0] in ROOM_CALLS[:4]]
-    tries = [(f"inject={call}:error=ENOSPC:when={number}+", f"{call} {number} and later ones") for call, number in calls[::every]]
-    for inject, where in tries:
-        room = scene.before.copied()
-        status, text, _ = room.trace(scene.words, "-e", inject)
+    tries = [(call, number) for call, number in calls[::every]]
+    for call, number in tries:
+        room, where = scene.before.copied(), f"{call} {number} and later ones"
+        status, text, _ = room.trace(scene.words, "-e", f"inject={call}:error=ENOSPC:when={number}+")
         fault = fault_after(scene, room, status, "" if status == 5 or scene.name in READS else text)
         faults += [f"{where}: {fault}"] if fault else []
         room.close()
@@ -341,7 +341,7 @@ def limited(size):
 
 
 def small_disks(scene):
-    """The folders on a file system with so many free pages, if one can be mounted. Room comes back before the next run."""
+    """A file system with a few free pages, if one can be mounted. Room comes back before the next run."""
     count, faults, page = 0, [], resource.getpagesize()
     for free in range(0, 6 if scene.written else 1):
         room = scene.before.copied()
@@ -383,7 +383,7 @@ def fill(file, left):
 
 
 def read_only(scene, every):
-    """A folder of another person: what reads prints the same; what writes is a fault of the disk and changes nothing."""
+    """A folder of another person: what reads prints the same; what writes is a fault of the disk."""
     if os.geteuid() != 0:
         return 0, []
     room = scene.before.copied()
@@ -431,7 +431,8 @@ def gone(scene, every):
     if scene.name not in EXCHANGES:
         return 0, []
     count, faults, peer = 0, [], scene.words[-1]
-    for call, number in [at for at in scene.counts() if at[0] in ("openat", "statx", "rename", "write", "getdents64")][::every]:
+    held = ("openat", "statx", "rename", "write", "getdents64")
+    for call, number in [at for at in scene.counts() if at[0] in held][::every]:
         room = scene.before.copied()
         status, text = without_peer(room, scene.words, room.top / peer, call, number)
         away = room.top / "away"
@@ -486,7 +487,7 @@ def without_peer(room, words, peer, call, number):
 
 
 def at_once(program, above, rounds):
-    """Two and three programs at once over two folders that push into each other, and then each pulls: both show the same."""
+    """Two and three programs at once over two folders that push into each other. At the end both show the same."""
     before, said = base(program, above)
     bug = said["BUG"]
     groups = {
@@ -509,7 +510,8 @@ def at_once(program, above, rounds):
 
 
 def at_once_fault(room, commands):
-    runs = [subprocess.Popen([room.program, *it], cwd=room.top, stdout=subprocess.PIPE, stderr=subprocess.DEVNULL) for it in commands]
+    how = {"cwd": room.top, "stdout": subprocess.PIPE, "stderr": subprocess.DEVNULL}
+    runs = [subprocess.Popen([room.program, *it], **how) for it in commands]
     try:
         ends = [(run.communicate(timeout=2 * edge.LOCK_WAIT)[0].decode(), run.returncode) for run in runs]
     except subprocess.TimeoutExpired:

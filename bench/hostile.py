@@ -263,7 +263,8 @@ def edits(folder, size):
 def edits_of_one(folder, size):
     author, first = folder.person(), create()
     target = hashlib.sha256(first.encode()).hexdigest()
-    return folder.chain(author, in_packs([first] + [operation(at + 2, 6, message="e" * 20, target=target) for at in range(size)]))
+    ops = [operation(at + 2, 6, message="e" * 20, target=target) for at in range(size)]
+    return folder.chain(author, in_packs([first] + ops))
 
 
 @case(20_000, ALL, "n keys of metadata that begin alike")
@@ -347,7 +348,8 @@ def trees(folder, size):
     for _ in range(depth):
         content = b"".join(b"40000 %04d\0" % at + bytes.fromhex(name) for at in range(1_000))
         name = folder.put(b"tree", content)
-    tree = bench.tree_content([(b"create-clock-1", folder.empty), (b"edit-clock-1", folder.empty), (b"ops", folder.pack(author, [first]))])
+    clocks = [(b"create-clock-1", folder.empty), (b"edit-clock-1", folder.empty)]
+    tree = bench.tree_content([*clocks, (b"ops", folder.pack(author, [first]))])
     tree += b"40000 sub\0" + bytes.fromhex(name) + b"100644 version-4\0" + bytes.fromhex(folder.empty)
     return folder.bug(hashlib.sha256(first.encode()).hexdigest(), folder.commit(folder.put(b"tree", tree)))
 
@@ -449,17 +451,22 @@ def hostile(program, above, part=1, names=()):
     return rows, faults
 
 
+def measure_all(program, part, cases):
+    """Measures in a temporary folder; the exit status."""
+    names = [it for it in cases.split(",") if it]
+    with tempfile.TemporaryDirectory(prefix="gitbug-hostile-", dir=bench.place_with_room()) as above:
+        rows, faults = hostile(program, above, part, names)
+    print(f"\n{rows} rows, {faults} faults")
+    return 1 if faults else 0
+
+
 def main():
     take = argparse.ArgumentParser(description=__doc__, formatter_class=argparse.RawDescriptionHelpFormatter)
     take.add_argument("--program", help="another build of the program")
     take.add_argument("--part", type=int, default=1, help="all sizes are an Nth of what they are")
     take.add_argument("--cases", default="", help=", ".join(make.__name__ for _, _, make in CASES.values()))
     given = take.parse_args()
-    names = [it for it in given.cases.split(",") if it]
-    with tempfile.TemporaryDirectory(prefix="gitbug-hostile-", dir=bench.place_with_room()) as above:
-        rows, faults = hostile(bench.program_path(given.program), above, given.part, names)
-    print(f"\n{rows} rows, {faults} faults")
-    sys.exit(1 if faults else 0)
+    sys.exit(measure_all(bench.program_path(given.program), given.part, given.cases))
 
 
 if __name__ == "__main__":
