@@ -123,7 +123,7 @@ def base(program, above):
 class Scene:
     """A command in a room where it has something to do: its words, the room before it, and the one after it."""
 
-    def __init__(self, name, before, said, program=None):
+    def __init__(self, name, before, said):
         words, self.written, self.tells = COMMANDS[name]
         self.name, self.before, self.said = name, before, said
         self.words = [said.get(it, it) for it in words]
@@ -261,6 +261,8 @@ def disk_of(scene, room):
 
 def cut(scene, every):
     """A power cut after each call, and after the last one what was acknowledged."""
+    if scene.name == "pack-refs":
+        return cut_packs(scene)
     room = scene.before.copied()
     disk, folder = disk_of(scene, room), scene.written or "f"
     status, _, lines = room.trace(scene.words, *edge.MARKS)
@@ -268,10 +270,23 @@ def cut(scene, every):
     faults = [loss] if loss else []
     old = edge.refs_in(edge.files_in(scene.before.top / folder))
     changed = [ref for ref, head in refs_with_heads(room.top / folder).items() if old.get(ref) != head]
-    for ref in changed if status in (0, 1) and scene.name != "pack-refs" else []:
+    for ref in changed if status in (0, 1) else []:
         lost = disk.lost_head(folder, ref)
         if lost:
             faults.append(f"a cut after the run may take {lost}, which was acknowledged")
+    room.close()
+    return count, faults
+
+
+def cut_packs(scene):
+    """A power cut after each call of a pack, which takes what it may: each ref keeps its head."""
+    count, faults, room = 0, [], scene.before.copied()
+    disk, heads = disk_of(scene, room), refs_with_heads(room.top / "f")
+    for line in room.trace(scene.words, *edge.MARKS)[2]:
+        if disk.apply(line):
+            count += 1
+            if edge.refs_in(disk.left("f", lambda path: False)) != heads:
+                faults.append(f"a cut after {edge.decoded(line)[:80]!r}: a ref has another head")
     room.close()
     return count, faults
 

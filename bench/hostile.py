@@ -19,6 +19,7 @@ import importlib.util
 import json
 import os
 import pathlib
+import resource
 import shutil
 import statistics
 import subprocess
@@ -188,7 +189,7 @@ def ladder(folder, size):
     return folder.bug(id, below[-1])
 
 
-@case(16_384, ("merge", "pull", "push"), "n merges that both folders have, and one commit more in each")
+@case(4_096, ("merge", "pull", "push"), "n merges that both folders have, and one commit more in each")
 def ladders(folder, size):
     id = ladder(folder, size)
     head = (folder.path / "refs/bugs" / id).read_text().strip()
@@ -215,7 +216,7 @@ def other_names(folder, size):
     return "0"
 
 
-@case(250_000, ("show", "fetch"), "n packed lines, four times the limit of the file in all at the end")
+@case(250_000, ("show", "fetch"), "n packed refs of other names, from 2n on past the limit of the file")
 def too_many_names(folder, size):
     folder.write("packed-refs", b"".join(b"%040d refs/%x\n" % (at, at) for at in range(size)))
     return "0"
@@ -387,8 +388,14 @@ def renew(folder, name):
         subprocess.run(["cp", "-r", str(folder / "kept"), str(folder / "f")], check=True)
 
 
+def limited():
+    """Has a run end by a signal that takes so long that nothing can be said of it."""
+    resource.setrlimit(resource.RLIMIT_CPU, (WAIT, WAIT))
+
+
 def run_once(folder, program, measure, words):
-    done = subprocess.run([measure, program, *words], cwd=folder, capture_output=True, text=True, timeout=WAIT)
+    how = {"cwd": folder, "capture_output": True, "text": True}
+    done = subprocess.run([measure, program, *words], preexec_fn=limited, **how)
     _, processor, memory, status = map(int, done.stdout.split())
     return Cost(processor / 1e3, memory / 1024, status)
 
