@@ -1,15 +1,12 @@
 -- What the lines of an exchange or of a merge acknowledge is kept whatever is run then.
-use Rattle.std.proofs.Common.{◌≡◌, ◌≢◌, ◌⊎◌, inl, inr, refl, sym, ◌∙◌, ap, subst, ℕ, IsTrue, true, false, List, [], ◌∷◌, ◌++◌, Contains, Ok}
-use Rattle.gb_text.specs.Digits.{IsId}
+use Rattle.std.proofs.Common.{◌≡◌, inl, inr, ◌∙◌, ℕ, false, List, [], ◌∷◌, Contains, Ok}
 use Rattle.gb_text.specs.declared.id.Name.{Name}
 use Rattle.gb_store.specs.Files.{Files, History, files_of}
-use Rattle.gb_store.specs.Moments.{IsMoment}
 use Rattle.commit_walk.proofs.BelowLemmas.{IsBelow-stays}
 use Rattle.object_store.specs.Held.{objects_in}
 use Rattle.ref_store.specs.Refs.{Head}
 use Rattle.remote_name.specs.declared.remote.RemoteName.{RemoteName}
 use Rattle.repo_state.specs.Sides.{head_at}
-use Rattle.repo_state.specs.declared.side.Side.TheVariants as side
 use Rattle.repo_writes.specs.Kept.{IsOwnSide, KeepsBelow, LosesNothing}
 use Rattle.sync_steps.specs.Fetching.{FetchAnswers}
 use Rattle.sync_steps.specs.Places.{local_side, tracking_side}
@@ -19,10 +16,8 @@ use Rattle.sync_steps.specs.declared.line.EntityWord.TheVariants as word
 use Rattle.sync_steps.specs.declared.line.Line.{Line}
 use Rattle.sync_steps.specs.declared.line.Outcome.TheVariants as outcome
 use Rattle.merge_steps.specs.MergeLines.{is_refused}
-use Rattle.merge_steps.specs.Pulling.{PullAnswers}
 use Rattle.merge_steps.specs.Turns.{MergeAnswers}
 use Rattle.merge_steps.specs.declared.line.MergeLine.{MergeLine}
-use Rattle.merge_steps.specs.declared.line.Pulled.{Pulled}
 use Rattle.merge_steps.proofs.OtherRefLemmas.{merge_leaves}
 use Rattle.bug_edits.specs.declared.moment.Moment.{Moment}
 use Rattle.bug_run.proofs.ExchangeWriteLemmas.{in_time}
@@ -60,9 +55,12 @@ pub push_kept : (own peer : List ℕ) (old mid : History) (new : Files) (lines :
     → (line : Line) → Contains lines line → line.outcome ≡ outcome.Pushed
     → (head : Name) × (head_at (files_of old) own (local_side line.word) line.id ≡ Head head) × KeepsBelow peer new (local_side line.word) line.id head
 push_kept own peer old mid new lines answers kept line c is = elim (push_line own peer old mid lines answers line c) [
-  | inl (pushed, (head, has, set)) ↦ (head, has,
-      head_kept peer (files_of mid) new kept (local_side line.word) (own_side line.word) line.id (push_line_id own peer old mid lines answers line c) head
-      (set_end peer (local_side line.word) line.id head old mid set))
+  | inl (pushed, (head, has, set)) ↦ (
+    head,
+    has,
+    head_kept peer (files_of mid) new kept (local_side line.word) (own_side line.word) line.id (push_line_id own peer old mid lines answers line c) head
+        (set_end peer (local_side line.word) line.id head old mid set),
+  )
   | inr (not, stays) ↦ absurd (not is)
 ]
 
@@ -77,9 +75,11 @@ merge_kept folder remote moment old mid new lines answers kept line c ok =
 pub pull_fetch_kept : (own peer : List ℕ) (remote : RemoteName) (now : ℕ) (old mid end : History) (new : Files) (lines : List Line) (merged : List MergeLine) → FetchAnswers own peer remote old mid (Ok lines)
     → MergeAnswers own remote now mid end (Ok merged) → LosesNothing own (files_of end) new → (line : Line) → Contains lines line → line.outcome ≡ outcome.Fetched → FetchKept own remote (files_of end) new line
 pull_fetch_kept own peer remote now old mid end new lines merged answers then kept line c is = elim (fetch_line own peer remote old mid lines answers line c) [
-  | inl (fetched, (head, has, set)) ↦ (head,
-      merge_leaves own remote now mid end (tracking_side remote line.word) line.id (λ kind. sides_apart remote line.word kind) (Ok merged) then
-      ∙ set_end own (tracking_side remote line.word) line.id head old mid set,
-      all_below_kept own (files_of end) new kept head)
+  | inl (fetched, (head, has, set)) ↦ (
+    head,
+    merge_leaves own remote now mid end (tracking_side remote line.word) line.id (λ kind. sides_apart remote line.word kind) (Ok merged) then
+        ∙ set_end own (tracking_side remote line.word) line.id head old mid set,
+    all_below_kept own (files_of end) new kept head,
+  )
   | inr (not, stays) ↦ absurd (not is)
 ]

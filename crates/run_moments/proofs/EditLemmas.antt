@@ -1,5 +1,5 @@
 -- What a done edit made survives whatever is run then.
-use Rattle.std.proofs.Common.{◌≡◌, ◌<◌, inl, inr, refl, sym, ◌∙◌, ap, subst, arith, ℕ, IsTrue, List, [], ◌∷◌, ◌++◌, length, Contains, Option, Some, None, Result, Ok}
+use Rattle.std.proofs.Common.{◌≡◌, refl, sym, ◌∙◌, ap, subst, arith, ℕ, IsTrue, List, [], ◌∷◌, ◌++◌, Contains, Option, None}
 use Rattle.std.proofs.lemmas.List.Elements.{Contains-append_right}
 use Rattle.gb_text.specs.Digits.{IsId}
 use Rattle.gb_text.specs.declared.id.Id.{Id}
@@ -7,15 +7,15 @@ use Rattle.gb_text.specs.declared.id.Name.{Name}
 use Rattle.gb_text.specs.declared.ruled.Line.{Line}
 use Rattle.gb_text.specs.declared.ruled.Title.{Title}
 use Rattle.gb_store.specs.Files.{Files, History, files_of}
-use Rattle.commit_walk.specs.Below.{IsBelow, head as at_top}
+use Rattle.commit_walk.specs.Below.{head as at_top}
 use Rattle.commit_walk.proofs.DistinctLemmas.{Contains-first}
-use Rattle.object_store.specs.Held.{Objects, objects_in}
+use Rattle.object_store.specs.Held.{objects_in}
 use Rattle.identity.proofs.IdLemmas.{IsId-version_id}
 use Rattle.ref_store.specs.Refs.{Head}
 use Rattle.bug_ops.specs.Kind.{bug_kind}
 use Rattle.bug_ops.specs.declared.op.BugOp.{BugOp}
 use Rattle.dag_entity.specs.Appending.{appended_node}
-use Rattle.dag_entity.specs.Entities.{AreAllInOrder, IsOperationCommit}
+use Rattle.dag_entity.specs.Entities.{AreAllInOrder}
 use Rattle.dag_entity.specs.declared.entity.Loaded.{Loaded}
 use Rattle.dag_entity.specs.declared.entity.Placed.{Placed}
 use Rattle.repo_state.specs.Sides.{head_at}
@@ -27,7 +27,6 @@ use Rattle.repo_steps.specs.BugDoings.{Growth, addition_head, comment_growth, ed
 use Rattle.repo_steps.specs.PeopleDoings.{HasUser, new_made, new_text}
 use Rattle.repo_steps.specs.Steps.{BugBegins, BugGrows, Steps}
 use Rattle.repo_steps.specs.declared.env.Env.{Env}
-use Rattle.repo_steps.specs.declared.plan.Addition.{Addition}
 use Rattle.repo_steps.proofs.BugDoneLemmas.{IsId-op_id, ids_again}
 use Rattle.repo_steps.proofs.RuleLemmas.{comments_add_well, edits_add_well}
 use Rattle.repo_writes.specs.Kept.{IsOwnSide, KeepsBelow, LosesNothing}
@@ -37,14 +36,12 @@ use Rattle.words.specs.declared.words.Asked.TheVariants as asked
 use Rattle.words.specs.declared.words.Command.TheVariants.{Edit}
 use Rattle.words.specs.declared.words.Request.{Request}
 use Rattle.bug_edits.specs.NewOps.{create_op, op_id}
-use Rattle.bug_run.specs.Answer.{Answer}
 use Rattle.bug_run.specs.Run.{Call, RunAnswers, env_at}
 use Rattle.bug_run.specs.declared.status.Status.TheVariants as status
 use Rattle.bug_run.proofs.AnswerLemmas.{tells_its_id}
 use Rattle.bug_run.proofs.ServedLemmas.{done_begun, done_was}
 use Rattle.bug_run.proofs.WordLemmas.{answered}
 use Rattle.run_moments.specs.Survives.{Adds, HasOperation, IsAddedTo}
-use Rattle.run_moments.proofs.SurviveLemmas.{operation_kept}
 
 -- ---- what a done edit tells
 

@@ -1,28 +1,26 @@
 -- What a line of a merge brought is kept whatever is run then, and what it refused is as it was.
-use Rattle.std.proofs.Common.{◌≡◌, ◌≢◌, ◌⊎◌, ◌<◌, ◌^◌, inl, inr, refl, sym, ◌∙◌, ap, subst, ℕ, true, false, List, [], ◌∷◌, Contains, Option, Some, Ok}
+use Rattle.std.proofs.Common.{◌≡◌, ◌<◌, ◌^◌, inl, inr, refl, sym, ◌∙◌, subst, ℕ, true, false, List, [], ◌∷◌, Contains, Ok}
 use Rattle.gb_text.specs.Digits.{IsId}
 use Rattle.gb_text.specs.declared.id.Id.{Id}
 use Rattle.gb_text.specs.declared.id.Name.{Name}
 use Rattle.gb_store.specs.Files.{Files, History, files_of}
 use Rattle.gb_store.specs.Moments.{IsMoment, Wrote}
 use Rattle.gb_store.proofs.MomentLemmas.{IsMoment-of_second}
-use Rattle.commit_walk.specs.Below.{IsBelow}
 use Rattle.commit_walk.proofs.BelowLemmas.{IsBelow-stays}
 use Rattle.commit_walk.proofs.ChainLemmas.{chain_below}
 use Rattle.object_store.specs.Growth.{OnlyGrew}
-use Rattle.object_store.specs.Held.{Objects, objects_after, objects_in}
+use Rattle.object_store.specs.Held.{Objects, objects_after}
 use Rattle.ref_store.specs.Refs.{Head}
 use Rattle.remote_name.specs.declared.remote.RemoteName.{RemoteName}
 use Rattle.bug_ops.specs.Kind.{bug_kind}
 use Rattle.bug_ops.specs.declared.op.BugOp.{BugOp}
 use Rattle.dag_entity.specs.Entities.{IsOperationCommit}
 use Rattle.dag_entity.specs.declared.entity.Placed.{Placed}
-use Rattle.repo_state.specs.Sides.{head_at}
 use Rattle.repo_state.specs.declared.side.Side.TheVariants as side
 use Rattle.repo_writes.specs.Kept.{KeepsBelow, LosesNothing}
 use Rattle.repo_writes.specs.Kinds.{IsWrite}
 use Rattle.sync_steps.specs.Fetching.{FetchAnswers}
-use Rattle.sync_steps.specs.Places.{local_side, tracking_side}
+use Rattle.sync_steps.specs.Places.{local_side}
 use Rattle.sync_steps.specs.declared.line.EntityWord.{EntityWord}
 use Rattle.sync_steps.specs.declared.line.EntityWord.TheVariants as word
 use Rattle.sync_steps.specs.declared.line.Line.{Line}
@@ -37,7 +35,7 @@ use Rattle.merge_steps.proofs.DoneLemmas.{line_left}
 use Rattle.merge_steps.proofs.LineJoinLemmas.{line_joined}
 use Rattle.merge_steps.proofs.MergeWriteLemmas.{merge_wrote}
 use Rattle.ref_moments.specs.Once.{StaysSame}
-use Rattle.ref_moments.specs.Sets.{IsFetched, moves}
+use Rattle.ref_moments.specs.Sets.{moves}
 use Rattle.ref_moments.proofs.FetchLemmas.{fetch_once}
 use Rattle.ref_moments.proofs.LeadLemmas.{kinds_lead_on}
 use Rattle.ref_moments.proofs.MergeLemmas.{merge_line, merge_line_id}
@@ -49,7 +47,6 @@ use Rattle.bug_run.proofs.ExchangeWriteLemmas.{in_time}
 use Rattle.sync_writes.proofs.FetchKindLemmas.{fetch_writes}
 use Rattle.words.specs.declared.pair.FolderPair.{FolderPair}
 use Rattle.run_moments.specs.Lines.{HasTracked}
-use Rattle.run_moments.specs.Survives.{HasCommit}
 use Rattle.run_moments.proofs.SurviveLemmas.{commit_kept, pack_stays}
 
 -- an operation commit stays one where objects are only added

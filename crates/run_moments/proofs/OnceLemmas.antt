@@ -1,29 +1,24 @@
 -- Whatever a run answers, each ref changes by one write at most.
-use Rattle.std.proofs.Common.{◌≡◌, ◌≢◌, ◌⊎◌, inl, inr, refl, sym, ◌∙◌, ap, subst, ℕ, IsTrue, List, ◌∷◌, [], ◌++◌, Contains, Option, None, Some, Result, Ok, Err}
+use Rattle.std.proofs.Common.{◌≡◌, ◌⊎◌, inl, inr, refl, sym, ◌∙◌, subst, ℕ, IsTrue, List, ◌∷◌, [], ◌++◌, Contains, Option, None, Some, Result, Ok, Err}
 use Rattle.gb_text.specs.Digits.{IsId}
 use Rattle.gb_text.specs.Overlap.{Overlap}
 use Rattle.gb_text.specs.declared.id.Id.{Id}
 use Rattle.gb_store.specs.Files.{History, files_of, written}
-use Rattle.gb_store.specs.Moments.{AllMoments, Wrote, WroteBy}
+use Rattle.gb_store.specs.Moments.{WroteBy}
 use Rattle.gb_store.specs.declared.store.Change.{Change}
 use Rattle.bug_edits.specs.declared.moment.Moment.{Moment}
 use Rattle.repo_state.specs.declared.side.Side.{Side}
 use Rattle.repo_state.proofs.PlaceLemmas.{same_or_other}
-use Rattle.repo_edit.specs.Packing.{PackRefsAnswers}
-use Rattle.repo_steps.specs.Doings.{doing_of}
 use Rattle.repo_steps.specs.declared.env.Env.{Env}
 use Rattle.repo_steps.specs.declared.refusal.Stop.{Stop}
 use Rattle.repo_steps.specs.Stops.{stop_of_read}
-use Rattle.repo_writes.specs.Kinds.{IsWrite}
 use Rattle.repo_writes.proofs.SoundLemmas.{write-place}
 use Rattle.repo_writes.proofs.StayLemmas.{FilesStay, stay-apart}
 use Rattle.sync_steps.specs.Fetching.{FetchAnswers}
 use Rattle.sync_steps.specs.Pushing.{PushAnswers}
-use Rattle.sync_writes.specs.Kinds.{FetchWrites}
 use Rattle.sync_writes.proofs.PlaceLemmas.{fetch-place}
 use Rattle.merge_steps.specs.Pulling.{PullAnswers}
 use Rattle.merge_steps.specs.Turns.{MergeAnswers}
-use Rattle.words.specs.Words.{asked_of}
 use Rattle.words.specs.declared.edit.Edit.{Edit as Edits}
 use Rattle.words.specs.declared.pair.FolderPair.{FolderPair}
 use Rattle.words.specs.declared.words.Asked.{Asked}
@@ -32,17 +27,15 @@ use Rattle.words.specs.declared.words.Command.{Command}
 use Rattle.words.specs.declared.words.Command.TheVariants.{Edit, Log, PackRefs, Show, Users}
 use Rattle.words.specs.declared.words.PeerCommand.{PeerCommand}
 use Rattle.words.specs.declared.words.PeerCommand.TheVariants.{Fetch, Pull, Push}
-use Rattle.words.specs.declared.words.Request.{Request}
 use Rattle.bug_run.specs.Answer.{Answer}
 use Rattle.bug_run.specs.Exchanges.{ExchangeAnswers, ExchangeWrites, Told, answer_of, answer_of_merge, answer_of_pull, stop_of_merge, written_by}
 use Rattle.bug_run.specs.Looks.{Guarded, first_unread, pair_looks}
-use Rattle.bug_run.specs.Run.{AskedAnswers, AskedWrites, Call, CommandAnswers, EditTells, RunAnswers, call_of, env_at}
-use Rattle.bug_run.specs.Runs.{AreApart, IsAmong, IsRun, StaysAmong}
+use Rattle.bug_run.specs.Run.{AskedAnswers, AskedWrites, Call, CommandAnswers, EditTells, RunAnswers, env_at}
+use Rattle.bug_run.specs.Runs.{AreApart, IsAmong, StaysAmong}
 use Rattle.bug_run.specs.declared.status.Status.{Status}
 use Rattle.bug_run.proofs.PackLemmas.{pack_wrote}
 use Rattle.bug_run.proofs.RunLemmas.{of_kinds, of_rows, run_wrote}
 use Rattle.ref_moments.specs.Once.{ChangesOnce, StaysSame}
-use Rattle.ref_moments.specs.Sets.{IsFetched, IsMergedRef, IsPulledRef, IsPushed, StaysOrIsSet}
 use Rattle.ref_moments.proofs.ApartLemmas.{fetch_apart, files_stay, kinds_apart, pack_stays, pack_stays_apart, push_apart, rows_stay}
 use Rattle.ref_moments.proofs.EditLemmas.{edit_sets}
 use Rattle.ref_moments.proofs.FetchLemmas.{fetch_once}

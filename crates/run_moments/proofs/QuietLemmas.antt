@@ -1,14 +1,11 @@
 -- Runs that read, and refused commands, write nothing; lists write rows alone.
-use Rattle.std.proofs.Common.{◌≡◌, ◌≢◌, ◌⊎◌, inl, inr, refl, sym, ◌∙◌, ap, subst, ℕ, zero, suc, IsTrue, Bool, List, [], ◌∷◌, ◌++◌, Option, Result, Ok, Err}
-use Rattle.gb_text.specs.Digits.{IsId}
-use Rattle.gb_text.specs.Folder.{joined}
+use Rattle.std.proofs.Common.{◌≡◌, inl, inr, refl, sym, ◌∙◌, ap, subst, ℕ, zero, suc, IsTrue, Bool, List, [], ◌∷◌, Option, Result, Ok, Err}
 use Rattle.gb_text.specs.declared.id.Id.{Id}
 use Rattle.gb_store.specs.Files.{Files, History, files_of, written}
 use Rattle.gb_store.specs.Moments.{AllMoments, Wrote}
 use Rattle.gb_store.specs.declared.store.Change.{Change}
 use Rattle.gb_store.proofs.FrameLemmas.{written-other}
 use Rattle.gb_store.proofs.MomentLemmas.{AllMoments-from_Wrote, Wrote-none}
-use Rattle.excerpt_cache.specs.Rows.{row_place}
 use Rattle.repo_steps.specs.declared.env.Env.{Env}
 use Rattle.repo_steps.specs.declared.refusal.Refusal.{Refusal}
 use Rattle.repo_steps.specs.declared.refusal.Stop.{Stop}

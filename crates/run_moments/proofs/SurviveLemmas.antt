@@ -1,6 +1,5 @@
 -- What is not lost of a folder keeps the operation commits of its bugs.
-use Rattle.std.proofs.Common.{◌≡◌, ◌<◌, ℕ, List, [], ◌∷◌, ◌++◌, length, map, Contains, Option, Some, option_and_then, refl, sym, ◌∙◌, ap, subst, arith}
-use Rattle.std.proofs.lemmas.List.Elements.{Contains-append_right}
+use Rattle.std.proofs.Common.{◌≡◌, ℕ, List, Some, option_and_then, ◌∙◌, ap}
 use Rattle.gb_text.specs.Digits.{IsId}
 use Rattle.gb_text.specs.declared.id.Id.{Id}
 use Rattle.gb_text.specs.declared.id.Name.{Name}
@@ -9,24 +8,17 @@ use Rattle.object_store.specs.Growth.{OnlyGrew}
 use Rattle.object_store.specs.Held.{Objects, objects_in}
 use Rattle.object_store.specs.Typed.{as_blob, as_commit, as_tree, blob_at, commit_at, tree_at}
 use Rattle.object_store.proofs.GrowthLemmas.{bind-some, stays}
-use Rattle.commit_walk.specs.Below.{IsBelow, head}
-use Rattle.commit_walk.proofs.DistinctLemmas.{Contains-first}
-use Rattle.op_kind.specs.Meaning.{Meaning}
-use Rattle.op_kind.specs.declared.place.Place.{Place}
 use Rattle.op_pack.specs.Heads.{head_of}
 use Rattle.op_pack.specs.Packs.{pack_at as pack_of_text}
 use Rattle.op_pack.specs.declared.pack.Pack.{Pack}
 use Rattle.commit_pack.specs.Packs.{pack_in, pack_of_head, pack_under}
 use Rattle.dag_entity.specs.Nodes.{pack_at}
-use Rattle.ref_store.specs.Refs.{Head}
 use Rattle.bug_ops.specs.Kind.{bug_kind}
 use Rattle.bug_ops.specs.declared.op.BugOp.{BugOp}
-use Rattle.dag_entity.specs.Entities.{IsOperationCommit}
 use Rattle.dag_entity.specs.declared.entity.Placed.{Placed}
-use Rattle.repo_state.specs.Sides.{head_at}
 use Rattle.repo_state.specs.declared.side.Side.TheVariants as side
-use Rattle.repo_writes.specs.Kept.{KeepsBelow, LosesNothing}
-use Rattle.run_moments.specs.Survives.{HasCommit, HasOperation, KeepsCommits}
+use Rattle.repo_writes.specs.Kept.{LosesNothing}
+use Rattle.run_moments.specs.Survives.{HasCommit, HasOperation}
 
 module _ (old new : Objects) (grew : OnlyGrew old new) where
   -- the pack of a tree

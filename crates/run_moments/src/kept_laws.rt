@@ -73,8 +73,10 @@ pub fn acknowledged_edits_survive()
     ensures person { (folders : List (List ℕ)) (call : Call) (old mid new : History)
         (before after folder : List ℕ) (name : Title) (email : LineText) → AreApart folders
         → Contains folders folder → IsTrue call.store_tells → IsTrue call.sink_tells
-        → call.asked ≡ asked.Request (record { folder = folder;
-        command = ask.Edit (edits.UserNew name email) })
+        → call.asked ≡ asked.Request (record {
+          folder = folder;
+          command = ask.Edit (edits.UserNew name email);
+        })
         → RunAnswers call old mid before after status.Done → Runs folders mid new
         → let made = new_made (env_at call.moment folder) name email None in
         (after ≡ before ++ id_line made.id)
@@ -82,8 +84,10 @@ pub fn acknowledged_edits_survive()
     ensures version { (folders : List (List ℕ)) (call : Call) (old mid new : History)
         (before after folder : List ℕ) (name : Title) (email : LineText) → AreApart folders
         → Contains folders folder → IsTrue call.store_tells → IsTrue call.sink_tells
-        → call.asked ≡ asked.Request (record { folder = folder;
-        command = ask.Edit (edits.UserEdit name email) })
+        → call.asked ≡ asked.Request (record {
+          folder = folder;
+          command = ask.Edit (edits.UserEdit name email);
+        })
         → RunAnswers call old mid before after status.Done → Runs folders mid new
         → (user : HasUser folder (files_of old)) × (after ≡ before ++ id_line user.id)
         × KeepsBelow folder (files_of new) side.Identities user.id

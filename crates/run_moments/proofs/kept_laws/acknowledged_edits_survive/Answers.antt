@@ -1,8 +1,6 @@
-use Rattle.std.proofs.Common.{◌++◌, ◌∙◌, ap, sym, subst, List, ℕ, None, Some}
-use Rattle.gb_text.specs.Digits.{IsId}
+use Rattle.std.proofs.Common.{◌++◌, ◌∙◌, ap, sym, None, Some}
 use Rattle.gb_text.specs.declared.id.Id.{Id}
 use Rattle.gb_store.specs.Files.{files_of}
-use Rattle.ref_store.specs.Refs.{Head}
 use Rattle.repo_state.specs.Sides.{head_at}
 use Rattle.repo_state.specs.Users.{id_line}
 use Rattle.repo_state.specs.declared.side.Side.TheVariants as side

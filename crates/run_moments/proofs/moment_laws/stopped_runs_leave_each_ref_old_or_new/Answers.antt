@@ -1,7 +1,7 @@
 use Rattle.std.proofs.Common.{refl, true}
 use Rattle.words.specs.Words.{asked_of}
 use Rattle.bug_run.specs.Run.{Call, call_of}
-use Rattle.ref_moments.specs.Once.{ChangesOnce, IsOldOrNew}
+use Rattle.ref_moments.specs.Once.{IsOldOrNew}
 use Rattle.ref_moments.proofs.MomentLemmas.{AllMoments-cut, old_or_new, once_cut}
 use Rattle.run_moments.proofs.OnceLemmas.{among_is, run_once}
 use Rattle.run_moments.proofs.moment_laws.stopped_runs_leave_each_ref_old_or_new.Goals as goal
