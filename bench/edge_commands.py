@@ -50,7 +50,7 @@ def imported(name):
 edge = imported("edge")
 Unsound = edge.Unsound
 ERRORS = ("EIO", "ENOSPC", "EINTR", "EACCES", "ENOMEM")
-NOBODY = 65_534
+NOBODY, WAITS = 65_534, "waits"
 
 # Every command: its words, where BUG, CLOSED and so on stand for what was made in the folder; the folder that it
 # writes; and what tells that it is done: a command that reads, and a line that it prints then. None where what the
@@ -182,6 +182,22 @@ def comments_of(room):
     return found
 
 
+def traced(room, words, *more):
+    """A run under strace; `waits` is its status where it does not end."""
+    try:
+        return room.trace(words, *more)
+    except subprocess.TimeoutExpired:
+        return WAITS, "", []
+
+
+def plain(room, words, **how):
+    """A run; `waits` is its status where it does not end."""
+    try:
+        return room.run(words, **how)
+    except subprocess.TimeoutExpired:
+        return WAITS, ""
+
+
 def check_kept(scene, room, besides=()):
     """What was acknowledged before still prints, every ref leads to held objects, and no other folder has changed."""
     for name in ("f", "h", "p"):
@@ -219,14 +235,14 @@ def fault_after(scene, room, status, text, may=(0, 3, 5, 6)):
     """What is wrong after a run that was hurt, and after the next one; None if nothing is."""
     try:
         if status is not None and status not in (*may, scene.status):
-            raise Unsound(f"it ends with {status}")
+            raise Unsound("it waits" if status == WAITS else f"it ends with {status}")
         check_kept(scene, room)
         acknowledged = status == scene.status or (bool(text) and not text.startswith("refused"))
         done = scene.is_done(room)
         if acknowledged and not done:
             raise Unsound("what was acknowledged does not stand")
         check_again(scene, room, done)
-    except Unsound as fault:
+    except (Unsound, subprocess.TimeoutExpired) as fault:
         return str(fault)
     return None
 
@@ -239,7 +255,8 @@ def hurt(scene, how, every):
     inject = "signal=KILL" if how == "kill" else f"error={how}"
     for call, number in [at for at in scene.counts() if how == "kill" or at[0] != "close"][::every]:
         room = scene.before.copied()
-        status, text, _ = room.trace(scene.words, "-e", f"trace={call}", "-e", f"inject={call}:{inject}:when={number}")
+        how = ["-e", f"trace={call}", "-e", f"inject={call}:{inject}:when={number}"]
+        status, text, _ = traced(room, scene.words, *how)
         killed = how == "kill" and status == -signal.SIGKILL
         may = (0, 3, 4, 5, 6) if how == "ENOMEM" else (0, 3, 5, 6)
         fault = fault_after(scene, room, None if killed else status, "" if scene.name in READS else text, may)
@@ -335,13 +352,13 @@ def full(scene, every):
     tries = [(call, number) for call, number in calls[::every]]
     for call, number in tries:
         room, where = scene.before.copied(), f"{call} {number} and later ones"
-        status, text, _ = room.trace(scene.words, "-e", f"inject={call}:error=ENOSPC:when={number}+")
+        status, text, _ = traced(room, scene.words, "-e", f"inject={call}:error=ENOSPC:when={number}+")
         fault = fault_after(scene, room, status, "" if status == 5 or scene.name in READS else text)
         faults += [f"{where}: {fault}"] if fault else []
         room.close()
     for size in (0, 10, 40, 41, 100, 200):
         room = scene.before.copied()
-        status, text = room.run(scene.words, preexec_fn=lambda: limited(size))
+        status, text = plain(room, scene.words, preexec_fn=lambda: limited(size))
         fault = fault_after(scene, room, status, "" if scene.name in READS else text)
         faults += [f"files of at most {size} bytes: {fault}"] if fault else []
         count += 1
@@ -369,7 +386,7 @@ def small_disks(scene):
         try:
             shutil.copytree(kept, at, symlinks=True, dirs_exist_ok=True)
             fill(at / "filling", free * page)
-            status, text = room.run(scene.words)
+            status, text = plain(room, scene.words)
             (at / "filling").unlink()
             fault = fault_after(scene, room, status, "" if scene.name in READS else text)
             faults += [f"{free} free pages: {fault}"] if fault else []
@@ -405,7 +422,7 @@ def read_only(scene, every):
     for path in [room.top.parent, room.top]:
         path.chmod(0o755)
     before = {it: edge.standing_in(room.top / it) for it in "fph"}
-    status, text = room.run(scene.words, user=NOBODY, group=NOBODY, extra_groups=[])
+    status, text = plain(room, scene.words, user=NOBODY, group=NOBODY, extra_groups=[])
     faults = []
     if {it: edge.standing_in(room.top / it) for it in "fph"} != before:
         faults.append("a folder that may not be written has changed")
@@ -429,9 +446,9 @@ def elsewhere(scene, every, other):
             shutil.move(room.top / peer, f"{far}/{peer}")
             words = [*scene.words[:-1], f"{far}/{peer}"]
             more = ["-e", f"inject={at[0]}:signal=KILL:when={at[1]}"] if at else []
-            status, text, _ = room.trace(words, *more)
+            status, text, _ = traced(room, words, *more)
             fault = None if at or (status, text) == (scene.status, scene.text) else f"status {status}, {text[:100]!r}"
-            again = room.run(words)
+            again = plain(room, words)
             shutil.move(f"{far}/{peer}", room.top / peer)
             fault = fault or (f"the next run ends with {again[0]}" if again[0] != scene.status else None)
             fault = fault or fault_after(scene, room, None, "")
@@ -470,7 +487,7 @@ def gone_fault(scene, room, status, may):
     try:
         check_kept(scene, room, [scene.words[-1]])
         check_again(scene, room)
-    except Unsound as fault:
+    except (Unsound, subprocess.TimeoutExpired) as fault:
         return str(fault)
     return None
 
@@ -600,8 +617,10 @@ def main():
     take.add_argument("--other", default="/dev/shm", help="a folder of another file system, for the peers")
     take.add_argument("--every", type=int, default=1, help="only each call of so many")
     take.add_argument("--commands", help="which commands, with commas between; all if none")
+    take.add_argument("--wait", type=int, default=edge.WAIT, help="after so many seconds a run waits for ever")
     take.add_argument("--rounds", type=int, default=20, help="how often each group of programs runs at once")
     given = take.parse_args()
+    edge.WAIT = given.wait
     names = given.commands.split(",") if given.commands else list(COMMANDS)
     with tempfile.TemporaryDirectory(prefix="gitbug-commands-", dir=given.folder) as above:
         program = str(pathlib.Path(given.program).resolve())
