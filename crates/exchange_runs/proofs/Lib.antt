@@ -1,0 +1,7 @@
+pub mod AmongLemmas
+pub mod DigestLemmas
+pub mod FolderLemmas
+pub mod MemberLemmas
+pub mod PlayedLemmas
+pub mod SeenLemmas
+pub mod WorldLemmas

@@ -1,0 +1,8 @@
+//! Full exchanges in a world: where each pull is done, all folders have the same bugs and digests.
+#![tactic(auto)]
+
+mod laws;
+
+pub use laws::{
+    exchanged_folders_agree, exchanged_folders_have_one_digest, runs_see_what_is_there,
+};
