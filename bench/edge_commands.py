@@ -571,6 +571,13 @@ def at_once_fault(room, commands):
 # ---- the table
 
 KINDS = ["kill", *ERRORS, "cut", "again", "full", "read-only", "elsewhere", "gone", "at-once"]
+GROUPS = {
+    "kills and errors": ("kill", *ERRORS),
+    "power cuts": ("cut", "again"),
+    "full disks and folders that may not be written": ("full", "read-only"),
+    "peers elsewhere and gone": ("elsewhere", "gone"),
+    "at once": ("at-once",),
+}
 
 
 def tried(kind, scene, every, other):
@@ -600,12 +607,13 @@ def commands(program, above, every=1, kinds=KINDS, names=tuple(COMMANDS), other=
         scene = Scene(name, before, said)
         for kind in [it for it in kinds if it != "at-once"]:
             count, faults = row(name, kind, *tried(kind, scene, every, other))
-            total.update(count=count, faults=faults, **{kind: count})
+            total.update({"count": count, "faults": faults, kind: count})
         scene.close()
     for what, count, faults in at_once(program, above, rounds) if "at-once" in kinds else []:
         count, faults = row(what, "at-once", count, faults)
-        total.update(count=count, faults=faults)
+        total.update({"count": count, "faults": faults, "at-once": count})
     before.close()
+    print("\n" + "; ".join(f"{what}: {sum(total[it] for it in which)}" for what, which in GROUPS.items()))
     return total["count"], total["faults"]
 
 
