@@ -47,30 +47,31 @@ fn make_packed<R: Testing>(rt: &R) -> Result<String, Fail> {
 
 fn each_command_opens_packed_refs_once<R: Testing>(rt: &R) -> Result<(), Fail> {
     let bug = make_packed(rt)?;
-    let bug = bug.as_str();
-    let of_one: [&[&str]; 11] = [
-        &["pa", "users"],
-        &["pa", "show", bug],
-        &["pa", "log", bug],
-        &["pa", "ls"],
-        &["pa", "board"],
-        &["pa", "comment", bug, "text"],
-        &["pa", "title", bug, "text"],
-        &["pa", "close", bug],
-        &["pa", "new", "third", "text"],
-        &["pa", "user-edit", "Ann", "a@x"],
-        &["pa", "merge", "o"],
-    ];
-    for words in of_one {
-        opens_once(rt, words)?;
-    }
-    for words in [["pa", "push", "pb"], ["pa", "push", "pb"]] {
-        opens_both_once(rt, &words)?;
-    }
-    for words in [["pa", "fetch", "o", "pb"], ["pa", "pull", "o", "pb"]] {
-        opens_both_once(rt, &words)?;
-    }
-    Ok(())
+    readers_open_once(rt, bug.as_str())?;
+    editors_open_once(rt, bug.as_str())?;
+    exchanges_open_once(rt)
+}
+
+fn readers_open_once<R: Testing>(rt: &R, bug: &str) -> Result<(), Fail> {
+    opens_once(rt, &["pa", "users"])?;
+    opens_once(rt, &["pa", "show", bug])?;
+    opens_once(rt, &["pa", "log", bug])?;
+    opens_once(rt, &["pa", "ls"])
+}
+
+fn editors_open_once<R: Testing>(rt: &R, bug: &str) -> Result<(), Fail> {
+    opens_once(rt, &["pa", "comment", bug, "text"])?;
+    opens_once(rt, &["pa", "close", bug])?;
+    opens_once(rt, &["pa", "new", "third", "text"])?;
+    opens_once(rt, &["pa", "user-edit", "Ann", "a@x"])?;
+    opens_once(rt, &["pa", "merge", "o"])
+}
+
+fn exchanges_open_once<R: Testing>(rt: &R) -> Result<(), Fail> {
+    opens_both_once(rt, &["pa", "push", "pb"])?;
+    opens_both_once(rt, &["pa", "push", "pb"])?;
+    opens_both_once(rt, &["pa", "fetch", "o", "pb"])?;
+    opens_both_once(rt, &["pa", "pull", "o", "pb"])
 }
 
 fn opens_once<R: Testing>(rt: &R, words: &[&str]) -> Result<(), Fail> {
