@@ -1,5 +1,5 @@
-//! Laws of which write changes a ref, and of what follows for each moment, each the contract of a function
-//! that does nothing.
+//! Laws of which write changes a ref, and of what follows for each moment, each the contract of a
+//! function that does nothing.
 ghost use Rattle.std.specs.Prelude.{◌≡◌, ◌≢◌, ◌⊎◌, ◌++◌, ℕ, List};
 ghost use Rattle.gb_text.specs.Digits.{IsId, IsName};
 ghost use Rattle.gb_text.specs.Overlap.{Overlap};
@@ -19,8 +19,8 @@ ghost use Rattle.sync_writes.specs.Kinds.{FetchWrites, PushWrites};
 ghost use Rattle.ref_moments.specs.Leads.{LeadsOn};
 ghost use Rattle.ref_moments.specs.Once.{ChangesAt, ChangesOnce, IsOldOrNew, LeavesOrPuts, StaysSame};
 
-/// The put of a ref's own file sets that ref and leaves each other one. No other write of an edit, of a
-/// merge, of a list, of a fetch or of a push changes a ref.
+/// The put of a ref's own file sets that ref and leaves each other one. No other write of an edit,
+/// of a merge, of a list, of a fetch or of a push changes a ref.
 pub fn only_puts_of_their_files_change_refs()
     ensures sets { (folder : List ℕ) (files : Files) (of : Side) (id : Id) (head : Name)
         → IsName head
@@ -40,9 +40,9 @@ pub fn only_puts_of_their_files_change_refs()
         → PushWrites own peer files change → LeavesOrPuts peer of id files change }
 {}
 
-/// Where a ref changes by one write at most, it is at each moment as it was at first or as it is at last,
-/// and no two moments come before a write that changes it. Cut to any moment, it changes by one write at
-/// most too.
+/// Where a ref changes by one write at most, it is at each moment as it was at first or as it is at
+/// last, and no two moments come before a write that changes it. Cut to any moment, it changes by
+/// one write at most too.
 pub fn refs_that_change_once_are_old_or_new()
     ensures moments { (folder : List ℕ) (of : Side) (id : Id) (old new : History)
         → ChangesOnce folder of id old new
@@ -55,8 +55,8 @@ pub fn refs_that_change_once_are_old_or_new()
         → ChangesOnce folder of id old moment }
 {}
 
-/// The rows of a list and a pack of refs leave each ref of their folder at every moment. What is written
-/// in a folder leaves each ref of a folder that does not overlap it.
+/// The rows of a list and a pack of refs leave each ref of their folder at every moment. What is
+/// written in a folder leaves each ref of a folder that does not overlap it.
 pub fn rows_packs_and_folders_apart_change_no_ref()
     ensures rows { (folder : List ℕ) (of : Side) (id : Id) (old new : History)
         → Wrote (IsRowWrite folder) old new → StaysSame folder of id old new }
@@ -77,9 +77,9 @@ pub fn rows_packs_and_folders_apart_change_no_ref()
         → StaysSame folder of id old new }
 {}
 
-/// What the refs of a folder lead to at a moment of an edit, a merge, a list, a fetch or a push, they lead
-/// to at each later one. Each object is as it was, and each commit below a head, on whatever side, is below
-/// it still.
+/// What the refs of a folder lead to at a moment of an edit, a merge, a list, a fetch or a push,
+/// they lead to at each later one. Each object is as it was, and each commit below a head, on
+/// whatever side, is below it still.
 pub fn refs_lead_on_at_each_moment()
     ensures own { (folder : List ℕ) (old new : History) → Wrote (IsWrite folder) old new
         → LeadsOn folder old new }

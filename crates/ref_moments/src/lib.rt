@@ -1,5 +1,5 @@
-//! When refs change: the ref of an id has at each moment of a step its old head or the new one, and one
-//! write at most changes it. No call of a law does anything.
+//! When refs change: the ref of an id has at each moment of a step its old head or the new one, and
+//! one write at most changes it. No call of a law does anything.
 #![tactic(auto)]
 
 mod laws;

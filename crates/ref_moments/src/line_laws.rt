@@ -1,4 +1,5 @@
-//! Laws of what the line of an entity says of its ref, each the contract of a function that does nothing.
+//! Laws of what the line of an entity says of its ref, each the contract of a function that does
+//! nothing.
 ghost use Rattle.std.specs.Prelude.{◌≡◌, ◌≢◌, ℕ, true, false, List, Contains, Ok};
 ghost use Rattle.gb_text.specs.declared.id.Name.{Name};
 ghost use Rattle.gb_store.specs.Files.{History, files_of};
@@ -15,8 +16,9 @@ ghost use Rattle.sync_steps.specs.declared.line.Outcome.TheVariants as outcome;
 ghost use Rattle.ref_moments.specs.Once.{IsSetOnce, StaysSame};
 ghost use Rattle.ref_moments.specs.Sets.{moves};
 
-/// A line of a fetch says that its entity was fetched if and only if one write set the tracking ref, to
-/// the head that the peer's ref had. Else the tracking ref is the same at every moment.
+/// Where a line of a fetch says that its entity was fetched, one write set the tracking ref, to the
+/// head that the peer's ref had. Where it says anything else, the tracking ref is the same at every
+/// moment.
 pub fn fetch_lines_say_what_was_set()
     ensures fetched { (own peer : List ℕ) (remote : RemoteName) (old new : History)
         (lines : List LineValue) (line : LineValue)
@@ -31,8 +33,9 @@ pub fn fetch_lines_say_what_was_set()
         → StaysSame own (tracking_side remote line.word) line.id old new }
 {}
 
-/// A line of a push says that its entity was pushed if and only if one write set the peer's ref, to the
-/// head that the own folder's ref had. Else the peer's ref is the same at every moment.
+/// Where a line of a push says that its entity was pushed, one write set the peer's ref, to the
+/// head that the own folder's ref had. Where it says anything else, the peer's ref is the same at
+/// every moment.
 pub fn push_lines_say_what_was_set()
     ensures pushed { (own peer : List ℕ) (old new : History) (lines : List LineValue)
         (line : LineValue) → PushAnswers own peer old new (Ok lines) → Contains lines line
@@ -45,8 +48,9 @@ pub fn push_lines_say_what_was_set()
         → StaysSame peer (local_side line.word) line.id old new }
 {}
 
-/// A line of a merge says that its entity is new, forward or joined if and only if one write set the local
-/// ref. Else, so where the entity is refused, the local ref is the same at every moment.
+/// Where a line of a merge says that its entity is new, forward or joined, one write set the local
+/// ref. Where it says anything else, so where the entity is refused, the local ref is the same at
+/// every moment.
 pub fn merge_lines_say_what_was_set()
     ensures moved { (folder : List ℕ) (remote : RemoteName) (now : ℕ) (old new : History)
         (lines : List MergeLineValue) (line : MergeLineValue)

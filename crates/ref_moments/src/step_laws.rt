@@ -27,8 +27,9 @@ ghost use Rattle.words.specs.declared.edit.Edit.{Edit as EditValue};
 ghost use Rattle.ref_moments.specs.Once.{IsSetOnce, StaysSame};
 ghost use Rattle.ref_moments.specs.Sets.{IsFetched, IsMergedRef, IsPulledRef, IsPushed, StaysOrIsSet};
 
-/// Whatever an edit answers, it leaves each ref of its folder at every moment, but the one that it sets;
-/// and one write sets that one. A done edit has set it, and a refused one has written nothing.
+/// Whatever an edit answers, it leaves each ref of its folder at every moment, but the one that it
+/// sets; and one write sets that one. A done edit has set it, and a refused one has written
+/// nothing.
 pub fn edits_set_one_ref_once()
     ensures once { (env : EnvValue) (command : EditValue) (old new : History)
         (result : Result Id StopValue) → EditAnswers env command old new result
@@ -45,8 +46,9 @@ pub fn edits_set_one_ref_once()
         → new ≡ old }
 {}
 
-/// Whatever a fetch answers, it leaves each ref of its folder at every moment, but tracking refs; and one
-/// write sets such a ref, to the head that the peer's ref had. It leaves each ref of the peer.
+/// Whatever a fetch answers, it leaves each ref of its folder at every moment, but tracking refs;
+/// and one write sets such a ref, to the head that the peer's ref had. It leaves each ref of the
+/// peer.
 pub fn fetches_set_each_ref_once()
     ensures own { (own peer : List ℕ) (remote : RemoteName) (old new : History)
         (result : Result (List LineValue) ReadStopValue) (of : Side) (id : Id)
@@ -58,8 +60,9 @@ pub fn fetches_set_each_ref_once()
         → StaysSame peer of id old new }
 {}
 
-/// Whatever a push answers, it leaves each ref of the peer at every moment, but local refs; and one write
-/// sets such a ref, to the head that the own folder's ref had. It leaves each ref of the own folder.
+/// Whatever a push answers, it leaves each ref of the peer at every moment, but local refs; and one
+/// write sets such a ref, to the head that the own folder's ref had. It leaves each ref of the own
+/// folder.
 pub fn pushes_set_each_ref_once()
     ensures peer { (own peer : List ℕ) (old new : History)
         (result : Result (List LineValue) ReadStopValue) (of : Side) (id : Id)
@@ -71,8 +74,8 @@ pub fn pushes_set_each_ref_once()
         → StaysSame own of id old new }
 {}
 
-/// Whatever a merge answers, it leaves each ref at every moment, but the local refs of entities whose
-/// tracking ref has a head; and one write sets such a ref.
+/// Whatever a merge answers, it leaves each ref at every moment, but the local refs of entities
+/// whose tracking ref has a head; and one write sets such a ref.
 pub fn merges_set_each_ref_once()
     ensures { (folder : List ℕ) (remote : RemoteName) (now : ℕ) (old new : History)
         (result : Result (List MergeLineValue) MergeStopValue) (of : Side) (id : Id)
@@ -80,8 +83,9 @@ pub fn merges_set_each_ref_once()
         → StaysSame folder of id old new ⊎ IsMergedRef folder remote of id old new }
 {}
 
-/// Whatever a pull answers, it leaves each ref of its folder at every moment, but tracking refs and local
-/// refs. One write sets a tracking ref, to the head that the peer's ref had, and one a local ref.
+/// Whatever a pull answers, it leaves each ref of its folder at every moment, but tracking refs and
+/// local refs. One write sets a tracking ref, to the head that the peer's ref had, and one a local
+/// ref.
 pub fn pulls_set_each_ref_once()
     ensures { (own peer : List ℕ) (remote : RemoteName) (now : ℕ) (old new : History)
         (result : Result PulledValue MergeStopValue) (of : Side) (id : Id)

@@ -1,4 +1,5 @@
-//! Laws of what survives of what runs acknowledged, each the contract of a function that does nothing.
+//! Laws of what survives of what runs acknowledged, each the contract of a function that does
+//! nothing.
 ghost use Rattle.std.specs.Prelude.{◌≡◌, ◌++◌, ℕ, false, List, Contains, IsTrue, None, Ok, Some};
 ghost use Rattle.gb_text.specs.Digits.{IsId};
 ghost use Rattle.gb_text.specs.declared.id.Id.{Id};
@@ -41,9 +42,9 @@ ghost use Rattle.words.specs.declared.words.Command.TheVariants as ask;
 ghost use Rattle.words.specs.declared.words.MergeRequest.{MergeRequest};
 ghost use Rattle.words.specs.declared.words.PeerCommand.TheVariants as peer;
 
-/// Whatever is run over folders of which no two overlap, and wherever each run stops: each operation commit
-/// of a bug stays one of that bug, each head of an identity or a bug stays at or below the present one, and
-/// all that was below any head, of a tracking ref too, stays below it.
+/// Whatever is run over folders of which no two overlap, and wherever each run stops: each
+/// operation commit of a bug stays one of that bug, each head of an identity or a bug stays at or
+/// below the present one, and all that was below any head, of a tracking ref too, stays below it.
 pub fn runs_keep_what_refs_lead_to()
     ensures commits { (folders : List (List ℕ)) (old new : History) (folder : List ℕ)
         → AreApart folders → Runs folders old new → Contains folders folder
@@ -58,9 +59,9 @@ pub fn runs_keep_what_refs_lead_to()
         → KeepsAllBelow folder (files_of old) (files_of new) head }
 {}
 
-/// Where an edit is done, it has printed the id of what it made, and that survives whatever is run then and
-/// wherever each run stops: the operation is among those of the bug to which it was added, and the version
-/// is in the chain of its identity.
+/// Where an edit is done, it has printed the id of what it made, and that survives whatever is run
+/// then and wherever each run stops: the operation is among those of the bug to which it was added,
+/// and the version is in the chain of its identity.
 pub fn acknowledged_edits_survive()
     ensures operations { (folders : List (List ℕ)) (call : Call) (old mid new : History)
         (before after folder : List ℕ) (edit : Edits) → AreApart folders
@@ -94,11 +95,11 @@ pub fn acknowledged_edits_survive()
         (new_made (env_at call.moment folder) name email (Some user.head)).head }
 {}
 
-/// What a printed line acknowledges survives whatever is run then and wherever each run stops. Where an
-/// entity was fetched, all that its tracking ref led to when the call ended is held. Where one was pushed,
-/// the head of the own folder's ref stays at or below that of the peer's. Where a merge did not refuse a
-/// bug, each operation commit below its tracking ref stays one of the bug, and where it did not refuse an
-/// identity, the tracked version stays in its chain.
+/// What a printed line acknowledges survives whatever is run then and wherever each run stops.
+/// Where an entity was fetched, all that its tracking ref led to when the call ended is held. Where
+/// one was pushed, the head of the own folder's ref stays at or below that of the peer's. Where a
+/// merge did not refuse a bug, each operation commit below its tracking ref stays one of the bug,
+/// and where it did not refuse an identity, the tracked version stays in its chain.
 pub fn acknowledged_lines_survive()
     ensures fetch { (folders : List (List ℕ)) (call : Call) (old mid new : History)
         (before after : List ℕ) (answer : StatusValue) (pair : FolderPair) (remote : RemoteName)
@@ -133,7 +134,8 @@ pub fn acknowledged_lines_survive()
         × MergeAnswers request.folder request.remote call.moment.now old mid (Ok lines)
         × (after ≡ before ++ (answer_of_merge lines).text)
         × ((line : MergeLineValue) → Contains lines line → is_refused line.outcome ≡ false
-        → HasTracked line.word request.folder request.remote line.id (files_of old) (files_of new)) }
+        → HasTracked line.word request.folder request.remote line.id (files_of old)
+        (files_of new)) }
     ensures pull { (folders : List (List ℕ)) (call : Call) (old mid new : History)
         (before after : List ℕ) (answer : StatusValue) (pair : FolderPair) (remote : RemoteName)
         → AreApart folders → Contains folders pair.own

@@ -1,5 +1,5 @@
-//! Runs stopped anywhere: when refs change in a run, and what survives of what it acknowledged. No call of
-//! a law does anything.
+//! Runs stopped anywhere: when refs change in a run, and what survives of what it acknowledged. No
+//! call of a law does anything.
 #![tactic(auto)]
 
 mod kept_laws;

@@ -13,9 +13,10 @@ ghost use Rattle.run_moments.specs.Places.{AsksToRead, IsThatOrApart, SameButRow
 ghost use Rattle.words.specs.declared.list.ListRequest.{ListRequest};
 ghost use Rattle.words.specs.declared.words.Asked.TheVariants as asked;
 
-/// Over a run, whatever its arguments ask and whatever it answers, each ref changes by one write at most,
-/// the put of its own file: on each side and of each id, in the folder in which the run writes and in each
-/// that does not overlap it. So no two moments of the run come before a write that changes it.
+/// Over a run, whatever its arguments ask and whatever it answers, each ref changes by one write at
+/// most, the put of its own file: on each side and of each id, in the folder in which the run
+/// writes and in each that does not overlap it. So no two moments of the run come before a write
+/// that changes it.
 pub fn each_ref_changes_at_most_once()
     ensures once { (call : Call) (old new : History) (before after : List ℕ) (answer : StatusValue)
         (folder : List ℕ) (of : Side) (id : Id) → IsTrue call.store_tells
@@ -28,8 +29,9 @@ pub fn each_ref_changes_at_most_once()
         → first ≡ second }
 {}
 
-/// At each moment of a run, each ref is as it was before the run or as the whole run leaves it. So a run
-/// that was stopped at any moment has left each ref as it was, or as the whole run would have.
+/// At each moment of a run, each ref is as it was before the run or as the whole run leaves it. So
+/// a run that was stopped at any moment has left each ref as it was, or as the whole run would
+/// have.
 pub fn stopped_runs_leave_each_ref_old_or_new()
     ensures moments { (call : Call) (old new : History) (before after : List ℕ)
         (answer : StatusValue) (folder : List ℕ) (of : Side) (id : Id) → IsTrue call.store_tells
@@ -42,8 +44,8 @@ pub fn stopped_runs_leave_each_ref_old_or_new()
         × ChangesOnce folder of id old new }
 {}
 
-/// A run that only reads, or whose arguments ask for nothing or are refused, writes nothing: at every
-/// moment all files are the same.
+/// A run that only reads, or whose arguments ask for nothing or are refused, writes nothing: at
+/// every moment all files are the same.
 pub fn runs_that_read_write_nothing()
     ensures { (call : Call) (old new : History) (before after : List ℕ) (answer : StatusValue)
         → IsTrue call.store_tells → AsksToRead call.asked

@@ -24,8 +24,8 @@ ghost use Rattle.words.specs.declared.words.MergeRequest.{MergeRequest};
 ghost use Rattle.words.specs.declared.words.PeerCommand.TheVariants as peer;
 ghost use Rattle.words.specs.declared.words.Request.{Request};
 
-/// A refused edit, and any other refused command in one folder, writes nothing: at every moment all files
-/// are the same.
+/// A refused edit, and any other refused command in one folder, writes nothing: at every moment all
+/// files are the same.
 pub fn refused_commands_write_nothing()
     ensures { (call : Call) (old new : History) (before after : List ℕ) (request : Request)
         (refusal : Refusal) → IsTrue call.store_tells → call.asked ≡ asked.Request request
@@ -33,10 +33,10 @@ pub fn refused_commands_write_nothing()
         → (new ≡ old) × AllMoments (λ files. files ≡ files_of old) old new }
 {}
 
-/// Where a line of a `merge` or of a `pull` refuses an entity, the cause that it gives held at a moment of
-/// the call, by the local head and the tracked one that the entity had: of a bug the fault of both heads
-/// together, of an identity the fault of the tracked chain, or that neither head is in the chain of the
-/// other. And the local ref is the same at every moment of the call.
+/// Where a line of a `merge` or of a `pull` refuses an entity, the cause that it gives held at a
+/// moment of the call, by the local head and the tracked one that the entity had: of a bug the
+/// fault of both heads together, of an identity the fault of the tracked chain, or that neither
+/// head is in the chain of the other. And the local ref is the same at every moment of the call.
 pub fn refused_merges_have_their_cause()
     ensures merge { (call : Call) (old new : History) (before after : List ℕ) (answer : StatusValue)
         (request : MergeRequest) → IsTrue call.store_tells → IsTrue call.sink_tells
