@@ -6,7 +6,6 @@ use Rattle.gb_text.specs.declared.id.Name.{Name}
 use Rattle.gb_store.specs.Files.{Files, History, files_of}
 use Rattle.git_object.specs.declared.frame.Kind.TheVariants as kinds
 use Rattle.object_store.specs.Held.{Objects, objects_after, objects_in, text_at}
-use Rattle.object_store.proofs.GrowthLemmas.{text_stays}
 use Rattle.object_batch.specs.Needs.{IsHeldAs}
 use Rattle.object_batch.proofs.ClashLemmas.{Contains-first}
 use Rattle.commit_walk.specs.Below.{head}
@@ -40,7 +39,7 @@ has_later files later folder id (ACommit placed) sound lost is h =
     let kept = lost.heads side.Bugs tt id is h.head placed.commit h.is_head h.is.below in
     let held = head_held files folder side.Bugs id h.head sound is h.is_head in
     let same = whole_stays (objects_in files folder) (sound parts.Objects).whole (h.head ∷ []) (λ name c. subst (λ (n : Name). IsHeldAs (objects_in files folder) n kinds.Commit) (Contains-one h.head name c) held)
-        (objects_in later folder) lost.objects in
+    (objects_in later folder) lost.objects in
     let over = operation_over (objects_in files folder) (objects_in later folder) (h.head ∷ []) same placed h.is in
     record { head = kept.head; is_head = kept.is_head; is = record { below = kept.below; has = over.has; some = over.some } }
 

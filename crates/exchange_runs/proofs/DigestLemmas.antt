@@ -1,10 +1,7 @@
 -- Folders of a world that have the same have one digest.
-use Rattle.std.proofs.Common.{◌≡◌, ◌≢◌, ◌<◌, ◌^◌, ◌⊎◌, inl, inr, ℕ, zero, suc, All, Any, IsTrue, List, [], ◌∷◌, ◌++◌, map, Contains, length, get_or, codes, Option, Some, None, Ok, refl, sym, ◌∙◌, ap, subst, arith}
+use Rattle.std.proofs.Common.{◌≡◌, ◌≢◌, ◌<◌, ◌^◌, inl, inr, ℕ, suc, All, IsTrue, List, [], ◌∷◌, map, Contains, length, get_or, codes, Option, Some, None, Ok, refl, sym, ◌∙◌, ap, subst, arith}
 use Rattle.std.specs.Prelude.{flat_map}
 use Rattle.std.specs.List.{AllZip}
-use Rattle.std.specs.Cmp.Lexicographic.{slice_cmp}
-use Rattle.std.specs.List.Sorted.{IsStrictlySortedBy}
-use Rattle.std.specs.Ordering.{nat_cmp}
 use Rattle.std.proofs.lemmas.Cmp.{nat_list_cmp_total}
 use Rattle.sha2.specs.Sha256.{sha256}
 use Rattle.hex.specs.Hex.{encode_lower, hex_digit_value}
@@ -13,13 +10,12 @@ use Rattle.combined_id.proofs.CombinedLemmas.{IsDigit, digits-encode_lower}
 use Rattle.gb_text.specs.Digits.{IsId}
 use Rattle.gb_text.specs.Folder.{folder_of}
 use Rattle.gb_text.specs.declared.id.Id.{Id}
-use Rattle.gb_text.specs.declared.id.Name.{Name}
 use Rattle.gb_text.proofs.SortedLemmas.{same_elements}
 use Rattle.gb_store.specs.Files.{Files, History, files_of}
 use Rattle.object_store.specs.Held.{objects_in}
 use Rattle.ref_store.specs.Refs.{Ref, Absent, Bad, Head}
-use Rattle.bug_run.specs.Headline.{HeadlineHolds, IsFault, OwnIsSound, ShowEnds}
-use Rattle.bug_run.specs.Run.{Call, RunAnswers}
+use Rattle.bug_run.specs.Headline.{HeadlineHolds, OwnIsSound, ShowEnds}
+use Rattle.bug_run.specs.Run.{RunAnswers}
 use Rattle.bug_run.specs.declared.status.Status.{Status}
 use Rattle.bug_run.specs.declared.status.Status.TheVariants as status
 use Rattle.bug_run.proofs.HeadlineLemmas.{same_printed}
@@ -160,11 +156,11 @@ module _ (history : History) (one two : ℕ) (sound : IsSound (folder_word one) 
       let found = found_bug (files_of history) (folder_word two) bug is its in
       let both = stands_over (files_of history) (folder_word one) (folder_word two) sound same bug is stands in
       let printed = same_printed (call_with (show_words one bug) first.moment) (call_with (show_words two bug) second.moment) history history history history [] here [] there
-          (folder_word one) (folder_word two) (encode_lower bug.bytes) (encode_lower bug.bytes) top other refl refl refl refl
-          (asks history one bug here is sound named stands first) (asks history two bug there is also called both second) finds found
-          (same_commits (files_of history) (files_of history) (folder_word one) (folder_word two) (encode_lower bug.bytes) same top other finds found)
-          (alike top is mine.is_head)
-          (done_answers history one bug here is sound named stands first) (done_answers history two bug there is also called both second) in
+      (folder_word one) (folder_word two) (encode_lower bug.bytes) (encode_lower bug.bytes) top other refl refl refl refl
+      (asks history one bug here is sound named stands first) (asks history two bug there is also called both second) finds found
+      (same_commits (files_of history) (files_of history) (folder_word one) (folder_word two) (encode_lower bug.bytes) same top other finds found)
+      (alike top is mine.is_head)
+      (done_answers history one bug here is sound named stands first) (done_answers history two bug there is also called both second) in
       printed.1 ∙ sym printed.2
 
   same_texts : (bugs : List Id) (heres theres : List (List ℕ)) → ((bug : Id) → Contains bugs bug → IsId bug × IsTrue (has_ref (files_of history) (folder_word one) side.Bugs bug))
@@ -203,6 +199,6 @@ module _ (history : History) (one two : ℕ) (small : one < 2 ^ 64) (few : two <
       let its = is_second.has.named ∙ ap Some (named two is_second.bugs few is_second.has) in
       let shown = subst (λ (bugs : List Id). AllZip (Shows history two) bugs is_second.hash.texts) (sym same_bugs) is_second.hash.shown in
       let texts = same_texts history one two sound also mine its same alike is_first.bugs is_first.hash.texts is_second.hash.texts
-          (λ bug c. ((ids_of one is_first.bugs small is_first.has).members bug).0 c) is_first.hash.shown shown in
+      (λ bug c. ((ids_of one is_first.bugs small is_first.has).members bug).0 c) is_first.hash.shown shown in
       let bytes : first.hash.bytes ≡ second.hash.bytes = is_first.hash.is ∙ ap (λ (all : List (List ℕ)). sha256 (flat_map (λ (text : List ℕ). text) all)) texts ∙ sym is_second.hash.is in
       λ i. record { bugs = same_count i; hash = record { bytes = bytes i } }

@@ -1,8 +1,7 @@
 -- The folders of a world: their texts, which do not overlap, and their names as remotes.
-use Rattle.std.proofs.Common.{◌≡◌, ◌≢◌, ◌<◌, ◌≤◌, ◌^◌, inl, inr, ℕ, Bool, true, false, ◌&&◌, ◌||◌, nat_le, List, [], ◌∷◌, ◌++◌, length, decimal, Option, Some, None, refl, sym, ◌∙◌, ap, ap₂, subst, arith}
+use Rattle.std.proofs.Common.{◌≡◌, ◌<◌, ◌≤◌, ◌^◌, inl, inr, ℕ, Bool, true, false, ◌&&◌, nat_le, List, [], ◌∷◌, ◌++◌, length, decimal, Some, None, refl, sym, ◌∙◌, ap, ap₂, arith}
 use Rattle.std.specs.Prelude.{◌==◌, All, filter, if◌then◌else◌}
-use Rattle.std.specs.Char.{is_ascii_alphanumeric}
-use Rattle.std.specs.List.{AllPass, join_with_byte, list_all, slice_split}
+use Rattle.std.specs.List.{list_all}
 use Rattle.std.specs.Str.Parse.{AllDigits}
 use Rattle.std.proofs.lemmas.Bool.{le-leb}
 use Rattle.std.proofs.lemmas.Bool.Decides.{nat_tests}
@@ -12,7 +11,7 @@ use Rattle.std.proofs.lemmas.List.Splits.{slice_split_none}
 use Rattle.std.proofs.lemmas.List.Sums.{list_all-from_AllPass}
 use Rattle.std.proofs.lemmas.Option.{same_Some}
 use Rattle.std.proofs.lemmas.Str.Parse.{digit_from_value}
-use Rattle.gb_text.specs.Folder.{counts, folder_of, folder_text, is_bad_folder, is_rooted, parts_of}
+use Rattle.gb_text.specs.Folder.{counts, folder_of, folder_text, is_bad_folder, parts_of}
 use Rattle.gb_text.specs.Overlap.{Overlap, steps_of}
 use Rattle.remote_name.specs.RemoteTexts.{is_remote_byte, is_remote_name}
 use Rattle.world_events.specs.Words.{folder_word}

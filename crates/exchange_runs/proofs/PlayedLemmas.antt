@@ -1,20 +1,16 @@
 -- Events of a full exchange that were done are pulls that refused no bug.
-use Rattle.std.proofs.Common.{◌≡◌, ◌≢◌, ◌<◌, ◌≤◌, ◌+◌, ◌-◌, ◌^◌, ◌⊎◌, inl, inr, ℕ, ℤ, zero, suc, Bool, true, false, IsTrue, All, List, [], ◌∷◌, ◌++◌, map, Contains, length, filter, codes, Option, Some, None, Ok, refl, sym, ◌∙◌, ap, ap₂, subst, arith, get_or}
+use Rattle.std.proofs.Common.{◌≡◌, ◌<◌, ◌≤◌, ◌-◌, ◌^◌, inl, inr, ℕ, ℤ, zero, suc, Bool, true, false, All, List, [], ◌∷◌, ◌++◌, map, Contains, length, filter, codes, Option, Some, None, Ok, refl, sym, ◌∙◌, ap, ap₂, subst, arith, get_or}
 use Rattle.std.specs.List.{range_with_len, zip}
 use Rattle.std.specs.Option.{option_map}
 use Rattle.std.proofs.lemmas.List.{length-map, map-append}
 use Rattle.std.proofs.lemmas.List.Elements.{All-append, All-cons, All-head, All-nil, All-tail}
 use Rattle.std.proofs.lemmas.Simd.{map-map}
 use Rattle.gb_text.specs.Folder.{folder_of}
-use Rattle.gb_text.specs.declared.id.Id.{Id}
 use Rattle.gb_store.specs.Files.{History}
 use Rattle.gb_store.specs.Turns.{InTurn}
-use Rattle.bug_edits.specs.declared.moment.Moment.{Moment}
 use Rattle.bug_run.specs.Exchanges.{answer_of_pull}
 use Rattle.bug_run.specs.Moments.{seconds_of}
-use Rattle.bug_run.specs.Printed.{IsTold}
 use Rattle.bug_run.specs.Run.{Call, RunAnswers, status_for}
-use Rattle.bug_run.specs.declared.status.Refused.TheVariants.{ByWords}
 use Rattle.bug_run.specs.declared.status.Status.{Status}
 use Rattle.bug_run.specs.declared.status.Status.TheVariants as status
 use Rattle.bug_run.proofs.ExchangeWriteLemmas.{in_time}
@@ -26,7 +22,7 @@ use Rattle.merge_steps.specs.declared.line.MergeLine.{MergeLine}
 use Rattle.merge_steps.specs.declared.line.Pulled.{Pulled}
 use Rattle.remote_name.specs.Remotes.{remote_of}
 use Rattle.remote_name.specs.declared.remote.RemoteName.{RemoteName}
-use Rattle.remote_name.proofs.RemoteLemmas.{one_remote, the_remote}
+use Rattle.remote_name.proofs.RemoteLemmas.{the_remote}
 use Rattle.repo_state.proofs.PrefixLemmas.{Contains-filter}
 use Rattle.sync_steps.specs.Lines.{is_refused, refused_in}
 use Rattle.sync_steps.specs.declared.line.Line.{Line}
@@ -34,26 +30,24 @@ use Rattle.words.specs.Arguments.{IsPlain}
 use Rattle.words.specs.Pairs.{pair_of}
 use Rattle.words.specs.Words.{asked_of, exchange_in, exchange_of}
 use Rattle.words.specs.declared.pair.FolderPair.{FolderPair}
-use Rattle.words.specs.declared.words.Asked.{Asked}
 use Rattle.words.specs.declared.words.Asked.TheVariants as asked
 use Rattle.words.specs.declared.words.BadWord.{BadWord}
-use Rattle.words.specs.declared.words.BadWord.TheVariants.{BadFolder, BadRemoteName, SameFolder}
-use Rattle.words.specs.declared.words.PeerCommand.{PeerCommand}
+use Rattle.words.specs.declared.words.BadWord.TheVariants.{BadFolder, SameFolder}
 use Rattle.words.specs.declared.words.PeerCommand.TheVariants.{Pull}
 use Rattle.words.proofs.ArgumentLemmas.{all_plain}
 use Rattle.words.proofs.AskLemmas.{asked_with}
 use Rattle.words.proofs.PairLemmas.{of_folders}
-use Rattle.full_exchanges.specs.Exchanges.{Member, exchange_among, gathering, pull_of, spreading}
+use Rattle.full_exchanges.specs.Exchanges.{Member, exchange_among, pull_of}
 use Rattle.full_exchanges.specs.Pulls.{Pull as PullValue, RefusesNoBug, WasPulled}
-use Rattle.world.specs.Plays.{ArePlayed, IsDone, RunsEvent, RunsWhole, call_with}
+use Rattle.world.specs.Plays.{IsDone, RunsEvent, RunsWhole, call_with}
 use Rattle.world.specs.declared.world.Ended.{Ended}
-use Rattle.world.specs.declared.world.Ended.TheVariants.{Done, Skipped}
+use Rattle.world.specs.declared.world.Ended.TheVariants.{Done}
 use Rattle.world_events.specs.Exchange.{exchange_of as events_of, pull_at}
 use Rattle.world_events.specs.Words.{folder_word}
 use Rattle.world_events.specs.declared.event.Event.{Event}
 use Rattle.exchange_runs.specs.Exchanged.{Exchanged}
 use Rattle.exchange_runs.proofs.FolderLemmas.{word_is_folder}
-use Rattle.exchange_runs.proofs.MemberLemmas.{in_range, member_at, members_of, name_text, others_of}
+use Rattle.exchange_runs.proofs.MemberLemmas.{in_range, member_at, name_text, others_of}
 
 -- ---- no line is a refusal
 

@@ -1,6 +1,6 @@
 -- What a folder has last seen of a bug at a remote stays, or was brought by a fetch from a peer.
-use Rattle.std.proofs.Common.{◌≡◌, ◌≢◌, ◌⊎◌, inl, inr, ℕ, Bool, true, List, [], ◌∷◌, ◌++◌, Contains, refl, sym, ◌∙◌, ap, subst}
-use Rattle.gb_text.specs.Digits.{IsId, IsName}
+use Rattle.std.proofs.Common.{◌≡◌, ◌≢◌, ◌⊎◌, inl, inr, ℕ, true, List, [], ◌++◌, Contains, refl, sym, ◌∙◌, ap, subst}
+use Rattle.gb_text.specs.Digits.{IsId}
 use Rattle.gb_text.specs.Overlap.{Overlap}
 use Rattle.gb_text.specs.declared.id.Id.{Id}
 use Rattle.gb_text.specs.declared.id.Name.{Name}
@@ -11,7 +11,7 @@ use Rattle.gb_store.specs.declared.store.Change.{Change}
 use Rattle.gb_store.proofs.MomentLemmas.{AllMoments-from_WroteBy, WroteBy-before, WroteBy-wider}
 use Rattle.bug_edits.specs.declared.moment.Moment.{Moment}
 use Rattle.bug_run.specs.Exchanges.{ExchangeWrites}
-use Rattle.bug_run.specs.Run.{AskedWrites, Call, call_of}
+use Rattle.bug_run.specs.Run.{AskedWrites, call_of}
 use Rattle.bug_run.specs.Runs.{AreApart, IsAmong, IsRun, StaysAmong}
 use Rattle.bug_run.proofs.RunLemmas.{of_kinds, of_rows, run_wrote}
 use Rattle.ref_packing.specs.Kinds.{IsPackWrite}
@@ -21,7 +21,6 @@ use Rattle.ref_store.proofs.FrameLemmas.{head_is_name}
 use Rattle.remote_name.specs.declared.remote.RemoteName.{RemoteName}
 use Rattle.remote_name.proofs.RemoteLemmas.{one_remote}
 use Rattle.repo_state.specs.Sides.{head_at, ref_place}
-use Rattle.repo_state.specs.declared.side.Side.{Side}
 use Rattle.repo_state.specs.declared.side.Side.TheVariants as side
 use Rattle.repo_state.proofs.KindLemmas.{head_at-clock_write, head_at-object_write, head_at-other_side, head_at-ref_write, head_at-row_write, head_at-user_write}
 use Rattle.repo_state.proofs.PlaceLemmas.{same_or_other}

@@ -4,5 +4,6 @@
 mod laws;
 
 pub use laws::{
-    exchanged_folders_agree, exchanged_folders_have_one_digest, runs_see_what_is_there,
+    exchanged_folders_agree, exchanged_folders_have_one_digest, played_worlds_may_exchange,
+    runs_see_what_is_there,
 };
