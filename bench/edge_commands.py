@@ -255,8 +255,8 @@ def hurt(scene, how, every):
     inject = "signal=KILL" if how == "kill" else f"error={how}"
     for call, number in [at for at in scene.counts() if how == "kill" or at[0] != "close"][::every]:
         room = scene.before.copied()
-        how = ["-e", f"trace={call}", "-e", f"inject={call}:{inject}:when={number}"]
-        status, text, _ = traced(room, scene.words, *how)
+        more = ["-e", f"trace={call}", "-e", f"inject={call}:{inject}:when={number}"]
+        status, text, _ = traced(room, scene.words, *more)
         killed = how == "kill" and status == -signal.SIGKILL
         may = (0, 3, 4, 5, 6) if how == "ENOMEM" else (0, 3, 5, 6)
         fault = fault_after(scene, room, None if killed else status, "" if scene.name in READS else text, may)

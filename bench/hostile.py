@@ -202,7 +202,7 @@ def ladders(folder, size):
     return id
 
 
-@case(36_000, ("show", "ls", "fetch", "pack-refs"), "n packed refs of bugs whose ids begin alike, each of a bad head")
+@case(9_000, ("show", "ls", "fetch", "pack-refs"), "n packed refs of bugs whose ids begin alike, each of a bad head")
 def alike(folder, size):
     head = folder.version("Ana")[1]
     ids = [f"{'0' * 48}{at:016x}" for at in range(size)]
