@@ -17,7 +17,8 @@ ghost use Rattle.exchange_runs.specs.Takes.{RunsAmong, SeenIsThere};
 
 /// Where each pull of a full exchange among the folders of a world is done, each folder has of each
 /// bug exactly the operation commits that one of them had before. So any two have the same bugs,
-/// and the same operation commits of each; and they may exchange again. A folder's text is its word.
+/// and the same operation commits of each; and they may exchange again. A folder's text is
+/// its word.
 pub fn exchanged_folders_agree()
     ensures union { (folders folder : ℕ) (now : ℤ) (old new : History) → folders ≤ 2 ^ 32
         → MayExchange folders (files_of old)
@@ -54,8 +55,8 @@ pub fn exchanged_folders_have_one_digest()
 {}
 
 /// Whatever is run over folders of which no two overlap, from no files at all, and wherever each
-/// run stops: if each fetch and pull into one of them is from one of them, what one has last seen of
-/// a bug at a remote, one of them has.
+/// run stops: if each fetch and pull into one of them is from one of them, what one has last seen
+/// of a bug at a remote, one of them has.
 pub fn runs_see_what_is_there()
     ensures { (folders : List (List ℕ)) (new : History) → AreApart folders
         → RunsAmong folders [] new → HaveOneTextEach (files_of new) folders
