@@ -1,7 +1,7 @@
 //! Bugs of as many commits as are read, and of one more.
 use crate::cases::{FIRST, X};
 use crate::objects::ANN;
-use crate::pulls::{Good, PULL, begun, good, prints, refuses, told};
+use crate::pulls::{Good, PULL, begun, prints, pull_good, refuses, told};
 use fixtures::{CREATE, Disk, put_commit, put_files, put_pack, put_text};
 use gb_text::Name;
 use run_fixtures::{DONE, REFUSED};
@@ -55,7 +55,7 @@ fn pulls(disk: &mut Disk, status: u8, text: &str, good: &Good) -> Result<(), Fai
 
 #[test]
 fn there_are_65536_commits_at_most(rt: HostRuntime) -> Result<(), Fail> {
-    let good = good(rt.alloc())?;
+    let good = pull_good(rt.alloc())?;
     let mut disk = begun(rt.alloc())?;
     let (low, head) = put_chain(&mut disk, 65_537)?;
     set_head(&mut disk, &head)?;

@@ -225,7 +225,7 @@ fn change_end(disk: &mut Disk, name: &Name, end: &[u8]) -> Result<(), Fail> {
 }
 
 /// Changes the peer's files.
-pub fn change(disk: &mut Disk, names: &Names, change: Change) -> Result<(), Fail> {
+pub fn spoil(disk: &mut Disk, names: &Names, change: Change) -> Result<(), Fail> {
     match change {
         Change::Nothing => Ok(()),
         Change::Gone(mark) => remove_object(disk, &names.get(mark)?),

@@ -1,5 +1,5 @@
 //! Pulls of the folder `f` from the peer `p`, and what is seen of `f`.
-use crate::objects::{Change, Commit, Names, change};
+use crate::objects::{Change, Commit, Names, spoil};
 use fixtures::{Disk, text_at};
 use gb_store::Store;
 use run_fixtures::{DONE, REFUSED, run_into, run_words, sink};
@@ -83,7 +83,7 @@ pub struct Good {
 }
 
 /// Pulls from the good peer.
-pub fn good(alloc: Global) -> Result<Good, Fail> {
+pub fn pull_good(alloc: Global) -> Result<Good, Fail> {
     let mut disk = begun(alloc)?;
     let (status, first) = told(&mut disk, &PULL)?;
     let seen = seen(&mut disk)?;
@@ -267,7 +267,7 @@ pub fn refuse(disk: &mut Disk, names: &Names, good: &Good, fault: &Fault) -> Res
     let id = fault.entity.1;
     let (others, before) = know(disk, names, good, fault)?;
     put_ref(disk, names, fault.entity, fault.head)?;
-    change(disk, names, fault.change)?;
+    spoil(disk, names, fault.change)?;
     let lines = full_lines(disk.alloc, names, fault.lines, id)?;
     let most = most_reads(fault, names.count());
     refuses(
@@ -282,7 +282,7 @@ pub fn refuse(disk: &mut Disk, names: &Names, good: &Good, fault: &Fault) -> Res
 
 /// Sees so of each case. Where a mark is given, `f` has pulled this head before.
 pub fn refuse_each(alloc: Global, entity: Entity, known: &str, cases: &[Case]) -> Result<(), Fail> {
-    let good = good(alloc)?;
+    let good = pull_good(alloc)?;
     for case in cases {
         let Case(commits, head, change, lines) = *case;
         let mut disk = begun(alloc)?;
@@ -309,7 +309,7 @@ pub fn refuse_last(
     head: &str,
     lasts: &[Last],
 ) -> Result<(), Fail> {
-    let good = good(alloc)?;
+    let good = pull_good(alloc)?;
     for last in lasts {
         let mut disk = begun(alloc)?;
         let mut names = Names::new(alloc);

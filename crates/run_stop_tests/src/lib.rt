@@ -1,4 +1,4 @@
-//! Tests of `run` where it stops after any of its writes, or a call of its store or a write of its sink fails.
+//! Tests of runs that stop after any write, or of which any call of the store or the sink fails.
 #![tactic(auto)]
 
 #[cfg(test)]
