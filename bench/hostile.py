@@ -28,7 +28,7 @@ import tempfile
 
 sys.dont_write_bytecode = True
 BENCH = pathlib.Path(__file__).resolve().parent
-ROUNDS = 3
+ROUNDS = 5
 MOST_GROWTH = 2.6
 # Below these a run's growth says little: the start of the program, and the noise of the machine.
 LEAST_MS, LEAST_MB = 40, 16
