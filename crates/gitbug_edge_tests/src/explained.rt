@@ -30,17 +30,17 @@ pub fn try_all<R: Testing>(rt: &R) -> Result<(), Fail> {
     Ok(())
 }
 
-/// How a call ended, what it printed on standard output and on standard error, and what else was asked of the system.
+// How a call ended, what it printed on standard output and on standard error, and what else was asked of the system.
 #[derive(Drop)]
-pub struct Ran {
-    pub status: io::Result<Status>,
-    pub printed: String,
-    pub said: String,
-    pub notes: Notes,
+struct Ran {
+    status: io::Result<Status>,
+    printed: String,
+    said: String,
+    notes: Notes,
 }
 
-/// Runs words at a time that ends in 0.9 seconds.
-pub fn run_at<R: Testing>(rt: &R, words: &[&str]) -> Result<Ran, Fail> {
+// Runs words at a time that ends in 0.9 seconds.
+fn run_at<R: Testing>(rt: &R, words: &[&str]) -> Result<Ran, Fail> {
     let alloc = rt.alloc();
     let notes = Notes::new(alloc);
     let mut texts = Vec::new(alloc);

@@ -6,8 +6,6 @@ mod cases;
 #[cfg(test)]
 mod commits;
 #[cfg(test)]
-mod large;
-#[cfg(test)]
 mod objects;
 #[cfg(test)]
 mod people;
