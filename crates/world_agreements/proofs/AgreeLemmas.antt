@@ -1,7 +1,6 @@
 -- What a full exchange leaves in a world, where nothing is refused.
-use Rattle.std.proofs.Common.{◌≡◌, ◌≤◌, ◌<◌, ◌+◌, ◌++◌, ◌^◌, refl, sym, ◌∙◌, ap, subst, ℕ, zero, suc, Bool, true, false, if◌then◌else◌, codes, pos, List, [], ◌∷◌, All, Contains, arith}
+use Rattle.std.proofs.Common.{◌≡◌, ◌≤◌, ◌<◌, ◌+◌, ◌++◌, ◌^◌, refl, ◌∙◌, ap, subst, ℕ, zero, suc, Bool, true, if◌then◌else◌, codes, pos, List, [], ◌∷◌, Contains, arith}
 use Rattle.std.specs.List.{AllZip, range_with_len}
-use Rattle.gb_text.specs.declared.id.Id.{Id}
 use Rattle.gb_store.specs.Files.{History, files_of}
 use Rattle.bug_run.proofs.RunsLemmas.{runs_lose_nothing}
 use Rattle.full_exchanges.specs.Having.{HasAllOf, HaveOneTextEach, HaveTheSame, NameAuthorsAlike}

@@ -1,5 +1,5 @@
 -- The events that a number makes, and those of a full exchange, are within the folders.
-use Rattle.std.proofs.Common.{◌≡◌, ◌≢◌, ◌≤◌, ◌<◌, ◌+◌, ◌-◌, ◌%◌, refl, ℕ, ℤ, pos, Bool, true, false, nat_lt, List, [], ◌∷◌, ◌++◌, map, All, Contains, get_or, length, arith}
+use Rattle.std.proofs.Common.{◌≡◌, ◌≢◌, ◌≤◌, ◌<◌, ◌+◌, ◌-◌, ◌%◌, refl, ℕ, ℤ, Bool, true, false, nat_lt, map, All, get_or, arith}
 use Rattle.std.specs.Prelude.{if◌then◌else◌}
 use Rattle.std.specs.List.{range_with_len}
 use Rattle.std.proofs.lemmas.Bool.{ltb-true}
@@ -8,11 +8,9 @@ use Rattle.world_events.specs.Draws.{lot_from}
 use Rattle.world_events.specs.Events.{act_of, event_of, events_of, peer_of, state_before, turn_from, turn_of}
 use Rattle.world_events.specs.Exchange.{exchange_of, pull_at}
 use Rattle.world_events.specs.Within.{HasPeerWithin, IsPeer, IsTurnWithin, IsWithin}
-use Rattle.world_events.specs.declared.act.Act.{Act}
 use Rattle.world_events.specs.declared.act.Act.TheVariants.{UserNew, NewBug, Comment, Title, Edit, Close, Reopen, LabelAdd, LabelRm, Noop, Pull, Push}
 use Rattle.world_events.specs.declared.draws.Lot.{Lot}
 use Rattle.world_events.specs.declared.event.Event.{Event}
-use Rattle.world_events.specs.declared.event.Turn.{Turn}
 use Rattle.world_events.proofs.PeerLemmas.{around_other}
 use Rattle.exchange_runs.proofs.MemberLemmas.{in_range}
 
