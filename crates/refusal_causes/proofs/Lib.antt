@@ -1,2 +1,5 @@
+pub mod ExchangeLemmas
 pub mod RequestLemmas
+pub mod RunCauseLemmas
 pub mod SoleLemmas
+pub mod StopCauseLemmas

@@ -75,7 +75,7 @@ refused_told IsSo (Err (stop.Refused r)) answer never so (inl is) = inl (r, is, 
 -- ---- the packed refs
 
 module _ (files : Files) (folder : List ℕ) where
-  unread_first : packed_reads files folder ≡ false → first_unread files (folder ∷ []) ≡ Some folder
+  pub unread_first : packed_reads files folder ≡ false → first_unread files (folder ∷ []) ≡ Some folder
   unread_first unread = ap (λ (b : Bool). if b then None else Some folder) unread
 
   first_read : first_unread files (folder ∷ []) ≡ None → packed_reads files folder ≡ true
