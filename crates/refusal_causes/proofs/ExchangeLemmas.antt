@@ -7,10 +7,7 @@ use Rattle.gb_text.specs.LineEnd.{line_of}
 use Rattle.gb_text.specs.declared.id.Id.{Id}
 use Rattle.gb_text.specs.declared.id.Name.{Name}
 use Rattle.gb_store.specs.Files.{Files, History, files_of}
-use Rattle.merge_steps.specs.Pulling.{PullAnswers}
-use Rattle.merge_steps.specs.Stops.{stop_of_read}
 use Rattle.merge_steps.specs.Turns.{MergeAnswers, NotBegun as NotMerged}
-use Rattle.merge_steps.specs.declared.line.Pulled.{Pulled}
 use Rattle.merge_steps.specs.declared.stop.MergeStop.{MergeStop}
 use Rattle.merge_steps.specs.declared.stop.MergeStop.TheVariants as merge
 use Rattle.ref_store.specs.Refs.{packed_place, packed_reads}
@@ -18,23 +15,18 @@ use Rattle.remote_name.specs.declared.remote.RemoteName.{RemoteName}
 use Rattle.repo_state.specs.Sides.{has_ref}
 use Rattle.repo_state.specs.Users.{BadUser, NoUser, User, local_user, user_at, user_of, user_place}
 use Rattle.repo_state.specs.declared.side.Side.TheVariants as side
-use Rattle.repo_state.specs.declared.stop.ReadStop.{ReadStop}
-use Rattle.repo_state.specs.declared.stop.ReadStop.TheVariants as read
 use Rattle.repo_steps.specs.declared.refusal.Refusal.{Refusal}
 use Rattle.repo_steps.specs.declared.refusal.Refusal.TheVariants as refusal
 use Rattle.repo_steps.specs.declared.refusal.Stop.{Stop}
 use Rattle.repo_steps.specs.declared.refusal.Stop.TheVariants as stop
-use Rattle.sync_steps.specs.Fetching.{FetchAnswers}
-use Rattle.sync_steps.specs.declared.line.EntityWord.TheVariants as word
 use Rattle.bug_run.specs.Answer.{Answer}
 use Rattle.bug_run.specs.Exchanges.{ExchangeAnswers, MergeTold, stop_of_merge}
-use Rattle.bug_run.specs.Looks.{Guarded, NotBegun, first_unread, looks_at_peer, pair_looks}
+use Rattle.bug_run.specs.Looks.{Guarded, first_unread, looks_at_peer, pair_looks}
 use Rattle.bug_run.specs.Printed.{IsTold}
 use Rattle.bug_run.specs.Run.{Call, RunAnswers, status_of, text_of}
 use Rattle.bug_run.specs.declared.status.Refused.TheVariants.{ByCommand}
 use Rattle.bug_run.specs.declared.status.Status.{Status}
 use Rattle.bug_run.specs.declared.status.Status.TheVariants as status
-use Rattle.bug_run.proofs.ExchangeLemmas.{apart}
 use Rattle.bug_run.proofs.LookLemmas.{look_done, refused_by}
 use Rattle.bug_run.proofs.WordLemmas.{exchanged, merged, printed_told}
 use Rattle.words.specs.declared.pair.FolderPair.{FolderPair}

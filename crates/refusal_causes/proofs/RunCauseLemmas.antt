@@ -1,16 +1,13 @@
 -- A refused exchange or merge has its cause, and a pull without a user fetches for nothing.
-use Rattle.std.proofs.Common.{◌≡◌, ◌⊎◌, inl, inr, ℕ, Bool, true, false, IsTrue, List, [], ◌∷◌, Some, None, Result, Ok, Err, refl, sym, ◌∙◌, ap, subst}
+use Rattle.std.proofs.Common.{◌≡◌, ◌⊎◌, inl, inr, ℕ, true, IsTrue, List, [], ◌∷◌, Some, Result, Ok, Err, refl, sym, ◌∙◌, ap, subst}
 use Rattle.gb_text.specs.Folder.{joined}
 use Rattle.gb_store.specs.Files.{History, files_of}
-use Rattle.gb_store.specs.Moments.{IsMoment}
 use Rattle.bug_edits.specs.declared.moment.Moment.{Moment}
 use Rattle.merge_steps.specs.Pulling.{PullAnswers}
-use Rattle.merge_steps.specs.Turns.{MergeAnswers, NotBegun as NotMerged}
 use Rattle.merge_steps.specs.declared.stop.MergeStop.{MergeStop as MergeStopped}
 use Rattle.merge_steps.proofs.MergeWriteLemmas.{merge_wrote, not_begun_same}
 use Rattle.ref_store.specs.Refs.{packed_place, packed_reads}
 use Rattle.remote_name.specs.declared.remote.RemoteName.{RemoteName}
-use Rattle.repo_state.specs.Users.{BadUser, NoUser, user_at}
 use Rattle.repo_steps.specs.declared.refusal.Refusal.{Refusal}
 use Rattle.repo_steps.specs.declared.refusal.Refusal.TheVariants as refusal
 use Rattle.repo_steps.specs.declared.refusal.Stop.{Stop}
@@ -21,7 +18,6 @@ use Rattle.sync_writes.proofs.FetchKindLemmas.{fetch_writes}
 use Rattle.bug_run.specs.Answer.{Answer}
 use Rattle.bug_run.specs.Exchanges.{ExchangeAnswers, MergeTold, stop_of_merge}
 use Rattle.bug_run.specs.Looks.{Guarded, first_unread, looks_at_peer, pair_looks}
-use Rattle.bug_run.specs.Printed.{IsTold}
 use Rattle.bug_run.specs.Run.{Call, RunAnswers, status_of, text_of}
 use Rattle.bug_run.specs.declared.status.Refused.TheVariants.{ByCommand}
 use Rattle.bug_run.specs.declared.status.Status.{Status}
@@ -38,7 +34,7 @@ use Rattle.words.specs.declared.words.PeerCommand.{PeerCommand}
 use Rattle.words.specs.declared.words.PeerCommand.TheVariants.{Fetch, Pull, Push}
 use Rattle.words.specs.declared.words.PeerRequest.{PeerRequest}
 use Rattle.refusal_causes.specs.Causes.{IsRefusedSo}
-use Rattle.refusal_causes.specs.ExchangeCauses.{FetchStop, LacksUser, MergeCause, MergeStop, PackedCause, PairCause, PeerCause, PullStop}
+use Rattle.refusal_causes.specs.ExchangeCauses.{FetchStop, LacksUser, MergeCause, MergeStop, PackedCause, PeerCause, PullStop}
 use Rattle.refusal_causes.proofs.ExchangeLemmas.{looked_pair, merge_had_user, merge_refused, no_file, not_merged}
 use Rattle.refusal_causes.proofs.RequestLemmas.{looked_cause, refused_told, refused_was}
 use Rattle.refusal_causes.proofs.StopCauseLemmas.{fetch_stopped, merge_stopped, pull_fetch_stopped, push_stopped}

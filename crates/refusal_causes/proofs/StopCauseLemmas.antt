@@ -1,26 +1,19 @@
 -- What stopped an exchange or a merge as a whole.
-use Rattle.std.proofs.Common.{◌≡◌, ◌⊎◌, inl, inr, ℕ, Bool, true, false, IsTrue, List, [], ◌∷◌, ◌++◌, Contains, Option, Some, None, Result, Ok, Err, refl, sym, ◌∙◌, ap, subst, arith}
+use Rattle.std.proofs.Common.{◌≡◌, ◌⊎◌, inl, inr, ℕ, Bool, true, false, List, ◌∷◌, ◌++◌, Contains, Option, Some, None, Err, refl, sym, ◌∙◌, ap, subst, arith}
 use Rattle.std.proofs.lemmas.List.Elements.{Contains-append_right}
 use Rattle.gb_text.specs.Digits.{IsId}
-use Rattle.gb_text.specs.Folder.{joined}
 use Rattle.gb_text.specs.declared.id.Id.{Id}
 use Rattle.gb_text.specs.declared.id.Name.{Name}
 use Rattle.gb_store.specs.Files.{Files, History, files_of}
-use Rattle.gb_store.specs.Moments.{IsMoment}
-use Rattle.bug_edits.specs.declared.moment.Moment.{Moment}
 use Rattle.merge_steps.specs.Merging.{IsBadTurn, IsBarred}
-use Rattle.merge_steps.specs.Pulling.{PullAnswers}
 use Rattle.merge_steps.specs.Stops.{stop_of_read}
 use Rattle.merge_steps.specs.Turns.{IsFault, MergeAnswers, NotBegun as NotMerged, entities_of as merged_entities}
 use Rattle.merge_steps.specs.declared.stop.MergeStop.{MergeStop as MergeStopped}
 use Rattle.merge_steps.specs.declared.stop.MergeStop.TheVariants as merge
-use Rattle.merge_steps.specs.declared.stop.TurnStop.{TurnStop}
 use Rattle.merge_steps.specs.declared.stop.TurnStop.TheVariants as turn
-use Rattle.merge_steps.proofs.MergeWriteLemmas.{merge_wrote, not_begun_same}
-use Rattle.ref_store.specs.Refs.{Bad, packed_place}
 use Rattle.remote_name.specs.declared.remote.RemoteName.{RemoteName}
 use Rattle.repo_state.specs.Listed.{AreRefs, ref_with}
-use Rattle.repo_state.specs.Sides.{head_at, ref_place}
+use Rattle.repo_state.specs.Sides.{head_at}
 use Rattle.repo_state.specs.declared.refs.EntityRef.{EntityRef}
 use Rattle.repo_state.specs.declared.side.Side.{Side}
 use Rattle.repo_state.specs.declared.side.Side.TheVariants as side
@@ -29,7 +22,6 @@ use Rattle.repo_state.specs.declared.stop.ReadStop.TheVariants as read
 use Rattle.repo_steps.specs.Stops.{stop_of_read as command_stop_of_read}
 use Rattle.repo_steps.specs.declared.refusal.Refusal.{Refusal}
 use Rattle.repo_steps.specs.declared.refusal.Refusal.TheVariants as refusal
-use Rattle.repo_steps.specs.declared.refusal.Stop.{Stop}
 use Rattle.repo_steps.specs.declared.refusal.Stop.TheVariants as stop
 use Rattle.sync_steps.specs.Fetching.{FetchAnswers, IsBadTracking}
 use Rattle.sync_steps.specs.Places.{local_side, tracking_side}
