@@ -1,12 +1,12 @@
 -- A command in one folder is refused exactly where the cause of its refusal holds.
-use Rattle.std.proofs.Common.{◌≡◌, ◌⊎◌, inl, inr, ℕ, zero, suc, Bool, true, false, IsTrue, List, [], ◌∷◌, Option, Some, None, Result, Ok, Err, if◌then◌else◌, refl, sym, ◌∙◌, ap, subst}
+use Rattle.std.proofs.Common.{◌≡◌, inl, inr, ℕ, zero, suc, Bool, true, false, IsTrue, List, [], ◌∷◌, Some, None, Result, Ok, Err, if◌then◌else◌, refl, sym, ◌∙◌, ap, subst}
 use Rattle.gb_text.specs.Folder.{joined}
 use Rattle.gb_text.specs.declared.id.Id.{Id}
 use Rattle.gb_store.specs.Files.{Files, History, files_of}
 use Rattle.ref_store.specs.Refs.{packed_place, packed_reads}
 use Rattle.repo_state.specs.Answers.{HasBadPerson}
 use Rattle.repo_state.specs.Bugs.{IsDamagedBug}
-use Rattle.repo_state.specs.Finds.{Finds, FindsNoId, One}
+use Rattle.repo_state.specs.Finds.{Finds, One}
 use Rattle.repo_state.specs.Sides.{ref_place}
 use Rattle.repo_state.specs.declared.side.Side.TheVariants as side
 use Rattle.repo_state.specs.declared.stop.FindStop.TheVariants as find
@@ -29,8 +29,7 @@ use Rattle.repo_view.proofs.MissedLemmas.{one_log_missed, one_show_missed}
 use Rattle.repo_view.proofs.PeopleLemmas.{no_bad_among, one_bad_person, user_not_bad}
 use Rattle.repo_view.proofs.ShownLemmas.{show_not_missed}
 use Rattle.bug_run.specs.Answer.{Answer}
-use Rattle.bug_run.specs.Headline.{IsFault}
-use Rattle.bug_run.specs.Looks.{Guarded, NotBegun, first_unread}
+use Rattle.bug_run.specs.Looks.{Guarded, first_unread}
 use Rattle.bug_run.specs.Printed.{IsTold, Printed}
 use Rattle.bug_run.specs.Run.{Call, CommandAnswers, RunAnswers, env_at, status_for, status_of, text_of}
 use Rattle.bug_run.specs.declared.status.Refused.TheVariants.{ByCommand}
@@ -43,7 +42,7 @@ use Rattle.words.specs.declared.words.Command.{Command}
 use Rattle.words.specs.declared.words.Command.TheVariants.{Edit, Log, PackRefs, Show, Users}
 use Rattle.words.specs.declared.words.Request.{Request}
 use Rattle.refusal_causes.specs.Alike.{AreAlike}
-use Rattle.refusal_causes.specs.Causes.{CommandCause, IsRefusedSo, IsUnread, LogCause, LooksFirst, RequestCause, ShowCause, UsersCause}
+use Rattle.refusal_causes.specs.Causes.{CommandCause, IsRefusedSo, LogCause, LooksFirst, RequestCause, ShowCause, UsersCause}
 use Rattle.refusal_causes.proofs.SoleLemmas.{edits_alike}
 
 -- ---- what was told
@@ -75,7 +74,7 @@ refused_told IsSo (Err (stop.Refused r)) answer never so (inl is) = inl (r, is, 
 -- ---- the packed refs
 
 module _ (files : Files) (folder : List ℕ) where
-  unread_first : packed_reads files folder ≡ false → first_unread files (folder ∷ []) ≡ Some folder
+  pub unread_first : packed_reads files folder ≡ false → first_unread files (folder ∷ []) ≡ Some folder
   unread_first unread = ap (λ (b : Bool). if b then None else Some folder) unread
 
   first_read : first_unread files (folder ∷ []) ≡ None → packed_reads files folder ≡ true

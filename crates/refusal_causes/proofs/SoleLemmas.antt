@@ -1,13 +1,11 @@
 -- Two refusals of an edit are one, but for the name that is taken where several are.
-use Rattle.std.proofs.Common.{◌≡◌, ℕ, ◌≤◌, ◌+◌, inl, inr, List, [], ◌∷◌, ◌++◌, length, Contains, None, Result, Ok, Err, sym, ◌∙◌, ap, subst}
+use Rattle.std.proofs.Common.{◌≡◌, ℕ, inl, inr, List, [], ◌∷◌, ◌++◌, None, Result, Err, sym, ◌∙◌, ap, subst}
 use Rattle.std.specs.Option.{option_map}
 use Rattle.std.specs.Prelude.{option_and_then}
-use Rattle.repo_steps.proofs.Names.{GREATEST_TIME, Id, Name, Line, Message, Title, Files, History, files_of, MOST_COMMITS, bug_kind, BugOp, ops_in, Entity, IsBug, Finder, person_finder, User, user_at, HeadEntry, Side, AllPass, AreClear, Check, FirstFails, HasFound, Growth, CommentEntry, comment_growth, edit_growth, adds_op, addition_objects, bug_reads, bug_says, clock_room, commit_room, later_by, longer_bug, new_operation, op_ids, some_id, op_id, NoChange, found, fresh, names, sizes, some_user, user_file, joined, ref_place, Refused, doing_of, of_missed, of_no_change, Picked, user_chain, user_room, set_user, new_user, new_made, new_objects, edited_user, user_entry, new_bug, root_addition, create_op, one_entity, BugEdit, Edit}
+use Rattle.repo_steps.proofs.Names.{Id, Line, Message, Title, Files, History, files_of, BugOp, Finder, person_finder, user_at, HeadEntry, Side, AreClear, Check, FirstFails, Growth, comment_growth, edit_growth, adds_op, addition_objects, bug_reads, clock_room, commit_room, later_by, longer_bug, new_operation, some_id, op_id, NoChange, found, fresh, names, sizes, some_user, user_file, joined, ref_place, Refused, of_missed, of_no_change, user_chain, user_room, set_user, new_user, new_made, new_objects, edited_user, user_entry, new_bug, root_addition, create_op, Edit}
 use Rattle.repo_state.specs.Finds.{IsDetermined}
 use Rattle.repo_state.specs.declared.side.Side.TheVariants as side
-use Rattle.repo_state.proofs.CommentLemmas.{comment_finder_is_determined}
 use Rattle.repo_state.proofs.FoundLemmas.{ids_are_determined}
-use Rattle.repo_steps.specs.BugDoings.{bug_check}
 use Rattle.repo_steps.specs.declared.env.Env.{Env}
 use Rattle.repo_steps.specs.declared.refusal.Refusal.{Refusal}
 use Rattle.repo_steps.specs.declared.refusal.Refusal.TheVariants as refusal

@@ -1,2 +1,4 @@
 pub mod Alike
 pub mod Causes
+pub mod ExchangeCauses
+pub mod ListCauses
