@@ -1,4 +1,5 @@
-//! Laws of the refusals of commands in one folder, each the contract of a function that does nothing.
+//! Laws of the refusals of commands in one folder, each the contract of a function that does
+//! nothing.
 ghost use Rattle.std.specs.Prelude.{◌≡◌, List, ℕ, IsTrue};
 ghost use Rattle.gb_store.specs.Files.{History};
 ghost use Rattle.repo_steps.specs.declared.refusal.Refusal.{Refusal};
@@ -11,7 +12,8 @@ ghost use Rattle.refusal_causes.specs.Causes.{IsRefusedSo, RequestCause};
 ghost use Rattle.words.specs.declared.words.Asked.TheVariants as asked;
 ghost use Rattle.words.specs.declared.words.Request.{Request};
 
-/// Where a command in one folder is refused, the cause of that refusal holds in the files at entry.
+/// Where a command in one folder is refused, the cause of that refusal holds in the files at
+/// entry.
 pub fn refused_requests_have_their_cause()
     ensures { (call : Call) (old new : History) (before after : List ℕ) (request : Request)
         (refusal : Refusal) → IsTrue call.store_tells → call.asked ≡ asked.Request request
@@ -19,9 +21,9 @@ pub fn refused_requests_have_their_cause()
         → RequestCause (env_at call.moment request.folder) request.command old refusal }
 {}
 
-/// The other way: where the cause of a refusal holds, a command in one folder is refused so, unless
-/// memory runs out or the disk or the output fails. It is not done, and no other refusal is told. Where
-/// several names are taken, any of these may be told.
+/// The other way: where the cause of a refusal holds, a command in one folder is refused so,
+/// unless memory runs out or the disk or the output fails. It is not done, and no other refusal is
+/// told. Where several names are taken, any of these may be told.
 pub fn causes_refuse_requests()
     ensures { (call : Call) (old new : History) (before after : List ℕ) (answer : StatusValue)
         (request : Request) (refusal : Refusal) → IsTrue call.store_tells
