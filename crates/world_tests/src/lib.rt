@@ -1,9 +1,5 @@
-//! Tests of worlds: events that are played, stopped and exchanged, and what is printed of them.
+//! Tests of what is printed of the world that arguments ask for.
 #![tactic(auto)]
 
 #[cfg(test)]
-mod events;
-#[cfg(test)]
 mod printed;
-#[cfg(test)]
-mod stops;
