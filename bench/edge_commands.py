@@ -220,7 +220,8 @@ def check_again(scene, room, was_done=None):
     if not scene.is_done(room):
         raise Unsound("the next run does not do it")
     left = [it for it in edge.temporaries_in(room.top / (scene.written or "f")) if is_again_written(scene, it)]
-    if left:
+    # (a refused run writes nothing, and so removes nothing)
+    if left and not refused:
         raise Unsound(f"the next run leaves {left}")
 
 
