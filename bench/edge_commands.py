@@ -226,10 +226,10 @@ def check_again(scene, room, was_done=None):
 
 
 def is_again_written(scene, path):
-    """Whether a run of this command writes into the folder of a file again. An edit has other objects each time."""
+    """Whether a run of this command writes into the folder of a file again. An edit and a merge have other objects each time."""
     if scene.name in READS:
         return False
-    return scene.name in (*EXCHANGES, "merge", "pack-refs") or "/objects/" not in str(path)
+    return scene.name in ("fetch", "push", "pack-refs") or "/objects/" not in str(path)
 
 
 def fault_after(scene, room, status, text, may=(0, 3, 5, 6)):
