@@ -3,7 +3,7 @@ use crate::system::{
     Testing, count, holds, is_absent, is_free, is_long, link, lists, make_dir, put, put_fails,
     put_text_fails, remove, store_over, write,
 };
-use crate::{exchanges, explained, packed, planted};
+use crate::{exchanges, explained, planted};
 use bug_run::{Refused, Status};
 use folder_store::FolderStore;
 use gb_store::MemSink;
@@ -48,7 +48,6 @@ fn files_are_kept_in_real_folders(rt: HostRuntime) -> Result<(), Fail> {
     persons_are_made(&rt)?;
     explained::try_all(&rt)?;
     exchanges::try_all(&rt)?;
-    packed::try_all(&rt)?;
     fs::remove_dir_all(&rt, root.as_str())?;
     Ok(())
 }

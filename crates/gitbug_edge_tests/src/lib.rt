@@ -10,8 +10,6 @@ mod fake;
 #[cfg(test)]
 mod folders;
 #[cfg(test)]
-mod packed;
-#[cfg(test)]
 mod planted;
 #[cfg(test)]
 mod system;
