@@ -24,10 +24,10 @@ ghost use Rattle.words.specs.declared.edit.Edit.TheVariants as edits;
 ghost use Rattle.words.specs.declared.words.Asked.TheVariants as asked;
 ghost use Rattle.words.specs.declared.words.Command.TheVariants as ask;
 
-/// Where there is a user, an edit of a bug is refused for its argument and its bug as these are:
-/// it is told that the argument finds no bug, or several, or one whose ref is no ref text; that
-/// something is wrong with the bug's commits; or that the bug has the status or the labels
-/// already. Only want of memory and faults of the disk and of the output come in place of that.
+/// If there is a user, an edit of a bug is refused for each of these causes, and names the cause:
+/// the argument finds no bug, or several, or one whose ref does not contain a name; the bug's
+/// commits have a fault; or the bug already has the status or the labels. Only out of memory, and
+/// faults of the disk or the output, can replace this answer.
 pub fn edits_are_refused_for_their_bug()
     ensures missed { (call : Call) (old new : History) (before after : List ℕ)
         (answer : StatusValue) (folder : List ℕ) (edit : BugEditValue) (word : List ℕ) (user : Id)

@@ -1,5 +1,5 @@
-//! Why runs are refused: the cause of each refusal, and that it is told where its cause holds. No
-//! call of a law does anything.
+//! Causes of refusals: what holds if a command is refused, and that the command is refused if it
+//! holds. No call of a law does anything.
 #![tactic(auto)]
 
 mod edit_laws;
