@@ -1,8 +1,13 @@
 -- What is read for a command is read by a run.
-use Rattle.std.proofs.Common.{◌≡◌, inl, inr, ℕ, Bool, List, Result, Ok, Err, IsOk, refl, subst}
-use Rattle.gb_store.specs.Files.{Files}
+use Rattle.std.proofs.Common.{◌≡◌, ◌≤◌, inl, inr, ℕ, Bool, List, Result, Ok, Err, IsOk, refl, sym, subst}
+use Rattle.gb_store.specs.Files.{Files, History, files_of}
+use Rattle.remote_name.specs.declared.remote.RemoteName.{RemoteName}
+use Rattle.repo_merge.specs.Quiet.{IsInStep}
+use Rattle.repo_merge.specs.Reading.{ReadsPulling}
 use Rattle.repo_steps.specs.declared.refusal.Stop.{Stop}
 use Rattle.repo_steps.specs.declared.refusal.Stop.TheVariants as stop
+use Rattle.repo_sync.specs.Reading.{ReadsFetched}
+use Rattle.sync_steps.specs.Quiet.{NothingToFetch}
 use Rattle.words.specs.declared.edit.Edit.{Edit as Edits}
 use Rattle.words.specs.declared.edit.Edit.TheVariants.{New, OfBug, OfComment, UserEdit, UserNew, UserSet}
 use Rattle.repo_edit.specs.Reads.{ReadsFor}
@@ -71,8 +76,26 @@ command_narrower files folder (Log bug) P Q before after less reads = reads
 command_narrower files folder (Edit edit) P Q before after less reads = edit_narrower files folder edit P Q before after less reads
 command_narrower files folder PackRefs P Q before after less reads = reads
 
-pub exchange_narrower : (command : PeerCommand) (pair : FolderPair) (files : Files) (P Q : Type 0) (before after : ℕ) → (Q → P)
-    → ReadsExchange command pair files P before after → ReadsExchange command pair files Q before after
-exchange_narrower (Fetch remote) pair files P Q before after less reads = λ q. reads (less q)
-exchange_narrower (Pull remote) pair files P Q before after less reads = λ q. reads (less q)
-exchange_narrower Push pair files P Q before after less reads = λ q. reads (less q)
+pub exchange_narrower : (command : PeerCommand) (pair : FolderPair) (now : ℕ) (old : History) (P Q : Type 0) (before after : ℕ) → (Q → P)
+    → ReadsExchange command pair now old P before after → ReadsExchange command pair now old Q before after
+exchange_narrower (Fetch remote) pair now old P Q before after less reads = ((λ q. reads.0 (less q)), reads.1)
+exchange_narrower (Pull remote) pair now old P Q before after less reads = ((λ q. reads.0 (less q)), reads.1)
+exchange_narrower Push pair now old P Q before after less reads = λ q. reads (less q)
+
+-- a call that ended answered no text
+never_ok : (r : Result Answer Stop) (s : Stop) → r ≡ Err s → IsOk r → ⊥
+never_ok (Ok said) s is ok = cc is
+never_ok (Err why) s is ok = cc ok
+
+module _ (command : PeerCommand) (remote : RemoteName) (pair : FolderPair) (now : ℕ) (old : History) (before after : ℕ) where
+  -- a fetch that ended reads what its turns do
+  pub fetch_stopped : (r : Result Answer Stop) (s : Stop) → command ≡ Fetch remote → r ≡ Err s → ReadsFetched pair.own pair.peer remote old before after → ReadsExchange command pair now old (IsOk r) before after
+  fetch_stopped r s asks is reads = subst (λ (one : PeerCommand). ReadsExchange one pair now old (IsOk r) before after) (sym asks) ((λ ok. absurd (never_ok r s is ok)), reads)
+
+  -- and so does a pull, however it answers
+  pub pull_answered : (HasLines : Type 0) → command ≡ Pull remote → (HasLines → NothingToFetch pair.own pair.peer remote (files_of old) → IsInStep (files_of old) pair.own remote → after ≤ before)
+      → ReadsPulling pair.own pair.peer remote now old before after → ReadsExchange command pair now old HasLines before after
+  pull_answered HasLines asks unread reads = subst (λ (one : PeerCommand). ReadsExchange one pair now old HasLines before after) (sym asks) (unread, reads)
+
+  pub pull_stopped : (r : Result Answer Stop) (s : Stop) → command ≡ Pull remote → r ≡ Err s → ReadsPulling pair.own pair.peer remote now old before after → ReadsExchange command pair now old (IsOk r) before after
+  pull_stopped r s asks is reads = pull_answered (IsOk r) asks (λ ok. absurd (never_ok r s is ok)) reads

@@ -1,6 +1,6 @@
 -- What an exchange answers, writes, keeps and reads.
 use Rattle.std.specs.Prelude.{◌≡◌, ◌≤◌, ◌⊎◌, ◌++◌, ◌+◌, ℕ, List, Result, Ok, Err}
-use Rattle.gb_store.specs.Files.{Files, History, files_of}
+use Rattle.gb_store.specs.Files.{History, files_of}
 use Rattle.gb_store.specs.Moments.{AllMoments}
 use Rattle.gb_store.specs.declared.store.Change.{Change}
 use Rattle.repo_state.specs.Sound.{IsSound, KeepsParts}
@@ -12,10 +12,12 @@ use Rattle.merge_steps.specs.declared.line.Pulled.{Pulled}
 use Rattle.merge_steps.specs.declared.stop.MergeStop.{MergeStop}
 use Rattle.merge_steps.specs.declared.stop.MergeStop.TheVariants as merge
 use Rattle.repo_merge.specs.Quiet.{IsInStep}
+use Rattle.repo_merge.specs.Reading.{ReadsMerging, ReadsPulling}
 use Rattle.repo_steps.specs.Stops.{stop_of_read}
 use Rattle.repo_steps.specs.declared.refusal.Refusal.TheVariants as refusal
 use Rattle.repo_steps.specs.declared.refusal.Stop.{Stop}
 use Rattle.repo_steps.specs.declared.refusal.Stop.TheVariants as stop
+use Rattle.repo_sync.specs.Reading.{ReadsFetched}
 use Rattle.sync_steps.specs.Fetching.{FetchAnswers}
 use Rattle.sync_steps.specs.Lines.{lines_text_of, refused_in}
 use Rattle.sync_steps.specs.Pushing.{PushAnswers}
@@ -112,12 +114,16 @@ pub record ExchangeStaysSound (command : PeerCommand) (pair : FolderPair) (old n
 -- ---- what it reads
 
 -- where nothing is new to the folder in which it would write, and lines are answered, no object is read; nor by a pull, if the heads
--- that it merges are the local ones
-abbrev pub ReadsExchange : PeerCommand → FolderPair → Files → Type 0 → ℕ → ℕ → Type 0
-ReadsExchange (Fetch remote) pair files HasLines before after = HasLines → NothingToFetch pair.own pair.peer remote files → after ≡ before
-ReadsExchange (Pull remote) pair files HasLines before after = HasLines → NothingToFetch pair.own pair.peer remote files → IsInStep files pair.own remote → after ≤ before
-ReadsExchange Push pair files HasLines before after = HasLines → NothingToPush pair.own pair.peer files → after ≡ before
+-- that it merges are the local ones. However a fetch or a pull answers, it reads no more than its turns do, one after another.
+abbrev pub ReadsExchange : PeerCommand → FolderPair → ℕ → History → Type 0 → ℕ → ℕ → Type 0
+ReadsExchange (Fetch remote) pair now old HasLines before after =
+    (HasLines → NothingToFetch pair.own pair.peer remote (files_of old) → after ≡ before) × ReadsFetched pair.own pair.peer remote old before after
+ReadsExchange (Pull remote) pair now old HasLines before after =
+    (HasLines → NothingToFetch pair.own pair.peer remote (files_of old) → IsInStep (files_of old) pair.own remote → after ≤ before)
+    × ReadsPulling pair.own pair.peer remote now old before after
+ReadsExchange Push pair now old HasLines before after = HasLines → NothingToPush pair.own pair.peer (files_of old) → after ≡ before
 
--- nor by a merge of heads that are the local ones
-abbrev pub ReadsMerge : MergeRequest → Files → ℕ → ℕ → Type 0
-ReadsMerge request files before after = IsInStep files request.folder request.remote → after ≤ before
+-- no object is read by a merge of heads that are the local ones; and however a merge answers, it reads no more than its turns do
+abbrev pub ReadsMerge : MergeRequest → ℕ → History → ℕ → ℕ → Type 0
+ReadsMerge request now old before after =
+    (IsInStep (files_of old) request.folder request.remote → after ≤ before) × ReadsMerging request.folder request.remote now old before after

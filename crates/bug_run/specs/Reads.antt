@@ -1,7 +1,7 @@
 -- How many objects a run reads.
 use Rattle.std.specs.Prelude.{◌≡◌, ⊤, ℕ, List, [], ◌∷◌, Contains}
 use Rattle.gb_text.specs.declared.id.Name.{Name}
-use Rattle.gb_store.specs.Files.{Files}
+use Rattle.gb_store.specs.Files.{Files, History, files_of}
 use Rattle.object_store.specs.Held.{objects_in}
 use Rattle.commit_walk.specs.Below.{IsBelow}
 use Rattle.commit_walk.specs.Distinct.{AreDistinct}
@@ -27,17 +27,17 @@ ReadsCommand files folder (Edit edit) IsDone before after = ReadsFor files folde
 ReadsCommand files folder PackRefs IsDone before after = after ≡ before
 
 -- of what arguments ask, by whether it was done and whether lines were answered: none, or those of the command in its folder
-abbrev pub ReadsAsked : Asked → Files → Type 0 → Type 0 → ℕ → ℕ → Type 0
-ReadsAsked asked.Nothing files IsDone HasLines before after = after ≡ before
-ReadsAsked (asked.Refused bad) files IsDone HasLines before after = after ≡ before
-ReadsAsked (asked.Request request) files IsDone HasLines before after = ReadsCommand files request.folder request.command IsDone before after
-ReadsAsked (asked.Exchange request) files IsDone HasLines before after = ReadsExchange request.command request.pair files HasLines before after
-ReadsAsked (asked.Merge request) files IsDone HasLines before after = ReadsMerge request files before after
-ReadsAsked (asked.List request) files IsDone HasLines before after = ReadsList files request.folder before after
+abbrev pub ReadsAsked : Asked → ℕ → History → Type 0 → Type 0 → ℕ → ℕ → Type 0
+ReadsAsked asked.Nothing now old IsDone HasLines before after = after ≡ before
+ReadsAsked (asked.Refused bad) now old IsDone HasLines before after = after ≡ before
+ReadsAsked (asked.Request request) now old IsDone HasLines before after = ReadsCommand (files_of old) request.folder request.command IsDone before after
+ReadsAsked (asked.Exchange request) now old IsDone HasLines before after = ReadsExchange request.command request.pair now old HasLines before after
+ReadsAsked (asked.Merge request) now old IsDone HasLines before after = ReadsMerge request now old before after
+ReadsAsked (asked.List request) now old IsDone HasLines before after = ReadsList (files_of old) request.folder before after
 
 -- of a run: none where nothing was done and no line answered, and else as much
-abbrev pub ReadsRun : Asked → Files → Type 0 → Type 0 → ℕ → ℕ → Type 0
-ReadsRun asks files IsDone HasLines before after = ReadsGuarded HasLines (ReadsAsked asks files IsDone HasLines before after) before after
+abbrev pub ReadsRun : Asked → ℕ → History → Type 0 → Type 0 → ℕ → ℕ → Type 0
+ReadsRun asks now old IsDone HasLines before after = ReadsGuarded HasLines (ReadsAsked asks now old IsDone HasLines before after) before after
 
 -- for each of these bugs commits below its head, each once
 abbrev pub AreBelowEach : Files → List ℕ → List HeadEntry → List (List Name) → Type 0

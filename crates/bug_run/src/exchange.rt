@@ -1,7 +1,6 @@
 //! Commands with a peer, and the merge of what was fetched.
 ghost use Rattle.std.specs.Prelude.{◌≡◌, IsTrue, IsErrOf, IsOk};
 ghost use Rattle.gb_store.specs.Faults.{KeepsFaults};
-ghost use Rattle.gb_store.specs.Files.{files_of};
 ghost use Rattle.bug_run.specs.Exchanges.{ExchangeAnswers, MergeTold, ReadsExchange, ReadsMerge, stop_of_merge};
 ghost use Rattle.bug_run.specs.Looks.{ReadsGuarded};
 ghost use Rattle.bug_run.specs.Run.{MergeRequestAnswers, PeerRequestAnswers};
@@ -28,7 +27,7 @@ pub fn exchange<S: Store>(
     ensures answers { PeerRequestAnswers S.tells request.now moment
         (S.history disk.old) (S.history disk.new) result }
     ensures reads { IsTrue S.tells → ReadsGuarded (IsOk result)
-        (ReadsExchange request.now.command request.now.pair (files_of (S.history disk.old))
+        (ReadsExchange request.now.command request.now.pair moment.now (S.history disk.old)
         (IsOk result) (S.object_reads disk.old) (S.object_reads disk.new))
         (S.object_reads disk.old) (S.object_reads disk.new) }
     ensures caused { KeepsFaults S.never_fails S.faults (IsErrOf result Stop.Disk)
@@ -47,8 +46,8 @@ fn exchange_lines<S: Store>(
 ) -> Result<Answer, Stop>
     ensures answers { IsTrue S.tells → ExchangeAnswers request.now.command request.now.pair now
         (S.history disk.old) (S.history disk.new) result }
-    ensures reads { IsTrue S.tells → ReadsExchange request.now.command request.now.pair
-        (files_of (S.history disk.old)) (IsOk result)
+    ensures reads { IsTrue S.tells → ReadsExchange request.now.command request.now.pair now
+        (S.history disk.old) (IsOk result)
         (S.object_reads disk.old) (S.object_reads disk.new) }
     ensures caused { KeepsFaults S.never_fails S.faults (IsErrOf result Stop.Disk)
         disk.old disk.new }
@@ -81,7 +80,7 @@ pub fn merge_tracked<S: Store>(
     ensures answers { MergeRequestAnswers S.tells request.now moment
         (S.history disk.old) (S.history disk.new) result }
     ensures reads { IsTrue S.tells → ReadsGuarded (IsOk result)
-        (ReadsMerge request.now (files_of (S.history disk.old))
+        (ReadsMerge request.now moment.now (S.history disk.old)
         (S.object_reads disk.old) (S.object_reads disk.new))
         (S.object_reads disk.old) (S.object_reads disk.new) }
     ensures caused { KeepsFaults S.never_fails S.faults (IsErrOf result Stop.Disk)
@@ -100,7 +99,7 @@ fn merge_lines<S: Store>(
 ) -> Result<Answer, Stop>
     ensures answers { IsTrue S.tells → MergeTold request.now now
         (S.history disk.old) (S.history disk.new) result }
-    ensures reads { IsTrue S.tells → ReadsMerge request.now (files_of (S.history disk.old))
+    ensures reads { IsTrue S.tells → ReadsMerge request.now now (S.history disk.old)
         (S.object_reads disk.old) (S.object_reads disk.new) }
     ensures caused { KeepsFaults S.never_fails S.faults (IsErrOf result Stop.Disk)
         disk.old disk.new }

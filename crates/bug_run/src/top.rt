@@ -52,8 +52,8 @@ pub fn run<S: Store, K: Sink>(
         (S.history disk.old) (S.history disk.new) }
     ensures sound { IsTrue S.tells → RunStaysSound (asked_of (map string_bytes words.now))
         (S.history disk.old) (S.history disk.new) }
-    ensures reads { IsTrue S.tells → ReadsRun (asked_of (map string_bytes words.now))
-        (files_of (S.history disk.old)) (result ≡ Status.Done) (HasLines result)
+    ensures reads { IsTrue S.tells → ReadsRun (asked_of (map string_bytes words.now)) moment.now
+        (S.history disk.old) (result ≡ Status.Done) (HasLines result)
         (S.object_reads disk.old) (S.object_reads disk.new) }
     ensures disk { KeepsFaults S.never_fails S.faults (result ≡ Status.DiskFault)
         disk.old disk.new }

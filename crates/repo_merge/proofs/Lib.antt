@@ -6,5 +6,6 @@ mod LocalLemmas
 mod MergeLemmas
 mod PersonLemmas
 mod QuietLemmas
+mod ReadingLemmas
 mod TurnLemmas
 mod WordLemmas

@@ -1,15 +1,17 @@
 //! The turns of the bugs.
-ghost use Rattle.std.specs.Prelude.{◌≡◌, IsTrue, IsErrOf, Ok, Some};
+ghost use Rattle.std.specs.Prelude.{◌≡◌, ◌≤◌, ◌+◌, IsTrue, IsErrOf, Ok, Some, length};
 ghost use Rattle.gb_store.specs.Faults.{KeepsFaults};
 ghost use Rattle.gb_store.specs.Files.{files_of};
 ghost use Rattle.object_store.specs.Held.{objects_after};
 ghost use Rattle.bug_ops.specs.Kind.{bug_kind};
-ghost use Rattle.entity_merge.specs.Joins.{PlanAnswers};
+ghost use Rattle.entity_merge.specs.Joins.{PlanAnswers, both_heads};
+ghost use Rattle.entity_merge.specs.Merging.{ReadsAndPuts};
 ghost use Rattle.entity_merge.specs.declared.word.Merged.TheVariants as merged;
 ghost use Rattle.merge_steps.specs.Merging.{BugStops, MergesBug};
 ghost use Rattle.merge_steps.specs.Turns.{EachMerged};
 ghost use Rattle.repo_merge.specs.Heads.{AreLocals, HasHeads, IsLocal};
 ghost use Rattle.repo_merge.specs.Quiet.{AreKnownRefs, IsKnownRef, WasQuiet};
+ghost use Rattle.repo_merge.specs.Reading.{EachBugRead, ReadsBug};
 ghost use Rattle.repo_merge.specs.Turning.{OneBug, new_head, word_outcome};
 ghost use Rattle.repo_state.specs.Clocks.{clock_at};
 ghost use Rattle.repo_state.specs.declared.clocks.ClockFile.TheVariants as file;
@@ -54,6 +56,11 @@ pub fn merge_bugs<S: Store>(
         → AreKnownRefs (files_of (S.history disk.old)) folder.now side.Bugs refs.now
         → WasQuiet (S.history disk.old) (S.history disk.new)
         (S.object_reads disk.old) (S.object_reads disk.new) }
+    ensures reads { IsTrue S.tells
+        → AreLocals (files_of (S.history disk.old)) folder.now side.Bugs locals.now refs.now
+        → EachBugRead folder.now maker.now.user maker.now.authors maker.now.time refs.now
+        (S.history disk.old) (S.history disk.new)
+        (S.object_reads disk.old) (S.object_reads disk.new) result }
     ensures caused { KeepsFaults S.never_fails S.faults (IsErrOf result TurnStop.Disk)
         disk.old disk.new }
 {
@@ -87,6 +94,10 @@ fn merge_bug<S: Store>(
         → IsKnownRef (files_of (S.history disk.old)) folder.now side.Bugs entity.now
         → WasQuiet (S.history disk.old) (S.history disk.new)
         (S.object_reads disk.old) (S.object_reads disk.new) }
+    ensures reads { IsTrue S.tells
+        → IsLocal (files_of (S.history disk.old)) folder.now side.Bugs locals.now entity.now.id
+        → ReadsBug folder.now entity.now (S.history disk.old)
+        (S.object_reads disk.old) (S.object_reads disk.new) }
     ensures caused { KeepsFaults S.never_fails S.faults (IsErrOf result TurnStop.Disk)
         disk.old disk.new }
 {
@@ -108,6 +119,9 @@ fn join_heads<S: Store>(
         result }
     ensures unread { IsTrue S.tells → heads.now.local ≡ Some heads.now.tracked
         → WasQuiet (S.history disk.old) (S.history disk.new)
+        (S.object_reads disk.old) (S.object_reads disk.new) }
+    ensures reads { IsTrue S.tells → ReadsAndPuts (objects_after (S.history disk.old) folder.now)
+        (both_heads heads.now.local heads.now.tracked)
         (S.object_reads disk.old) (S.object_reads disk.new) }
     ensures caused { KeepsFaults S.never_fails S.faults (IsErrOf result TurnStop.Disk)
         disk.old disk.new }
@@ -154,6 +168,8 @@ fn follow<S: Store>(
     ensures unread { IsTrue S.tells → plan.now.merged ≡ merged.Nothing
         → WasQuiet (S.history disk.old) (S.history disk.new)
         (S.object_reads disk.old) (S.object_reads disk.new) }
+    ensures reads { S.object_reads disk.new
+        ≤ S.object_reads disk.old + length plan.now.objects }
     ensures caused { KeepsFaults S.never_fails S.faults (IsErrOf result TurnStop.Disk)
         disk.old disk.new }
 {

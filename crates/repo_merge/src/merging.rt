@@ -4,6 +4,7 @@ ghost use Rattle.gb_store.specs.Faults.{KeepsFaults};
 ghost use Rattle.gb_store.specs.Files.{files_of};
 ghost use Rattle.merge_steps.specs.Turns.{MergeAnswers};
 ghost use Rattle.repo_merge.specs.Quiet.{IsInStep, WasQuiet};
+ghost use Rattle.repo_merge.specs.Reading.{ReadsMerging};
 
 use crate::bugs::merge_bugs;
 use crate::listing::{list_locals, list_tracked};
@@ -20,6 +21,8 @@ use std::alloc::Global;
 /// user, at this time, in seconds since 1970. An entity that has a fault keeps its head, and its line tells
 /// the fault. `Damaged` where a ref of such an entity is no ref text, tracked or local: what was merged
 /// before it stays. Where the local refs have the tracked heads, nothing is written and no object read.
+/// However it answers, the turn of a bug reads at most three objects for each commit below its heads, and
+/// four that are put.
 pub fn merge<S: Store>(
     alloc: Global,
     disk: &mut S,
@@ -32,6 +35,8 @@ pub fn merge<S: Store>(
     ensures unread { IsTrue S.tells
         → IsInStep (files_of (S.history disk.old)) folder.now remote.now
         → WasQuiet (S.history disk.old) (S.history disk.new)
+        (S.object_reads disk.old) (S.object_reads disk.new) }
+    ensures reads { IsTrue S.tells → ReadsMerging folder.now remote.now now (S.history disk.old)
         (S.object_reads disk.old) (S.object_reads disk.new) }
     ensures caused { KeepsFaults S.never_fails S.faults (IsErrOf result MergeStop.Disk)
         disk.old disk.new }

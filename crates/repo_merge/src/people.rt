@@ -1,11 +1,14 @@
 //! The turns of the identities.
-ghost use Rattle.std.specs.Prelude.{◌≡◌, IsTrue, IsErrOf, Some};
+ghost use Rattle.std.specs.Prelude.{◌≡◌, IsTrue, IsErrOf, Some, Ok};
 ghost use Rattle.gb_store.specs.Faults.{KeepsFaults};
 ghost use Rattle.gb_store.specs.Files.{files_of};
+ghost use Rattle.object_store.specs.Held.{objects_after};
 ghost use Rattle.merge_steps.specs.Merging.{MergesPerson, PersonStops};
 ghost use Rattle.merge_steps.specs.Turns.{EachMerged};
+ghost use Rattle.merge_steps.specs.declared.line.MergeOutcome.TheVariants as outcomes;
 ghost use Rattle.repo_merge.specs.Heads.{AreLocals, HasHeads, IsLocal};
 ghost use Rattle.repo_merge.specs.Quiet.{AreKnownRefs, IsKnownRef, WasQuiet};
+ghost use Rattle.repo_merge.specs.Reading.{EachPersonRead, ReadsChains, ReadsPerson};
 ghost use Rattle.repo_merge.specs.Turning.{OnePerson};
 ghost use Rattle.repo_state.specs.declared.refs.EntityRef.{EntityRef as EntityRefValue};
 ghost use Rattle.repo_state.specs.declared.side.Side.{Side as SideValue};
@@ -42,6 +45,10 @@ pub fn merge_people<S: Store>(
         → AreKnownRefs (files_of (S.history disk.old)) folder.now side.Identities refs.now
         → WasQuiet (S.history disk.old) (S.history disk.new)
         (S.object_reads disk.old) (S.object_reads disk.new) }
+    ensures reads { IsTrue S.tells
+        → AreLocals (files_of (S.history disk.old)) folder.now side.Identities locals.now refs.now
+        → EachPersonRead folder.now refs.now (S.history disk.old) (S.history disk.new)
+        (S.object_reads disk.old) (S.object_reads disk.new) result }
     ensures caused { KeepsFaults S.never_fails S.faults (IsErrOf result TurnStop.Disk)
         disk.old disk.new }
 {
@@ -74,6 +81,10 @@ fn merge_person<S: Store>(
         → IsKnownRef (files_of (S.history disk.old)) folder.now side.Identities entity.now
         → WasQuiet (S.history disk.old) (S.history disk.new)
         (S.object_reads disk.old) (S.object_reads disk.new) }
+    ensures reads { IsTrue S.tells
+        → IsLocal (files_of (S.history disk.old)) folder.now side.Identities locals.now entity.now.id
+        → ReadsPerson folder.now (result ≡ Ok outcomes.New) entity.now (S.history disk.old)
+        (S.object_reads disk.old) (S.object_reads disk.new) }
     ensures caused { KeepsFaults S.never_fails S.faults (IsErrOf result TurnStop.Disk)
         disk.old disk.new }
 {
@@ -93,6 +104,9 @@ fn advance_person<S: Store>(
         → OnePerson folder.now tracked entity (S.history disk.old) (S.history disk.new) result }
     ensures unread { IsTrue S.tells → heads.now.local ≡ Some heads.now.tracked
         → WasQuiet (S.history disk.old) (S.history disk.new)
+        (S.object_reads disk.old) (S.object_reads disk.new) }
+    ensures reads { IsTrue S.tells → ReadsChains (objects_after (S.history disk.old) folder.now)
+        heads.now.local heads.now.tracked (result ≡ Ok outcomes.New)
         (S.object_reads disk.old) (S.object_reads disk.new) }
     ensures caused { KeepsFaults S.never_fails S.faults (IsErrOf result TurnStop.Disk)
         disk.old disk.new }

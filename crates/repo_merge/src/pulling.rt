@@ -4,6 +4,7 @@ ghost use Rattle.gb_store.specs.Faults.{KeepsFaults};
 ghost use Rattle.gb_store.specs.Files.{files_of};
 ghost use Rattle.merge_steps.specs.Pulling.{PullAnswers};
 ghost use Rattle.repo_merge.specs.Quiet.{IsInStep, WasQuiet};
+ghost use Rattle.repo_merge.specs.Reading.{ReadsPulling};
 ghost use Rattle.sync_steps.specs.Quiet.{NothingToFetch};
 
 use crate::merging::merge;
@@ -32,6 +33,8 @@ pub fn pull<S: Store>(
         → IsInStep (files_of (S.history disk.old)) pair.now.own remote.now
         → IfOk result (λ pulled. WasQuiet (S.history disk.old) (S.history disk.new)
         (S.object_reads disk.old) (S.object_reads disk.new)) }
+    ensures reads { IsTrue S.tells → ReadsPulling pair.now.own pair.now.peer remote.now now
+        (S.history disk.old) (S.object_reads disk.old) (S.object_reads disk.new) }
     ensures caused { KeepsFaults S.never_fails S.faults (IsErrOf result MergeStop.Disk)
         disk.old disk.new }
 {

@@ -1,5 +1,5 @@
 //! The writes that give a bug a head.
-ghost use Rattle.std.specs.Prelude.{◌≡◌, ◌++◌, IsTrue, IfOk, IsErrOf};
+ghost use Rattle.std.specs.Prelude.{◌≡◌, ◌≤◌, ◌+◌, ◌++◌, IsTrue, IfOk, IsErrOf, length};
 ghost use Rattle.gb_store.specs.Faults.{KeepsFaults};
 ghost use Rattle.gb_store.specs.Files.{files_of};
 ghost use Rattle.repo_merge.specs.Giving.{GiveAnswers, WritesAnswers};
@@ -30,6 +30,8 @@ pub fn give_head<S: Store>(
         → seen ≡ clock_at (files_of (S.history disk.old)) folder.now file.BugsEdit
         → GiveAnswers folder.now id.now head.now plan.now
         (S.history disk.old) (S.history disk.new) result }
+    ensures reads { S.object_reads disk.new
+        ≤ S.object_reads disk.old + length plan.now.objects }
     ensures caused { KeepsFaults S.never_fails S.faults (IsErrOf result TurnStop.Disk)
         disk.old disk.new }
 {
@@ -52,6 +54,8 @@ fn head_writes<S: Store>(
         → seen ≡ clock_at (files_of (S.history disk.old)) folder.now file.BugsEdit
         → WritesAnswers folder.now id.now head.now plan.now (S.history disk.old) result }
     ensures unwritten { IsTrue S.tells → S.history disk.new ≡ S.history disk.old }
+    ensures reads { S.object_reads disk.new
+        ≤ S.object_reads disk.old + length plan.now.objects }
     ensures caused { KeepsFaults S.never_fails S.faults (IsErrOf result TurnStop.Disk)
         disk.old disk.new }
 {

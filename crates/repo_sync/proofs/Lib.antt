@@ -1,4 +1,5 @@
 mod ExchangeLemmas
 mod ListedLemmas
+pub mod ReadingLemmas
 mod StepLemmas
 mod TurnLemmas

@@ -2,6 +2,8 @@
 ghost use Rattle.std.specs.Prelude.{IsTrue, IsErrOf};
 ghost use Rattle.gb_text.specs.Overlap.{Overlap};
 ghost use Rattle.gb_store.specs.Faults.{KeepsFaults};
+ghost use Rattle.object_store.specs.Held.{objects_after};
+ghost use Rattle.remote_copy.specs.Copies.{ReadsEach};
 ghost use Rattle.sync_steps.specs.Carrying.{CarryAnswers, CauseAnswers};
 
 use gb_store::{Store, StoreFault};
@@ -26,6 +28,9 @@ pub fn carry<S: Store>(
     requires { Overlap source.now target.now → ⊥ }
     ensures answers { IsTrue S.tells → CarryAnswers closed source.now target.now to.now head.now
         (S.history disk.old) (S.history disk.new) result }
+    ensures reads { IsTrue S.tells → ReadsEach closed (objects_after (S.history disk.old) source.now)
+        (objects_after (S.history disk.old) target.now) head.now.name
+        (S.object_reads disk.old) (S.object_reads disk.new) }
     ensures caused { KeepsFaults S.never_fails S.faults (IsErrOf result StoreFault.Failed)
         disk.old disk.new }
 {

@@ -3,9 +3,10 @@ ghost use Rattle.std.specs.Prelude.{◌≡◌, IsTrue, IsErrOf, IfOk, OnOk, true
 ghost use Rattle.gb_store.specs.Faults.{KeepsFaults};
 ghost use Rattle.gb_store.specs.Files.{files_of};
 ghost use Rattle.listed_refs.specs.AsListed.{AreAsListed, IsAsListed};
+ghost use Rattle.repo_sync.specs.Reading.{EachRead, FetchRead, ReadsFetch, ReadsFetching};
 ghost use Rattle.sync_steps.specs.Fetching.{FetchAnswers, FetchStops, Fetches, OneFetched};
 ghost use Rattle.sync_steps.specs.Lines.{are_quiet, is_quiet};
-ghost use Rattle.sync_steps.specs.Turns.{AddsLines, EachAnswers};
+ghost use Rattle.sync_steps.specs.Turns.{AddsLines, EachAnswers, Turn};
 ghost use Rattle.sync_steps.specs.declared.line.Exchange.TheVariants as verb;
 
 use crate::carry::carry;
@@ -32,6 +33,9 @@ pub fn fetch<S: Store>(
         (S.history disk.old) (S.history disk.new) result }
     ensures unread { IfOk result (λ lines. are_quiet lines ≡ true
         → S.object_reads disk.new ≡ S.object_reads disk.old) }
+    ensures reads { IsTrue S.tells → ReadsFetching pair.now.own pair.now.peer remote.now
+        (S.history disk.old) (S.history disk.new)
+        (S.object_reads disk.old) (S.object_reads disk.new) result }
     ensures caused { KeepsFaults S.never_fails S.faults (IsErrOf result ReadStop.Disk)
         disk.old disk.new }
 {
@@ -78,6 +82,13 @@ fn fetch_each<S: Store>(
         lines.old.items lines.new.items (S.history disk.old) (S.history disk.new) result }
     ensures unread { OnOk result (AddsLines lines.old.items lines.new.items
         (S.object_reads disk.old) (S.object_reads disk.new)) }
+    ensures reads { IsTrue S.tells
+        → AreAsListed (files_of (S.history disk.old)) pair.now.own seen.now refs.now
+        → EachRead (λ (turn : Turn). turn.entity)
+        (FetchRead pair.now.own pair.now.peer seen.now.side)
+        (ReadsFetch pair.now.own pair.now.peer) refs.now
+        (S.history disk.old) (S.history disk.new)
+        (S.object_reads disk.old) (S.object_reads disk.new) result }
     ensures caused { KeepsFaults S.never_fails S.faults (IsErrOf result ReadStop.Disk)
         disk.old disk.new }
 {
@@ -107,6 +118,8 @@ fn fetch_one<S: Store>(
         (S.history disk.old) (S.history disk.new) result }
     ensures unread { IfOk result (λ outcome. is_quiet outcome ≡ true
         → S.object_reads disk.new ≡ S.object_reads disk.old) }
+    ensures reads { IsTrue S.tells → ReadsFetch pair.now.own pair.now.peer entity.now
+        (S.history disk.old) (S.object_reads disk.old) (S.object_reads disk.new) }
     ensures caused { KeepsFaults S.never_fails S.faults (IsErrOf result ReadStop.Disk)
         disk.old disk.new }
 {

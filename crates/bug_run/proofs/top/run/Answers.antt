@@ -54,7 +54,7 @@ returns-in-Request-clause-reads g c = λ tells.
     let after = g.S.Store.object_reads c.perform-outcome.new.disk in
     let was_ok = done_was_ok g.K.Sink.tells g.K.Sink.takes_memory (g.K.Sink.written c.args.out.now) (g.K.Sink.written c.tell.new.out) c.perform-outcome.result c.tell.result c.tell.ensures.answers in
     let had_lines = lines_were_ok g.K.Sink.tells g.K.Sink.takes_memory (g.K.Sink.written c.args.out.now) (g.K.Sink.written c.tell.new.out) c.perform-outcome.result c.tell.result c.tell.ensures.answers in
-    subst (λ (asks : Asked). ReadsRun asks files (c.tell.result ≡ status.Done) (HasLines c.tell.result) before after) (sym is)
+    subst (λ (asks : Asked). ReadsRun asks c.args.moment.now (g.S.Store.history c.args.disk.now) (c.tell.result ≡ status.Done) (HasLines c.tell.result) before after) (sym is)
     (reads_less (IsOk c.perform-outcome.result) (HasLines c.tell.result) (ReadsCommand files request.folder request.command (IsOk c.perform-outcome.result) before after)
     (ReadsCommand files request.folder request.command (c.tell.result ≡ status.Done) before after) before after had_lines
     (command_narrower files request.folder request.command (IsOk c.perform-outcome.result) (c.tell.result ≡ status.Done) before after was_ok) (c.perform-outcome.ensures.reads tells))
@@ -90,14 +90,13 @@ pub returns-in-Exchange-clause-reads : goal.returns-in-Exchange-clause-reads
 returns-in-Exchange-clause-reads g c = λ tells.
     let request = c.in-Exchange.request in
     let is : asked_of (map string_bytes c.args.words.now) ≡ asked.Exchange request = search rules in
-    let files = files_of (g.S.Store.history c.args.disk.now) in
     let before = g.S.Store.object_reads c.args.disk.now in
     let after = g.S.Store.object_reads c.exchange-outcome.new.disk in
     let was_ok = lines_were_ok g.K.Sink.tells g.K.Sink.takes_memory (g.K.Sink.written c.args.out.now) (g.K.Sink.written c.tell-in-Exchange.new.out) c.exchange-outcome.result c.tell-in-Exchange.result c.tell-in-Exchange.ensures.answers in
-    subst (λ (asks : Asked). ReadsRun asks files (c.tell-in-Exchange.result ≡ status.Done) (HasLines c.tell-in-Exchange.result) before after) (sym is)
-    (reads_less (IsOk c.exchange-outcome.result) (HasLines c.tell-in-Exchange.result) (ReadsExchange request.command request.pair files (IsOk c.exchange-outcome.result) before after)
-    (ReadsExchange request.command request.pair files (HasLines c.tell-in-Exchange.result) before after) before after was_ok
-    (exchange_narrower request.command request.pair files (IsOk c.exchange-outcome.result) (HasLines c.tell-in-Exchange.result) before after was_ok) (c.exchange-outcome.ensures.reads tells))
+    subst (λ (asks : Asked). ReadsRun asks c.args.moment.now (g.S.Store.history c.args.disk.now) (c.tell-in-Exchange.result ≡ status.Done) (HasLines c.tell-in-Exchange.result) before after) (sym is)
+    (reads_less (IsOk c.exchange-outcome.result) (HasLines c.tell-in-Exchange.result) (ReadsExchange request.command request.pair c.args.moment.now (g.S.Store.history c.args.disk.now) (IsOk c.exchange-outcome.result) before after)
+    (ReadsExchange request.command request.pair c.args.moment.now (g.S.Store.history c.args.disk.now) (HasLines c.tell-in-Exchange.result) before after) before after was_ok
+    (exchange_narrower request.command request.pair c.args.moment.now (g.S.Store.history c.args.disk.now) (IsOk c.exchange-outcome.result) (HasLines c.tell-in-Exchange.result) before after was_ok) (c.exchange-outcome.ensures.reads tells))
 
 pub returns-in-Merge-clause-answers : goal.returns-in-Merge-clause-answers
 returns-in-Merge-clause-answers g c =
@@ -129,12 +128,11 @@ returns-in-Merge-clause-sound g c = λ tells.
 pub returns-in-Merge-clause-reads : goal.returns-in-Merge-clause-reads
 returns-in-Merge-clause-reads g c = λ tells.
     let is : asked_of (map string_bytes c.args.words.now) ≡ asked.Merge c.in-Merge.request = search rules in
-    let files = files_of (g.S.Store.history c.args.disk.now) in
     let before = g.S.Store.object_reads c.args.disk.now in
     let after = g.S.Store.object_reads c.merge_tracked-outcome.new.disk in
     let was_ok = lines_were_ok g.K.Sink.tells g.K.Sink.takes_memory (g.K.Sink.written c.args.out.now) (g.K.Sink.written c.tell-in-Merge.new.out) c.merge_tracked-outcome.result c.tell-in-Merge.result c.tell-in-Merge.ensures.answers in
-    let Reads = ReadsMerge c.in-Merge.request files before after in
-    subst (λ (asks : Asked). ReadsRun asks files (c.tell-in-Merge.result ≡ status.Done) (HasLines c.tell-in-Merge.result) before after) (sym is)
+    let Reads = ReadsMerge c.in-Merge.request c.args.moment.now (g.S.Store.history c.args.disk.now) before after in
+    subst (λ (asks : Asked). ReadsRun asks c.args.moment.now (g.S.Store.history c.args.disk.now) (c.tell-in-Merge.result ≡ status.Done) (HasLines c.tell-in-Merge.result) before after) (sym is)
     (reads_less (IsOk c.merge_tracked-outcome.result) (HasLines c.tell-in-Merge.result) Reads Reads before after was_ok (λ reads. reads) (c.merge_tracked-outcome.ensures.reads tells))
 
 pub returns-in-List-clause-answers : goal.returns-in-List-clause-answers
@@ -172,7 +170,7 @@ returns-in-List-clause-reads g c = λ tells.
     let after = g.S.Store.object_reads c.list-outcome.new.disk in
     let was_ok = lines_were_ok g.K.Sink.tells g.K.Sink.takes_memory (g.K.Sink.written c.args.out.now) (g.K.Sink.written c.tell-in-List.new.out) c.list-outcome.result c.tell-in-List.result c.tell-in-List.ensures.answers in
     let Reads = ReadsList files c.in-List.request.folder before after in
-    subst (λ (asks : Asked). ReadsRun asks files (c.tell-in-List.result ≡ status.Done) (HasLines c.tell-in-List.result) before after) (sym is)
+    subst (λ (asks : Asked). ReadsRun asks c.args.moment.now (g.S.Store.history c.args.disk.now) (c.tell-in-List.result ≡ status.Done) (HasLines c.tell-in-List.result) before after) (sym is)
     (reads_less (IsOk c.list-outcome.result) (HasLines c.tell-in-List.result) Reads Reads before after was_ok (λ reads. reads) (c.list-outcome.ensures.reads tells))
 
 pub returns-in-Refused-clause-answers : goal.returns-in-Refused-clause-answers

@@ -7,6 +7,7 @@ use Rattle.merge_steps.specs.Turns.{WentOn}
 use Rattle.sync_steps.specs.declared.line.EntityWord.TheVariants as word
 use Rattle.repo_merge.specs.Heads.{AreLocals}
 use Rattle.repo_merge.specs.Quiet.{AreKnownRefs, WasQuiet}
+use Rattle.repo_merge.specs.Reading.{AllPeopleRead}
 use Rattle.repo_merge.proofs.people.merge_people.Given as goal
 
 abbrev pub invariant-loop-entity : goal.invariant-loop-entity
@@ -15,5 +16,7 @@ invariant-loop-entity g l = record {
       → WentOn (MergesPerson l.folder) word.Identity (take l.entity-index l.refs) l.fn.lines.items l.lines.items (g.S.Store.history l.fn.disk) (g.S.Store.history l.disk);
   quiet : IsTrue g.S.Store.tells → AreLocals (files_of (g.S.Store.history l.fn.disk)) l.folder side.Identities l.locals l.refs → AreKnownRefs (files_of (g.S.Store.history l.fn.disk)) l.folder side.Identities l.refs
       → WasQuiet (g.S.Store.history l.fn.disk) (g.S.Store.history l.disk) (g.S.Store.object_reads l.fn.disk) (g.S.Store.object_reads l.disk);
+  read : IsTrue g.S.Store.tells → AreLocals (files_of (g.S.Store.history l.fn.disk)) l.folder side.Identities l.locals l.refs
+      → AllPeopleRead l.folder (take l.entity-index l.refs) (g.S.Store.history l.fn.disk) (g.S.Store.history l.disk) (g.S.Store.object_reads l.fn.disk) (g.S.Store.object_reads l.disk);
   caused : KeepsFaults g.S.Store.never_fails g.S.Store.faults ⊥ l.fn.disk l.disk;
 }

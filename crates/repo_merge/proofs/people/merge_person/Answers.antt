@@ -1,4 +1,4 @@
-use Rattle.std.proofs.Common.{rules, ◌≡◌, Err, refl, sym, subst}
+use Rattle.std.proofs.Common.{rules, ◌≡◌, arith, Err, inl, inr, refl, sym, subst}
 use Rattle.gb_store.specs.Files.{files_of}
 use Rattle.repo_state.specs.declared.side.Side.TheVariants as side
 use Rattle.repo_merge.specs.Turning.{OnePerson}
@@ -25,3 +25,10 @@ returns-clause-unread g c = λ tells here known.
     let old = g.S.Store.history c.args.disk.now in
     let a = c.args in
     c.advance_person.ensures.unread tells (known_heads (files_of old) a.folder.now side.Identities a.entity.now c.in_ok-heads.heads (c.in_ok-heads.ensures.answers side.Identities old here) known)
+
+pub returns-in_err-heads-clause-reads : goal.returns-in_err-heads-clause-reads
+returns-in_err-heads-clause-reads g c = λ tells here. inl (omega arith)
+
+pub returns-clause-reads : goal.returns-clause-reads
+returns-clause-reads g c = λ tells here.
+    inr (c.in_ok-heads.heads, c.in_ok-heads.ensures.answers side.Identities (g.S.Store.history c.args.disk.now) here, c.advance_person.ensures.reads tells)

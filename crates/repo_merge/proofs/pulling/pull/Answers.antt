@@ -7,6 +7,7 @@ use Rattle.sync_steps.specs.Quiet.{NothingToFetch}
 use Rattle.sync_steps.proofs.QuietLemmas.{fetch_quiet}
 use Rattle.repo_merge.specs.Quiet.{IsInStep}
 use Rattle.repo_merge.proofs.QuietLemmas.{WasQuiet-then, was_quiet}
+use Rattle.repo_merge.proofs.ReadingLemmas.{reads_in_fetch, reads_in_merge}
 use Rattle.repo_merge.proofs.pulling.pull.Goals as goal
 
 pub returns-in_err-fetched-clause-answers : goal.returns-in_err-fetched-clause-answers
@@ -57,3 +58,27 @@ returns-clause-unread g c = λ tells nothing step.
     (was_quiet one mid (reads c.user.new.disk) (reads c.fetch.new.disk) quiet.1 (c.in_ok-fetched.ensures.unread quiet.0)) in
     let step_then = subst (λ (h : History). IsInStep (files_of h) pair.own remote) (sym first.same) step in
     WasQuiet-then old mid (history c.merge.new.disk) (reads c.args.disk.now) (reads c.fetch.new.disk) (reads c.merge.new.disk) first (c.merge.ensures.unread tells step_then)
+
+pub returns-in_err-fetched-clause-reads : goal.returns-in_err-fetched-clause-reads
+returns-in_err-fetched-clause-reads g c = λ tells.
+    let history = g.S.Store.history in
+    let reads = g.S.Store.object_reads in
+    let pair = c.args.pair.now in
+    reads_in_fetch pair.own pair.peer c.args.remote.now c.args.now (history c.args.disk.now) (history c.user.new.disk) (history c.fetch.new.disk) (c.user.ensures.unwritten tells)
+    (reads c.args.disk.now) (reads c.user.new.disk) c.user.ensures.reads (reads c.fetch.new.disk) (c.in_err-fetched.ensures.reads tells)
+
+pub returns-in_err-merged-clause-reads : goal.returns-in_err-merged-clause-reads
+returns-in_err-merged-clause-reads g c = λ tells.
+    let history = g.S.Store.history in
+    let reads = g.S.Store.object_reads in
+    let pair = c.args.pair.now in
+    reads_in_merge pair.own pair.peer c.args.remote.now c.args.now (history c.args.disk.now) (history c.user.new.disk) (history c.fetch.new.disk) (c.user.ensures.unwritten tells)
+    (reads c.args.disk.now) (reads c.user.new.disk) c.user.ensures.reads (reads c.fetch.new.disk) (reads c.merge.new.disk) (c.in_ok-fetched.ensures.reads tells) (c.merge.ensures.reads tells)
+
+pub returns-clause-reads : goal.returns-clause-reads
+returns-clause-reads g c = λ tells.
+    let history = g.S.Store.history in
+    let reads = g.S.Store.object_reads in
+    let pair = c.args.pair.now in
+    reads_in_merge pair.own pair.peer c.args.remote.now c.args.now (history c.args.disk.now) (history c.user.new.disk) (history c.fetch.new.disk) (c.user.ensures.unwritten tells)
+    (reads c.args.disk.now) (reads c.user.new.disk) c.user.ensures.reads (reads c.fetch.new.disk) (reads c.merge.new.disk) (c.in_ok-fetched.ensures.reads tells) (c.merge.ensures.reads tells)
