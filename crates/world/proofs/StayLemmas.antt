@@ -1,5 +1,6 @@
--- The command of an event stays among the folders of its world.
+-- The command of an event is among the folders of its world.
 use Rattle.std.proofs.Common.{◌≡◌, ◌≤◌, ◌<◌, ◌∙◌, ◌⊎◌, inl, inr, refl, sym, ap, subst, ℕ, Bool, true, false, List, [], ◌∷◌, Contains, arith, codes, IsSome, Option, Some, None, Result, Ok, Err}
+use Rattle.std.specs.Prelude.{⊤}
 use Rattle.std.specs.Option.{option_map}
 use Rattle.gb_text.specs.Digits.{IsId}
 use Rattle.gb_text.specs.Folder.{folder_of}
@@ -8,6 +9,8 @@ use Rattle.bug_run.specs.Runs.{StaysAmong}
 use Rattle.words.specs.Overlaps.{overlaps}
 use Rattle.words.specs.Pairs.{pair_by}
 use Rattle.words.specs.Words.{asked_by, asked_in, asked_of, command_of, exchange_in, exchange_of, list_command_of, merge_command_of, peer_command_of}
+use Rattle.words.specs.declared.words.Asked.{Asked}
+use Rattle.words.specs.declared.words.Asked.TheVariants as asked
 use Rattle.words.specs.declared.words.Command.{Command}
 use Rattle.words.specs.declared.words.PeerCommand.{PeerCommand}
 use Rattle.words.specs.declared.words.PeerCommand.TheVariants as peer_command
@@ -22,25 +25,46 @@ use Rattle.world_events.specs.declared.act.Act.{Act}
 use Rattle.world_events.specs.declared.act.Act.TheVariants.{UserNew, NewBug, Comment, Title, Edit, Close, Reopen, LabelAdd, LabelRm, Noop, PackRefs, Pull, Push}
 use Rattle.world_events.specs.declared.event.Event.{Event}
 
+-- what arguments ask is in these folders, and each peer is one of them
+abbrev pub IsAskedAmong : List (List ℕ) → Asked → Type 0
+IsAskedAmong folders asked.Nothing = ⊤
+IsAskedAmong folders (asked.Refused bad) = ⊤
+IsAskedAmong folders (asked.Request request) = Contains folders request.folder
+IsAskedAmong folders (asked.Exchange request) = Contains folders request.pair.own × Contains folders request.pair.peer
+IsAskedAmong folders (asked.Merge request) = Contains folders request.folder
+IsAskedAmong folders (asked.List request) = Contains folders request.folder
+
+-- so it stays among them
+pub stays_among : (folders : List (List ℕ)) (asks : Asked) → IsAskedAmong folders asks → StaysAmong folders asks
+stays_among folders asked.Nothing among = tt
+stays_among folders (asked.Refused bad) among = tt
+stays_among folders (asked.Request request) among = inl among
+stays_among folders (asked.Exchange request) among = exchange_stays request.command
+  where
+    exchange_stays : (command : PeerCommand) → StaysAmong folders (asked.Exchange (record { pair = request.pair; command = command }))
+    exchange_stays (peer_command.Fetch remote) = (inl among.0, λ push other. among.0)
+    exchange_stays (peer_command.Pull remote) = (inl among.0, λ push other. among.0)
+    exchange_stays peer_command.Push = (inl among.1, λ push other. among.0)
+stays_among folders (asked.Merge request) among = inl among
+stays_among folders (asked.List request) among = inl among
+
 -- a folder, if there is one, is one of these
 abbrev IsOneOf : List (List ℕ) → Option (List ℕ) → Type 0
 IsOneOf folders folder = (path : List ℕ) → folder ≡ Some path → Contains folders path
 
-in_folder : (folders : List (List ℕ)) (folder : Option (List ℕ)) (read : Result Command ℕ) → IsOneOf folders folder → StaysAmong folders (asked_in folder read)
+in_folder : (folders : List (List ℕ)) (folder : Option (List ℕ)) (read : Result Command ℕ) → IsOneOf folders folder → IsAskedAmong folders (asked_in folder read)
 in_folder folders None read one = tt
 in_folder folders (Some folder) (Err place) one = tt
-in_folder folders (Some folder) (Ok command) one = inl (one folder refl)
+in_folder folders (Some folder) (Ok command) one = one folder refl
 
 of_pair : (folders : List (List ℕ)) (own peer : List ℕ) (is : Bool) (e : overlaps own peer ≡ is) (command : Option PeerCommand) → Contains folders own → Contains folders peer
-    → StaysAmong folders (exchange_of (pair_by own peer is e) command)
+    → IsAskedAmong folders (exchange_of (pair_by own peer is e) command)
 of_pair folders own peer true e command one two = tt
 of_pair folders own peer false e None one two = tt
-of_pair folders own peer false e (Some (peer_command.Fetch remote)) one two = (inl one, λ push other. one)
-of_pair folders own peer false e (Some (peer_command.Pull remote)) one two = (inl one, λ push other. one)
-of_pair folders own peer false e (Some peer_command.Push) one two = (inl two, λ push other. one)
+of_pair folders own peer false e (Some command) one two = (one, two)
 
 in_folders : (folders : List (List ℕ)) (own peer : Option (List ℕ)) (command : Option PeerCommand) → IsOneOf folders own → IsOneOf folders peer
-    → StaysAmong folders (exchange_in own peer command)
+    → IsAskedAmong folders (exchange_in own peer command)
 in_folders folders None peer command one two = tt
 in_folders folders (Some own) None command one two = tt
 in_folders folders (Some own) (Some peer) command one two = of_pair folders own peer (overlaps own peer) refl command (one own refl) (two peer refl)
@@ -56,7 +80,7 @@ IsPeerOf folders given = (p : List ℕ × Option PeerCommand) → given ≡ Some
 
 by_command : (folders : List (List ℕ)) (folder : Option (List ℕ)) (command : Option (Result Command ℕ)) (p : Option (List ℕ × Option PeerCommand)) (name : List ℕ) (words : List (List ℕ))
     → IsOneOf folders folder → ((q : List ℕ × Option PeerCommand) → p ≡ Some q → IsOneOf folders (folder_of q.0)) → IsSome command ⊎ ((command ≡ None) × IsSome p)
-    → StaysAmong folders (asked_by folder command p (merge_command_of name words) (list_command_of name words))
+    → IsAskedAmong folders (asked_by folder command p (merge_command_of name words) (list_command_of name words))
 by_command folders folder (Some read) p name words one two some = in_folder folders folder read one
 by_command folders folder None (Some q) name words one two some = in_folders folders folder (folder_of q.0) q.1 one (two q refl)
 by_command folders folder None None name words one two (inl some) = cc some
@@ -74,10 +98,10 @@ module _ (folders : ℕ) (most : folders ≤ 16) where
       let found = peers q is in
       subst (λ (word : List ℕ). IsOneOf (world_folders folders) (folder_of word)) (sym found.2) (one_of found.0 found.1)
 
-  stays : (folder : ℕ) (name : List ℕ) (words : List (List ℕ)) → folder < folders → Asks name words → IsPeerOf folders (peer_command_of name words)
-      → StaysAmong (world_folders folders) (asked_of (folder_word folder ∷ name ∷ words))
-  stays folder name words below (plain, some) peers =
-      subst (StaysAmong (world_folders folders)) (sym (asked_with (folder_word folder) name words words (all_plain words plain)))
+  asks_among : (folder : ℕ) (name : List ℕ) (words : List (List ℕ)) → folder < folders → Asks name words → IsPeerOf folders (peer_command_of name words)
+      → IsAskedAmong (world_folders folders) (asked_of (folder_word folder ∷ name ∷ words))
+  asks_among folder name words below (plain, some) peers =
+      subst (IsAskedAmong (world_folders folders)) (sym (asked_with (folder_word folder) name words words (all_plain words plain)))
       (by_command (world_folders folders) (folder_of (folder_word folder)) (command_of name words) (peer_command_of name words) name words
       (one_of folder below) (peer_of (peer_command_of name words) peers) some)
 
@@ -106,14 +130,14 @@ module _ (folders : ℕ) (most : folders ≤ 16) where
       let given : peer_command_of (codes "push") (folder_word peer ∷ []) ≡ Some p = ap (peer_command_of (codes "push")) same ∙ is in
       (peer, within.below, sym (ap (λ (o : Option (List ℕ × Option PeerCommand)). first_of o) given))
 
-  pub event_stays : (event : Event) (bugs : List Id) (words : List (List ℕ)) → IsWithin folders event → ((id : Id) → Contains bugs id → IsId id) → words_of event bugs ≡ Some words
-      → StaysAmong (world_folders folders) (asked_of words)
-  event_stays event bugs words within ids are = by (arguments_for event.act event.folder event.number bugs) refl are
+  pub event_asks_among : (event : Event) (bugs : List Id) (words : List (List ℕ)) → IsWithin folders event → ((id : Id) → Contains bugs id → IsId id) → words_of event bugs ≡ Some words
+      → IsAskedAmong (world_folders folders) (asked_of words)
+  event_asks_among event bugs words within ids are = by (arguments_for event.act event.folder event.number bugs) refl are
     where
-      by : (o : Option (List (List ℕ))) → arguments_for event.act event.folder event.number bugs ≡ o → option_map (words_from event) o ≡ Some words → StaysAmong (world_folders folders) (asked_of words)
+      by : (o : Option (List (List ℕ))) → arguments_for event.act event.folder event.number bugs ≡ o → option_map (words_from event) o ≡ Some words → IsAskedAmong (world_folders folders) (asked_of words)
       by None is e = cc e
       by (Some arguments) is e =
           let same : words_from event arguments ≡ words = cc e in
-          subst (λ (ws : List (List ℕ)). StaysAmong (world_folders folders) (asked_of ws)) same
-          (stays event.folder (verb_of event.act) arguments within.folder (event_arguments_ask event bugs arguments ids is)
+          subst (λ (ws : List (List ℕ)). IsAskedAmong (world_folders folders) (asked_of ws)) same
+          (asks_among event.folder (verb_of event.act) arguments within.folder (event_arguments_ask event bugs arguments ids is)
           (peers event.act event.folder event.number bugs arguments within.peer is))

@@ -2,3 +2,4 @@ pub mod DrawLemmas
 pub mod ExchangeLemmas
 pub mod PeerLemmas
 pub mod SeedLemmas
+pub mod WithinLemmas

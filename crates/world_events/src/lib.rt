@@ -9,6 +9,7 @@ mod exchange;
 mod generator;
 mod laws;
 mod texts;
+mod within;
 mod words;
 
 pub use act::Act;
@@ -17,4 +18,5 @@ pub use exchange::exchange_events;
 pub use generator::generate;
 pub use laws::seeds_have_their_own_inputs;
 pub use texts::folder_word;
+pub use within::are_within;
 pub use words::event_words;

@@ -1,5 +1,9 @@
-//! Tests of what is printed of the world that arguments ask for.
+//! Tests of worlds: events that are played, stopped and exchanged, and what is printed of them.
 #![tactic(auto)]
 
 #[cfg(test)]
+mod events;
+#[cfg(test)]
 mod printed;
+#[cfg(test)]
+mod stops;
