@@ -1,0 +1,12 @@
+pub mod AddedLemmas
+pub mod ApartLemmas
+pub mod EditLemmas
+pub mod HoldLemmas
+pub mod MergeLemmas
+pub mod OnceLemmas
+pub mod PullLemmas
+pub mod RunLemmas
+pub mod SeenLemmas
+pub mod StopLemmas
+pub mod TurnLemmas
+pub mod WholeLemmas
