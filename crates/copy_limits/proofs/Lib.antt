@@ -1,0 +1,12 @@
+pub mod FetchLemmas
+pub mod FlatLemmas
+pub mod FlatStayLemmas
+pub mod GrewLemmas
+pub mod MadeLemmas
+pub mod NamedLemmas
+pub mod PullLemmas
+pub mod PushLemmas
+pub mod RingLemmas
+pub mod SoundLemmas
+pub mod TurnLemmas
+pub mod WholeLemmas
