@@ -1,0 +1,5 @@
+pub mod CleanLemmas
+pub mod FreshLemmas
+pub mod MadeLemmas
+pub mod NameLemmas
+pub mod OnceLemmas
