@@ -1,0 +1,3 @@
+pub mod MergeLemmas
+pub mod FetchLemmas
+pub mod PullLemmas
