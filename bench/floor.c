@@ -6,6 +6,11 @@
 // The floor of an exchange of nothing new: opens, reads and closes each file whose path stands in a line of NAMES.
 //
 //     floor --files NAMES
+//
+// The floor of a list without stored rows: opens, reads and hashes each object whose path stands in a line of NAMES, and puts
+// a file of 256 bytes into FOLDER for each line of ROWS: under another name, synced and renamed.
+//
+//     floor --list NAMES ROWS FOLDER
 
 #include <fcntl.h>
 #include <stdint.h>
@@ -118,18 +123,47 @@ static char *entry(const char *front) {
     return at;
 }
 
-static void read_files(const char *names) {
+// Does this with each line of a file.
+static void each_line(const char *names, void (*act)(const char *line)) {
     read_file(names);
     char *all = strdup((const char *)text);
     if (!all)
         fail("no memory");
     for (char *name = strtok(all, "\n"); name; name = strtok(NULL, "\n"))
-        read_file(name);
+        act(name);
+    free(all);
+}
+
+static void hash_file(const char *name) {
+    char digits[DIGITS];
+    read_file(name);
+    hash(digits);
+    if (memcmp(digits + 2, name + strlen(name) - (DIGITS - 2), DIGITS - 2) != 0)
+        fail("an object has another SHA-1");
+}
+
+// The folder of rows.
+static const char *rows;
+
+static void put_row(const char *name) {
+    static const char row[256];
+    char other[8192], own[8192];
+    snprintf(other, sizeof other, "%s/new", rows);
+    snprintf(own, sizeof own, "%s/%s", rows, name);
+    int file = open(other, O_WRONLY | O_CREAT | O_TRUNC | O_CLOEXEC, 0666);
+    if (file < 0 || write(file, row, sizeof row) != sizeof row || fsync(file) || close(file) || rename(other, own))
+        fail("a row cannot be written");
 }
 
 int main(int argc, char **argv) {
     if (argc == 3 && strcmp(argv[1], "--files") == 0) {
-        read_files(argv[2]);
+        each_line(argv[2], read_file);
+        return 0;
+    }
+    if (argc == 5 && strcmp(argv[1], "--list") == 0) {
+        rows = argv[4];
+        each_line(argv[2], hash_file);
+        each_line(argv[3], put_row);
         return 0;
     }
     if (argc != 3 || strlen(argv[1]) > 4000 || strlen(argv[2]) > 4000)
