@@ -41,7 +41,7 @@ pub fn runs_of_unlike_seeds_are_fresh()
         → AreFresh folders [] new runs }
 {}
 
-/// So each operation stands once in the folders after such runs.
+/// So each operation occurs once in the folders after such runs.
 pub fn operations_of_unlike_seeds_stand_once()
     ensures { (folders : List (List ℕ)) (new : History) → AreApart folders
         → (runs : RunsAmong folders [] new) → HaveOneTextEach (files_of new) folders

@@ -22,7 +22,7 @@ ghost use Rattle.merge_limits.specs.Tracked.{TrackedAreSound, TrackedAuthorsAreK
 
 use op_kind::OpKind;
 
-/// Where each of two heads is valid alone, and operations stand once below both, what is wrong with
+/// Where each of two heads is valid alone, and operations occur once below both, what is wrong with
 /// both together is a limit alone. They have one root then, since the first operation of each has
 /// the id of the entity.
 pub fn joins_fail_by_a_limit_alone<K: OpKind>()
@@ -33,7 +33,7 @@ pub fn joins_fail_by_a_limit_alone<K: OpKind>()
         → EntityFaultHolds K.meaning objects id (one ∷ two ∷ []) authors fault → IsLimit fault }
 {}
 
-/// A merge of a sound folder refuses a bug by a limit alone, where operations stand once in the
+/// A merge of a sound folder refuses a bug by a limit alone, where operations occur once in the
 /// folder, nothing is wrong with the bugs that it has last seen at the remote, and their authors
 /// are local identities or tracked ones whose chains have no fault. So does the merge of a pull,
 /// where this holds of what its fetch left.

@@ -27,7 +27,7 @@ ghost use Rattle.words.specs.declared.words.Asked.TheVariants as asked;
 ghost use Rattle.words.specs.declared.words.MergeRequest.{MergeRequest};
 ghost use Rattle.words.specs.declared.words.PeerCommand.TheVariants as peer;
 
-/// Where the command `merge` is done in a sound folder whose operations stand once, and the bugs
+/// Where the command `merge` is done in a sound folder whose operations occur once, and the bugs
 /// last seen at the remote are without fault and their authors known, each line that says that a
 /// bug is invalid tells a limit alone. So does each of the command `pull`, where this holds of what
 /// its fetch left.

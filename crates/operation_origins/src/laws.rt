@@ -43,7 +43,7 @@ pub fn each_operation_was_made_by_a_run()
         → IsThere (files_of new) folders id placed → OneMade folders [] new runs id placed }
 {}
 
-/// Where each operation stands once, it does so after a run, if what the run makes has no operation
+/// Where each operation occurs once, it does so after a run, if what the run makes has no operation
 /// with an id that was there. So it is after any number of such runs from no files at all: no two
 /// operation commits of any folders, sides and bugs share the id of an operation, unless they are
 /// one commit of one bug.

@@ -1,4 +1,4 @@
-//! Where the operation commits of bugs come from: edits alone make them, so each stands once.
+//! Where the operation commits of bugs come from: edits alone make them, so each occurs once.
 #![tactic(auto)]
 
 mod laws;
