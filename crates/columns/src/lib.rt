@@ -8,6 +8,3 @@ mod step;
 
 pub use cell::{cut_to_columns, push_cell, push_spaces};
 pub use laws::{cells_have_their_columns, the_longest_prefix_is_shown};
-
-#[cfg(test)]
-mod tests;

@@ -16,6 +16,3 @@ pub use lookup_laws::{
 };
 pub use places::combine;
 pub use split::{Split, split_prefix};
-
-#[cfg(test)]
-mod tests;

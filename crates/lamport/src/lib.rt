@@ -11,6 +11,3 @@ pub use laws::{
     times_are_within_bounds,
 };
 pub use time::Time;
-
-#[cfg(test)]
-mod tests;

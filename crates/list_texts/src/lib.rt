@@ -6,6 +6,3 @@ mod list;
 
 pub use board::board_text;
 pub use list::list_text;
-
-#[cfg(test)]
-mod tests;

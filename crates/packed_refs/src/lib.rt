@@ -14,6 +14,3 @@ pub use laws::{
 pub use packed::{PackedHead, head_of, heads_in, is_packed, refs};
 pub use ref_line::{RefLine, RefName};
 pub use written::packed_text;
-
-#[cfg(test)]
-mod tests;

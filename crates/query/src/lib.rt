@@ -33,6 +33,3 @@ pub use laws::{
 pub use query::{Query, SortKey};
 pub use row_laws::{further_alternatives_lose_no_row, further_demands_add_no_row};
 pub use rows::select;
-
-#[cfg(test)]
-mod tests;

@@ -10,6 +10,3 @@ mod users;
 pub use log::log_text;
 pub use show::show_text;
 pub use users::users_text;
-
-#[cfg(test)]
-mod tests;

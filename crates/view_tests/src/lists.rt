@@ -1,7 +1,8 @@
-use super::*;
+//! Tests of `list_texts`.
 use bug_ops::{BugStatus, Excerpt};
 use gb_text::{Id, List, Name, Text};
 use identity::Person;
+use list_texts::{board_text, list_text};
 use std::alloc::Global;
 use std::test::Fail;
 

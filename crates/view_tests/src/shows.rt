@@ -1,4 +1,4 @@
-use super::*;
+//! Tests of `render`.
 use bug_ops::{BugOp, BugStatus, Comment, Excerpt, Snapshot};
 use dag_entity::{Entity, Placed};
 use gb_text::{Id, List, Name, Text};
@@ -6,6 +6,7 @@ use identity::Person;
 use lamport::Time;
 use op_kind::Pair;
 use op_pack::Pack;
+use render::{log_text, show_text, users_text};
 use std::alloc::Global;
 use std::test::Fail;
 

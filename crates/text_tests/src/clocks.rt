@@ -1,5 +1,6 @@
-use super::*;
+//! Tests of `lamport`.
 use gb_text::GREATEST_TIME;
+use lamport::{CAP, Clock, ClockFull, Time};
 
 // The number of a time, or 0 where there is none.
 fn number_of(time: Result<Time, ClockFull>) -> u64 {

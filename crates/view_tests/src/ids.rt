@@ -1,4 +1,5 @@
-use super::*;
+//! Tests of `combined_id`.
+use combined_id::{Lookup, combine, find, split_prefix};
 use gb_text::{Id, Prefix};
 
 #[test]

@@ -1,4 +1,5 @@
-use super::*;
+//! Tests of `columns`.
+use columns::cut_to_columns;
 use gb_text::Text;
 use std::alloc::Global;
 use std::test::Fail;

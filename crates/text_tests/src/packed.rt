@@ -1,5 +1,6 @@
-use super::*;
+//! Tests of `packed_refs`.
 use gb_text::{Memory, Name};
+use packed_refs::{head_of, heads_in, is_packed, packed_text, refs};
 
 // What Git wrote of two bugs, a branch and an annotated tag.
 const PACKED: &[u8] = b"# pack-refs with: peeled fully-peeled sorted \n\
