@@ -68,7 +68,7 @@ module _ (remote : RemoteName) (pair : FolderPair) (now : ℕ) (limit : now < 2 
       by_merge is.mid (by_fetch is.mid (fetch_writes pair.own pair.peer remote (apart pair) old is.mid (Ok pulled.fetched) is.first))
       (merge_wrote pair.own remote now is.mid new (Ok pulled.merged) limit is.then)
   pull_wrote (Err why) (inl none) = WroteBy-none Wide old new (not_begun why none)
-  pull_wrote (Err why) (inr (inl (stop, ended, is))) = by_fetch new (fetch_writes pair.own pair.peer remote (apart pair) old new (Err stop) is)
+  pull_wrote (Err why) (inr (inl is)) = by_fetch new (fetch_writes pair.own pair.peer remote (apart pair) old new (Err is.stop) is.ended)
   pull_wrote (Err why) (inr (inr (fetched, is))) =
       by_merge is.mid (by_fetch is.mid (fetch_writes pair.own pair.peer remote (apart pair) old is.mid (Ok fetched) is.first))
       (merge_wrote pair.own remote now is.mid new (Err why) limit is.then)

@@ -253,11 +253,11 @@ pull_refuses remote pair now limit old new r sound later why (inl none) told =
     refused_as pair.own old r why told
     (λ path e. let bad : NotBegun pair.own remote now (merge.Damaged path) old new = subst (λ (w : MergeStop). NotBegun pair.own remote now w old new) e none in sound part.User bad.0)
     (λ e. let is : NotBegun pair.own remote now merge.NoUser old new = subst (λ (w : MergeStop). NotBegun pair.own remote now w old new) e none in is.0)
-pull_refuses remote pair now limit old new r sound later why (inr (inl (stop, is, ended))) told =
+pull_refuses remote pair now limit old new r sound later why (inr (inl is)) told =
     refused_as pair.own old r why told
-    (λ path e. let damaged = read_damage stop path (sym is ∙ e) in
-    fetch_not_damaged pair.own pair.peer remote old new path later (subst (λ (w : ReadStop). FetchAnswers pair.own pair.peer remote old new (Err w)) damaged ended))
-    (λ e. absurd (read_has_user stop (sym is ∙ e)))
+    (λ path e. let damaged = read_damage is.stop path (sym is.is_why ∙ e) in
+    fetch_not_damaged pair.own pair.peer remote old new path later (subst (λ (w : ReadStop). FetchAnswers pair.own pair.peer remote old new (Err w)) damaged is.ended))
+    (λ e. absurd (read_has_user is.stop (sym is.is_why ∙ e)))
 pull_refuses remote pair now limit old new r sound later why (inr (inr (fetched, both))) told =
     let wrote = exchange_wrote (Fetch remote) pair now limit old both.mid (Ok (answer_of fetched)) (fetched, both.first, refl) in
     let middle = own_stays_sound (Fetch remote) pair old both.mid sound wrote in

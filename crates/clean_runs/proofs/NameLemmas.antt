@@ -113,7 +113,7 @@ read_differs name (read.Damaged path) e = cc e
 pull_not_taken : (own peer : List ℕ) (remote : RemoteName) (now : ℕ) → now < 2 ^ 64 → (old new : History) → (Overlap own peer → ⊥) → IsSound own (files_of old) → HaveOneNameEach own now old new → (name : Name)
     → PullAnswers own peer remote now old new (Err (merge.Taken name)) → ⊥
 pull_not_taken own peer remote now moment old new apart sound one_each name (inl none) = none
-pull_not_taken own peer remote now moment old new apart sound one_each name (inr (inl (why, e, fetched))) = read_differs name why e
+pull_not_taken own peer remote now moment old new apart sound one_each name (inr (inl is)) = read_differs name is.stop is.is_why
 pull_not_taken own peer remote now moment old new apart sound one_each name (inr (inr (fetched, done))) =
     not_taken own remote now moment old done.mid new (fetch_keeps_user own peer remote old done.mid (sound parts.User) (fetch_writes own peer remote apart old done.mid (Ok fetched) done.first))
     (fetched_sound own peer remote old done.mid fetched apart sound done.first) one_each name done.then

@@ -140,7 +140,7 @@ module _ (own peer : List ℕ) (apart : Overlap own peer → ⊥) (old : History
           let same = not_begun_same own remote now why old end none in
           inl (inl (had_so own (files_of old) (files_of new) (grew_before own old end new (kinds_lead_on own old end (Wrote-none (IsWrite own) old end same)) at) side.Bugs id placed sound is_id
           ((stays_none own side.Bugs id old end same).each new at) has))
-      pull_brings end (Err why) (inr (inl (stop, ended, is))) at has = inl (inl (fetch_had end (Err stop) is new at has))
+      pull_brings end (Err why) (inr (inl is)) at has = inl (inl (fetch_had end (Err is.stop) is.ended new at has))
       pull_brings end (Err why) (inr (inr (fetched, is))) at has = both_brought end fetched (Err why) is at has
 
   -- what the peer has where a push stopped, it had, or the own folder had

@@ -41,6 +41,6 @@ module _ (own peer : List ℕ) (remote : RemoteName) (now : ℕ) (of : Side) (id
   pull_once (Ok pulled) is =
       both is.mid (fetch_once own peer remote old of id is_id is.mid (Ok pulled.fetched) is.first) (merge_once own remote now is.mid of id is_id new (Ok pulled.merged) is.then)
   pull_once (Err why) (inl none) = inl (stays_none own of id old new (not_begun_same own remote now why old new none))
-  pull_once (Err why) (inr (inl (stop, ended, is))) = both new (fetch_once own peer remote old of id is_id new (Err stop) is) (inl (stays_none own of id new new refl))
+  pull_once (Err why) (inr (inl is)) = both new (fetch_once own peer remote old of id is_id new (Err is.stop) is.ended) (inl (stays_none own of id new new refl))
   pull_once (Err why) (inr (inr (fetched, is))) =
       both is.mid (fetch_once own peer remote old of id is_id is.mid (Ok fetched) is.first) (merge_once own remote now is.mid of id is_id new (Err why) is.then)

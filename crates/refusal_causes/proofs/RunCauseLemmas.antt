@@ -68,7 +68,7 @@ module _ (pair : FolderPair) (moment : Moment) (remote : RemoteName) (old new : 
   pull_cause s why (inl not) e =
       let same = not_begun_same pair.own remote moment.now why old new not in
       inr (old, record { later = []; done = []; before = refl; after = same }, merge_stopped pair.own remote moment.now old new s why (inl not) e)
-  pull_cause s why (inr (inl (read, is, fetch))) e = inl (pull_fetch_stopped pair.own pair.peer remote old new s read fetch (e ∙ ap stop_of_merge is))
+  pull_cause s why (inr (inl is)) e = inl (pull_fetch_stopped pair.own pair.peer remote old new s is.stop is.ended (e ∙ ap stop_of_merge is.is_why))
   pull_cause s why (inr (inr (fetched, m))) e =
       let first = fetch_writes pair.own pair.peer remote (apart pair) old m.mid (Ok fetched) m.first in
       let then = merge_wrote pair.own remote moment.now m.mid new (Err why) (in_time moment) m.then in
@@ -123,7 +123,7 @@ module _ (pair : FolderPair) (remote : RemoteName) (now : ℕ) (old new : Histor
 
   pull_refused : (s : Refusal) (why : MergeStopped) → PullAnswers pair.own pair.peer remote now old new (Err why) → stop.Refused s ≡ stop_of_merge why → (r ≡ s) ⊎ FetchStop pair.own remote new s
   pull_refused s why (inl not) e = inl (not_merged pair.own remote now old new r s why (inl lacks) not e)
-  pull_refused s why (inr (inl (read, is, fetch))) e = inr (pull_fetch_stopped pair.own pair.peer remote old new s read fetch (e ∙ ap stop_of_merge is))
+  pull_refused s why (inr (inl is)) e = inr (pull_fetch_stopped pair.own pair.peer remote old new s is.stop is.ended (e ∙ ap stop_of_merge is.is_why))
   pull_refused s why (inr (inr (fetched, m))) e = inl (merge_refused pair.own remote now m.mid new r s why (inl (lacks_then m.mid fetched m.first)) m.then e)
 
   pull_so : packed_reads (files_of old) pair.own ≡ true → (s : Refusal) → PullGuards (Err (stop.Refused s)) → (r ≡ s) ⊎ FetchStop pair.own remote new s

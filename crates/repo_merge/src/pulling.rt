@@ -38,9 +38,9 @@ pub fn pull<S: Store>(
     ensures caused { KeepsFaults S.never_fails S.faults (IsErrOf result MergeStop.Disk)
         disk.old disk.new }
 {
-    if user(alloc, disk, &pair.own)?.is_none() {
+    let Some(_user) = user(alloc, disk, &pair.own)? else {
         return Err(MergeStop::NoUser);
-    }
+    };
     let fetched = fetch(alloc, disk, pair, remote)?;
     let merged = merge(alloc, disk, &pair.own, remote, now)?;
     Ok(Pulled { fetched, merged })

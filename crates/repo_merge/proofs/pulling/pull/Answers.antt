@@ -2,6 +2,7 @@ use Rattle.std.proofs.Common.{rules, ◌≡◌, inl, inr, Ok, Err, refl, sym, su
 use Rattle.gb_store.specs.Files.{History, files_of}
 use Rattle.merge_steps.specs.Pulling.{PullAnswers}
 use Rattle.merge_steps.specs.Stops.{stop_of_read}
+use Rattle.repo_state.specs.Answers.{IsUser}
 use Rattle.sync_steps.specs.Fetching.{FetchAnswers}
 use Rattle.sync_steps.specs.Quiet.{NothingToFetch}
 use Rattle.sync_steps.proofs.QuietLemmas.{fetch_quiet}
@@ -19,7 +20,13 @@ returns-in_err-fetched-clause-answers g c = λ tells.
     let why = c.in_err-fetched.field-0.0 in
     let is : c.from_residual-in_err-fetched.result ≡ Err (stop_of_read why) = search rules in
     subst (PullAnswers pair.own pair.peer c.args.remote.now c.args.now old new) (sym is)
-    (inr (inl (why, refl, subst (λ (h : History). FetchAnswers pair.own pair.peer c.args.remote.now h new (Err why)) (c.user.ensures.unwritten tells) (c.in_err-fetched.ensures.answers tells))))
+    (inr (inl (record {
+      user = c.in-Some._user;
+      is_user = subst (IsUser (files_of old) pair.own) c.in-Some.is (c.in_ok-_user.ensures.answers tells);
+      stop = why;
+      is_why = refl;
+      ended = subst (λ (h : History). FetchAnswers pair.own pair.peer c.args.remote.now h new (Err why)) (c.user.ensures.unwritten tells) (c.in_err-fetched.ensures.answers tells);
+    })))
 
 pub returns-in_err-merged-clause-answers : goal.returns-in_err-merged-clause-answers
 returns-in_err-merged-clause-answers g c = λ tells.
@@ -35,6 +42,8 @@ returns-in_err-merged-clause-answers g c = λ tells.
     (inr (inr (
       fetched,
       record {
+        user = c.in-Some._user;
+        is_user = subst (IsUser (files_of old) pair.own) c.in-Some.is (c.in_ok-_user.ensures.answers tells);
         mid = mid;
         first = subst (λ (h : History). FetchAnswers pair.own pair.peer c.args.remote.now h mid (Ok fetched)) (c.user.ensures.unwritten tells) (c.in_ok-fetched.ensures.answers tells);
         then = c.in_err-merged.ensures.answers tells;
