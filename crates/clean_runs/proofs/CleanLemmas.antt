@@ -34,7 +34,7 @@ use Rattle.bug_run.proofs.LineLemmas.{merge_tells, pull_tells}
 use Rattle.full_exchanges.specs.Having.{HaveOneTextEach}
 use Rattle.full_exchanges.proofs.ExchangeLemmas.{one_text_before}
 use Rattle.exchange_runs.specs.Takes.{RunsAmong, TakesAmong}
-use Rattle.operation_origins.specs.Once.{IsFresh, StandOnce as EachOnce}
+use Rattle.operation_origins.specs.Once.{IsFresh, StandOnce}
 use Rattle.operation_origins.specs.Seen.{SeenAreSound}
 use Rattle.operation_origins.proofs.OnceLemmas.{all_stand, before_sound, before_text, stands_then}
 use Rattle.operation_origins.proofs.SeenLemmas.{all_seen, seen_then}
@@ -44,7 +44,7 @@ use Rattle.merge_limits.proofs.MergeLemmas.{line_limit}
 use Rattle.merge_limits.proofs.PullLemmas.{pulled_limit}
 use Rattle.clean_runs.specs.Seeds.{HaveNoCollision, HaveUnlikeSeeds}
 use Rattle.clean_runs.proofs.FreshLemmas.{runs_fresh}
-use Rattle.clean_runs.proofs.OnceLemmas.{stand_in_folders, stand_in_one}
+use Rattle.clean_runs.proofs.OnceLemmas.{stand_in_one}
 
 -- a run that asks for a command with a peer makes no operation
 peer_makes_nothing : (folders : List (List ℕ)) (old new : History) (run : IsRun folders old new) (request : PeerRequest) → asked_of run.words ≡ asked.Exchange request → IsFresh folders old new run
@@ -53,7 +53,7 @@ peer_makes_nothing folders old new run request asks bug other made was is_other 
 
 module _ (folders : List (List ℕ)) (apart : AreApart folders) (old : History) (runs : RunsAmong folders [] old) (seeds : HaveUnlikeSeeds folders [] old runs) (none : HaveNoCollision folders [] old runs) where
   -- each operation stands once
-  pub each_once : HaveOneTextEach (files_of old) folders → EachOnce (files_of old) folders
+  pub each_once : HaveOneTextEach (files_of old) folders → StandOnce (files_of old) folders
   each_once one_text = all_stand folders apart old runs one_text (runs_fresh folders apart old runs one_text seeds none)
 
   module _ (new : History) (run : IsRun folders old new) (prints : IsTrue run.sink_tells) (has : HasLines run.status) where
@@ -68,7 +68,7 @@ module _ (folders : List (List ℕ)) (apart : AreApart folders) (old : History) 
         × ((line : MergeLine) (why : EntityFault) → Contains lines line → line.outcome ≡ outcome.InvalidBug why → IsLimit why)
     merge_clean request one_text asks is known =
         let told = merge_tells call old run.end run.before run.after run.status request refl prints asks run.answers has in
-        let once = stand_in_one (files_of old) folders request.folder is (stand_in_folders (files_of old) folders (each_once one_text)) in
+        let once = stand_in_one (files_of old) folders request.folder is (each_once one_text) in
         let seen = all_seen folders apart old runs one_text in (
           told.0,
           told.1,
@@ -84,24 +84,24 @@ module _ (folders : List (List ℕ)) (apart : AreApart folders) (old : History) 
       Answers pulled = PullAnswers pair.own pair.peer remote run.moment.now old run.end (Ok pulled)
 
       module _ (pulled : Pulled) (done : Answers pulled) where
-        abbrev mid : History
+        abbrev pub mid : History
         mid = done.mid
 
-        fetched : IsMoment old mid mid
+        pub fetched : IsMoment old mid mid
         fetched =
             let wrote = fetch_writes pair.own pair.peer remote (apart_pair pair) old mid (Ok pulled.fetched) done.first in record { later = []; done = wrote.writes; before = wrote.grew; after = refl }
 
-        wrote : Wrote (IsWrite pair.own) mid run.end
+        pub wrote : Wrote (IsWrite pair.own) mid run.end
         wrote = merge_wrote pair.own remote run.moment.now mid run.end (Ok pulled.merged) (in_time run.moment) done.then
 
-        merged : IsMoment mid run.end mid
+        pub merged : IsMoment mid run.end mid
         merged = record { later = wrote.writes; done = []; before = refl; after = wrote.grew }
 
-        merged_end : IsMoment mid run.end run.end
+        pub merged_end : IsMoment mid run.end run.end
         merged_end = record { later = []; done = wrote.writes; before = wrote.grew; after = refl }
 
         -- the run that stops where the merge begins
-        abbrev stopped : IsRun folders old mid
+        abbrev pub stopped : IsRun folders old mid
         stopped = record {
           words = run.words;
           place = run.place;
@@ -117,11 +117,11 @@ module _ (folders : List (List ℕ)) (apart : AreApart folders) (old : History) 
         }
 
         -- takes from one of the folders
-        takes : TakesAmong folders (asked_of run.words)
+        pub takes : TakesAmong folders (asked_of run.words)
         takes = subst (TakesAmong folders) (sym asks) (λ here. peer)
 
         -- the merge loses no object
-        grew : (folder : List ℕ) → Contains folders folder → OnlyGrew (objects_after mid folder) (objects_after run.end folder)
+        pub grew : (folder : List ℕ) → Contains folders folder → OnlyGrew (objects_after mid folder) (objects_after run.end folder)
         grew folder is = each (same_or_other folder pair.own)
           where
             each : (folder ≡ pair.own) ⊎ (folder ≢ pair.own) → OnlyGrew (objects_after mid folder) (objects_after run.end folder)
@@ -129,25 +129,25 @@ module _ (folders : List (List ℕ)) (apart : AreApart folders) (old : History) 
                 subst (λ (f : List ℕ). OnlyGrew (objects_after mid f) (objects_after run.end f)) (sym same) ((loses_nothing pair.own mid run.end wrote).each run.end merged_end).objects
             each (inr differ) = ((apart_loses_nothing folder pair.own mid run.end (λ overlap. differ (apart folder pair.own is own overlap)) wrote).each run.end merged_end).objects
 
-        text_then : HaveOneTextEach (files_of mid) folders
+        pub text_then : HaveOneTextEach (files_of mid) folders
         text_then = one_text_before folders mid run.end grew one_text
 
-        text_before : HaveOneTextEach (files_of old) folders
+        pub text_before : HaveOneTextEach (files_of old) folders
         text_before = before_text folders apart old mid stopped text_then
 
         sound : AreAllSound folders (files_of old)
         sound = before_sound folders apart old runs
 
-        once_then : EachOnce (files_of mid) folders
+        once_then : StandOnce (files_of mid) folders
         once_then = stands_then folders apart old mid stopped takes sound text_then (peer_makes_nothing folders old mid stopped (record { pair = pair; command = Pull remote }) asks) (each_once text_before)
 
         seen_at : SeenAreSound (files_of mid) folders
         seen_at = seen_then folders apart old mid stopped takes sound text_then (all_seen folders apart old runs text_before)
 
-        pulled_clean : TrackedAuthorsAreKnown (files_of mid) pair.own remote → (line : MergeLine) (why : EntityFault) → Contains pulled.merged line → line.outcome ≡ outcome.InvalidBug why → IsLimit why
+        pub pulled_clean : TrackedAuthorsAreKnown (files_of mid) pair.own remote → (line : MergeLine) (why : EntityFault) → Contains pulled.merged line → line.outcome ≡ outcome.InvalidBug why → IsLimit why
         pulled_clean known line why mine invalid =
             pulled_limit pair.own pair.peer remote run.moment.now (in_time run.moment) old run.end pulled (apart_pair pair) (sound pair.own own) done
-            (stand_in_one (files_of mid) folders pair.own own (stand_in_folders (files_of mid) folders once_then)) (λ id head is_id at. seen_at pair.own remote id head own is_id at) known line why mine invalid
+            (stand_in_one (files_of mid) folders pair.own own once_then) (λ id head is_id at. seen_at pair.own remote id head own is_id at) known line why mine invalid
 
       pub pull_clean : (pulled : Pulled) × (done : Answers pulled) × (run.after ≡ run.before ++ (answer_of_pull pulled).text)
           × (TrackedAuthorsAreKnown (files_of done.mid) pair.own remote → (line : MergeLine) (why : EntityFault) → Contains pulled.merged line → line.outcome ≡ outcome.InvalidBug why → IsLimit why)

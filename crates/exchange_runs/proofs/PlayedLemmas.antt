@@ -76,7 +76,7 @@ done_none (suc count) e = absurd (cc e)
 
 -- ---- what the arguments of a pull ask
 
-abbrev pull_words : ℕ → ℕ → List (List ℕ)
+abbrev pub pull_words : ℕ → ℕ → List (List ℕ)
 pull_words folder peer = folder_word folder ∷ codes "pull" ∷ folder_word peer ∷ folder_word peer ∷ []
 
 word_plain : (n : ℕ) → IsPlain (folder_word n)
@@ -85,7 +85,7 @@ word_plain n = inr (λ more same. let first : 119 ≡ 45 = ap (λ (text : List �
 remote_is : (n : ℕ) → n < 2 ^ 64 → remote_of (folder_word n) ≡ Some (member_at n).name
 remote_is n within = ap remote_of (sym (name_text n within)) ∙ the_remote (member_at n).name
 
-pull_asks : (folder peer : ℕ) → peer < 2 ^ 64 → asked_of (pull_words folder peer) ≡ exchange_in (folder_of (folder_word folder)) (folder_of (folder_word peer)) (Some (Pull (member_at peer).name))
+pub pull_asks : (folder peer : ℕ) → peer < 2 ^ 64 → asked_of (pull_words folder peer) ≡ exchange_in (folder_of (folder_word folder)) (folder_of (folder_word peer)) (Some (Pull (member_at peer).name))
 pull_asks folder peer within =
     asked_with (folder_word folder) (codes "pull") (folder_word peer ∷ folder_word peer ∷ []) (folder_word peer ∷ folder_word peer ∷ [])
     (all_plain (folder_word peer ∷ folder_word peer ∷ []) (word_plain peer, (word_plain peer, tt)))
@@ -155,16 +155,16 @@ module _ (folder peer : ℕ) (now : ℤ) (first : folder < 2 ^ 64) (second : pee
 -- ---- events one after another
 
 -- who pulls from whom
-abbrev Pair : Type 0
+abbrev pub Pair : Type 0
 Pair = ℕ × ℕ
 
-abbrev event_for : ℤ → Pair → Event
+abbrev pub event_for : ℤ → Pair → Event
 event_for now pair = pull_at pair.0 pair.1 now
 
 abbrev pull_for : ℤ → Pair → PullValue
 pull_for now pair = pull_of (member_at pair.0) (member_at pair.1) (seconds_of now)
 
-abbrev AreSmall : Pair → Type 0
+abbrev pub AreSmall : Pair → Type 0
 AreSmall pair = (pair.0 < 2 ^ 64) × (pair.1 < 2 ^ 64)
 
 -- an event that ended done is a pull; nothing stops it
@@ -194,11 +194,11 @@ into n = (0, n)
 abbrev from : ℕ → Pair
 from n = (n, 0)
 
-abbrev pairs_of : ℕ → List Pair
+abbrev pub pairs_of : ℕ → List Pair
 pairs_of more = map into (range_with_len 1 more) ++ map from (range_with_len 1 more)
 
 -- its events, and its pulls
-events_are : (more : ℕ) (now : ℤ) → events_of (suc more) now ≡ map (event_for now) (pairs_of more)
+pub events_are : (more : ℕ) (now : ℤ) → events_of (suc more) now ≡ map (event_for now) (pairs_of more)
 events_are more now =
     let less : suc more - 1 ≡ more = omega arith in
     let range = range_with_len 1 more in
@@ -215,7 +215,7 @@ pulls_are more now =
     (map-map (pull_for now) into range ∙ sym (map-map (λ (other : Member). pull_of first other time) member_at range))
     (map-map (pull_for now) from range ∙ sym (map-map (λ (other : Member). pull_of other first time) member_at range))
 
-all_small : (more : ℕ) → suc more ≤ 2 ^ 32 → All AreSmall (pairs_of more)
+pub all_small : (more : ℕ) → suc more ≤ 2 ^ 32 → All AreSmall (pairs_of more)
 all_small more few = All-append AreSmall (map into (range_with_len 1 more)) (map from (range_with_len 1 more)) (go_into (range_with_len 1 more) within) (go_from (range_with_len 1 more) within)
   where
     within : (n : ℕ) → Contains (range_with_len 1 more) n → n < 2 ^ 64

@@ -42,10 +42,10 @@ use Rattle.merge_steps.proofs.FaultLemmas.{says_fault}
 use Rattle.merge_steps.proofs.TurnOfLemmas.{turn_of}
 use Rattle.merge_steps.proofs.WholeLemmas.{whole_stays}
 use Rattle.merge_limits.specs.Limits.{IsLimit, StandOnceBelow}
-use Rattle.merge_limits.specs.Once.{StandOnce}
 use Rattle.merge_limits.specs.Tracked.{TrackedAreSound, TrackedAuthorsAreKnown}
 use Rattle.merge_limits.proofs.AuthorLemmas.{grew, known_author}
 use Rattle.merge_limits.proofs.JoinLemmas.{limit_alone}
+use Rattle.operation_origins.specs.Once.{StandOnce}
 
 -- a head without fault is valid among authors who wrote all its packs
 valid_among : (objects : Objects) (id : Id) (head : Name) (authors : List Id) → HasNoFault objects id head
@@ -58,9 +58,10 @@ valid_among objects id head authors none known f holds = none f (λ author e. cc
 once_below : (files : Files) (folder : List ℕ) (remote : RemoteName) → StandOnce files (folder ∷ []) → (id : Id) (local tracked : Name) → IsId id → head_at files folder side.Bugs id ≡ Head local
     → head_at files folder (side.RemoteBugs remote) id ≡ Head tracked → StandOnceBelow bug_kind (objects_in files folder) local tracked
 once_below files folder remote once id local tracked is_id at_local at_tracked a b op is_a is_b in_a in_b =
-    (once id id a b op
-    (record { folder = folder; is = (0, omega arith, refl); of = side.Bugs; of_bugs = tt; is_id = is_id; has = record { head = local; is_head = at_local; is = is_a }; stands = in_a })
-    (record { folder = folder; is = (0, omega arith, refl); of = side.RemoteBugs remote; of_bugs = tt; is_id = is_id; has = record { head = tracked; is_head = at_tracked; is = is_b }; stands = in_b })).1
+    (once id id a b is_id is_id
+    (record { folder = folder; is = (0, omega arith, refl); of = side.Bugs; of_bugs = tt; has = record { head = local; is_head = at_local; is = is_a } })
+    (record { folder = folder; is = (0, omega arith, refl); of = side.RemoteBugs remote; of_bugs = tt; has = record { head = tracked; is_head = at_tracked; is = is_b } })
+    (record { op = op; in_one = in_a; in_two = in_b })).1
 
 module _ (folder : List ℕ) (remote : RemoteName) (now : ℕ) (moment : now < 2 ^ 64) (old new : History) (lines : List MergeLine) (done : IsMerged folder remote now lines old new)
     (sound : IsSound folder (files_of old)) (once : StandOnce (files_of old) (folder ∷ [])) (tracked_sound : TrackedAreSound (files_of old) folder remote)

@@ -15,9 +15,9 @@ use Rattle.merge_steps.specs.declared.line.MergeLine.{MergeLine}
 use Rattle.merge_steps.specs.declared.line.MergeOutcome.TheVariants as outcome
 use Rattle.merge_steps.specs.declared.line.Pulled.{Pulled}
 use Rattle.merge_limits.specs.Limits.{IsLimit}
-use Rattle.merge_limits.specs.Once.{StandOnce}
 use Rattle.merge_limits.specs.Tracked.{TrackedAreSound, TrackedAuthorsAreKnown}
 use Rattle.merge_limits.proofs.MergeLemmas.{line_limit}
+use Rattle.operation_origins.specs.Once.{StandOnce}
 
 -- a fetch leaves the folder sound
 pub fetched_sound : (own peer : List ℕ) (remote : RemoteName) (old mid : History) (lines : List Line) → (Overlap own peer → ⊥) → IsSound own (files_of old) → FetchAnswers own peer remote old mid (Ok lines)

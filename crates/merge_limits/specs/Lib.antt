@@ -1,4 +1,2 @@
 pub mod Limits
-pub mod Names
-pub mod Once
 pub mod Tracked

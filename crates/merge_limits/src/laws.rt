@@ -1,5 +1,5 @@
 //! Laws of merges in clean folders, each the contract of a function that does nothing.
-ghost use Rattle.std.specs.Prelude.{◌≡◌, ◌<◌, ◌^◌, ◌∷◌, [], ℕ, Contains, List, Err, Ok};
+ghost use Rattle.std.specs.Prelude.{◌≡◌, ◌<◌, ◌^◌, ◌∷◌, [], ℕ, Contains, List, Ok};
 ghost use Rattle.gb_text.specs.Overlap.{Overlap};
 ghost use Rattle.gb_text.specs.declared.id.Id.{Id};
 ghost use Rattle.gb_text.specs.declared.id.Name.{Name};
@@ -14,11 +14,9 @@ ghost use Rattle.merge_steps.specs.Turns.{MergeAnswers};
 ghost use Rattle.merge_steps.specs.declared.line.MergeLine.{MergeLine};
 ghost use Rattle.merge_steps.specs.declared.line.MergeOutcome.TheVariants as outcome;
 ghost use Rattle.merge_steps.specs.declared.line.Pulled.{Pulled};
-ghost use Rattle.merge_steps.specs.declared.stop.MergeStop.TheVariants as stop;
 ghost use Rattle.merge_limits.specs.Limits.{IsLimit, StandOnceBelow};
-ghost use Rattle.merge_limits.specs.Names.{IsOfTwoTexts};
-ghost use Rattle.merge_limits.specs.Once.{StandOnce};
 ghost use Rattle.merge_limits.specs.Tracked.{TrackedAreSound, TrackedAuthorsAreKnown};
+ghost use Rattle.operation_origins.specs.Once.{StandOnce};
 
 use op_kind::OpKind;
 
@@ -53,15 +51,4 @@ pub fn merges_refuse_bugs_by_a_limit_alone()
         → TrackedAreSound (files_of done.mid) own remote
         → TrackedAuthorsAreKnown (files_of done.mid) own remote
         → Contains pulled.merged line → line.outcome ≡ outcome.InvalidBug why → IsLimit why }
-{}
-
-/// A merge of a sound folder, or a pull into one, ends because the name of an object is taken only
-/// where two different texts have that name. So it never does where each name is that of one text.
-pub fn names_are_taken_by_two_texts()
-    ensures merge { (folder : List ℕ) (remote : RemoteName) (now : ℕ) (old new : History)
-        (name : Name) → now < 2 ^ 64 → IsSound folder (files_of old)
-        → MergeAnswers folder remote now old new (Err (stop.Taken name)) → IsOfTwoTexts name }
-    ensures pull { (own peer : List ℕ) (remote : RemoteName) (now : ℕ) (old new : History)
-        (name : Name) → now < 2 ^ 64 → (Overlap own peer → ⊥) → IsSound own (files_of old)
-        → PullAnswers own peer remote now old new (Err (stop.Taken name)) → IsOfTwoTexts name }
 {}

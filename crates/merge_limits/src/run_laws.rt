@@ -1,12 +1,10 @@
 //! Laws of runs of merges and pulls in clean folders, each the contract of a function that does
 //! nothing.
 ghost use Rattle.std.specs.Prelude.{◌≡◌, ◌++◌, ◌∷◌, [], ℕ, Contains, IsTrue, List, Ok};
-ghost use Rattle.gb_text.specs.declared.id.Name.{Name};
 ghost use Rattle.gb_store.specs.Files.{History, files_of};
 ghost use Rattle.dag_entity.specs.declared.fault.EntityFault.{EntityFault};
 ghost use Rattle.remote_name.specs.declared.remote.RemoteName.{RemoteName};
 ghost use Rattle.repo_state.specs.Sound.{IsSound};
-ghost use Rattle.repo_steps.specs.declared.refusal.Refusal.TheVariants as refusal;
 ghost use Rattle.merge_steps.specs.Pulling.{PullAnswers};
 ghost use Rattle.merge_steps.specs.Turns.{MergeAnswers};
 ghost use Rattle.merge_steps.specs.declared.line.MergeLine.{MergeLine};
@@ -15,13 +13,10 @@ ghost use Rattle.merge_steps.specs.declared.line.Pulled.{Pulled};
 ghost use Rattle.bug_run.specs.Exchanges.{answer_of_merge, answer_of_pull};
 ghost use Rattle.bug_run.specs.Printed.{HasLines};
 ghost use Rattle.bug_run.specs.Run.{Call, RunAnswers};
-ghost use Rattle.bug_run.specs.declared.status.Refused.TheVariants.{ByCommand};
 ghost use Rattle.bug_run.specs.declared.status.Status.{Status};
-ghost use Rattle.bug_run.specs.declared.status.Status.TheVariants as status;
 ghost use Rattle.merge_limits.specs.Limits.{IsLimit};
-ghost use Rattle.merge_limits.specs.Names.{IsOfTwoTexts};
-ghost use Rattle.merge_limits.specs.Once.{StandOnce};
 ghost use Rattle.merge_limits.specs.Tracked.{TrackedAreSound, TrackedAuthorsAreKnown};
+ghost use Rattle.operation_origins.specs.Once.{StandOnce};
 ghost use Rattle.words.specs.declared.pair.FolderPair.{FolderPair};
 ghost use Rattle.words.specs.declared.words.Asked.TheVariants as asked;
 ghost use Rattle.words.specs.declared.words.MergeRequest.{MergeRequest};
@@ -57,20 +52,4 @@ pub fn runs_refuse_bugs_by_a_limit_alone()
         → TrackedAuthorsAreKnown (files_of done.mid) pair.own remote
         → (line : MergeLine) (why : EntityFault) → Contains pulled.merged line
         → line.outcome ≡ outcome.InvalidBug why → IsLimit why) }
-{}
-
-/// The commands `merge` and `pull` are refused in a sound folder for a name that is taken only where
-/// two different texts have that name.
-pub fn runs_are_refused_for_names_of_two_texts()
-    ensures merge { (call : Call) (old new : History) (before after : List ℕ)
-        (request : MergeRequest) (name : Name) → IsTrue call.store_tells
-        → call.asked ≡ asked.Merge request → IsSound request.folder (files_of old)
-        → RunAnswers call old new before after
-        (status.Refused (ByCommand (refusal.NameTaken name))) → IsOfTwoTexts name }
-    ensures pull { (call : Call) (old new : History) (before after : List ℕ) (pair : FolderPair)
-        (remote : RemoteName) (name : Name) → IsTrue call.store_tells
-        → call.asked ≡ asked.Exchange (record { pair = pair; command = peer.Pull remote })
-        → IsSound pair.own (files_of old)
-        → RunAnswers call old new before after
-        (status.Refused (ByCommand (refusal.NameTaken name))) → IsOfTwoTexts name }
 {}
