@@ -1,7 +1,13 @@
+pub mod BadRefLemmas
+pub mod CarriedLemmas
 pub mod EditLemmas
 pub mod ExchangeLemmas
+pub mod FetchTurnLemmas
+pub mod FirstLemmas
 pub mod ListCauseLemmas
+pub mod MergeCauseLemmas
+pub mod MergeTurnLemmas
+pub mod PushTurnLemmas
 pub mod RequestLemmas
 pub mod RunCauseLemmas
 pub mod SoleLemmas
-pub mod StopCauseLemmas
