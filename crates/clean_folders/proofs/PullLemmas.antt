@@ -1,5 +1,5 @@
--- A pull between clean folders of which no line tells a limit refuses no bug.
-use Rattle.std.proofs.Common.{◌≡◌, refl, sym, ◌∙◌, ap, subst, ℕ, Bool, true, false, IsTrue, List, [], ◌++◌, Contains, Option, Ok}
+-- A pull between clean folders of whose merge no line tells a limit refuses no bug.
+use Rattle.std.proofs.Common.{◌≡◌, refl, subst, ℕ, Bool, true, false, IsTrue, List, ◌++◌, Contains, Option, Ok}
 use Rattle.gb_text.specs.declared.id.Id.{Id}
 use Rattle.gb_text.specs.declared.id.Name.{Name}
 use Rattle.gb_store.specs.Files.{History, files_of}
@@ -25,9 +25,7 @@ use Rattle.bug_run.specs.Printed.{HasLines}
 use Rattle.bug_run.specs.Runs.{IsRun}
 use Rattle.full_exchanges.specs.Having.{HaveOneTextEach}
 use Rattle.full_exchanges.specs.Pulls.{RefusesNoBug}
-use Rattle.exchange_runs.proofs.AmongLemmas.{are_runs}
 use Rattle.merge_limits.specs.Limits.{IsLimit}
-use Rattle.tracked_people.specs.Unlimited.{CopiesMeetNoLimit}
 use Rattle.clean_folders.specs.Clean.{AreClean, TellsNoLimit}
 use Rattle.clean_folders.proofs.FetchLemmas.{fetched_clean}
 use Rattle.clean_folders.proofs.MergeLemmas.{pull_refuses}
@@ -58,20 +56,20 @@ line_invalid folder remote now old new lines done line among bug =
 
 module _ (folders : List (List ℕ)) (old : History) (clean : AreClean folders old) (new : History) (run : IsRun folders old new) (prints : IsTrue run.sink_tells) (has : HasLines run.status)
     (pair : FolderPair) (remote : RemoteName) (asks : asked_of run.words ≡ asked.Exchange (record { pair = pair; command = Pull remote })) (own : Contains folders pair.own) (peer : Contains folders pair.peer)
-    (one_text : HaveOneTextEach (files_of run.end) folders) (unlimited : CopiesMeetNoLimit pair.own pair.peer old run.end) where
-  refuses_none : (pulled : Pulled) → PullAnswers pair.own pair.peer remote run.moment.now old run.end (Ok pulled)
+    (one_text : HaveOneTextEach (files_of run.end) folders) where
+  pub refuses_none : (pulled : Pulled) → PullAnswers pair.own pair.peer remote run.moment.now old run.end (Ok pulled)
       → ((line : MergeLine) (why : EntityFault) → Contains pulled.merged line → line.outcome ≡ outcome.InvalidBug why → IsLimit why) → TellsNoLimit pulled → RefusesNoBug pulled
   refuses_none pulled done limits none = record {
     fetched = λ line among bug. unless (copies.is_refused line.outcome)
-        (λ refused. none.fetched line among (fetched_clean folders clean.apart old (are_runs folders [] old clean.runs) new run one_text prints has pair own peer remote pulled done line among refused));
+        (λ refused. fetched_clean folders clean.apart old clean.runs new run one_text prints has pair own peer remote pulled done line among refused);
     merged = λ line among bug. unless (is_refused line.outcome)
         (λ refused.
         let invalid = line_invalid pair.own remote run.moment.now done.mid run.end pulled.merged done.then line among bug refused in
-        none.merged line among (record { why = invalid.0; told = invalid.1; limit = limits line invalid.0 among invalid.1 }));
+        none line among (record { why = invalid.0; told = invalid.1; limit = limits line invalid.0 among invalid.1 }));
   }
 
   pub pull_without_limit : (pulled : Pulled) × PullAnswers pair.own pair.peer remote run.moment.now old run.end (Ok pulled) × (run.after ≡ run.before ++ (answer_of_pull pulled).text)
       × (TellsNoLimit pulled → RefusesNoBug pulled)
   pull_without_limit =
-      let told = pull_refuses folders old clean new run prints has pair remote asks own peer one_text unlimited in
+      let told = pull_refuses folders old clean new run prints has pair remote asks own peer one_text in
       (told.0, told.1, told.2, refuses_none told.0 told.1 told.3)

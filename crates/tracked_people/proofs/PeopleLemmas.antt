@@ -35,8 +35,9 @@ use Rattle.merge_limits.specs.Tracked.{IsTrackedPerson, TrackedAuthorsAreKnown}
 use Rattle.exchange_runs.specs.Takes.{RunsAmong, TakesAmong}
 use Rattle.exchange_runs.specs.Takes as among
 use Rattle.exchange_runs.proofs.AmongLemmas.{are_runs}
+use Rattle.flat_trees.specs.Flat.{AreAllFlat}
+use Rattle.flat_trees.proofs.RunLemmas.{runs_flat}
 use Rattle.tracked_people.specs.People.{SeenAuthorsAreKnown, SeenPeopleAreSound}
-use Rattle.tracked_people.specs.Unlimited.{MeetNoLimit, MeetsNoLimit}
 use Rattle.tracked_people.proofs.AlikeLemmas.{author_back, chain_over}
 use Rattle.tracked_people.proofs.RunLemmas.{IsTaken, run_keeps}
 
@@ -110,10 +111,10 @@ module _ (folders : List (List ℕ)) (apart : AreApart folders) where
       ]
 
       -- the authors of a bug that was taken from a sound folder are its local identities, which are tracked
-      taken_known : MeetsNoLimit folders old new run → (id : Id) (top : Name) (node : Loaded BugOp) → IsId id → head_at (files_of new) folder (side.RemoteBugs remote) id ≡ Head top
-          → IsNodeBelow bug_kind (objects_after new folder) (top ∷ []) node → IsTaken folders folder (asked_of run.words) remote word.Bug id old new
+      taken_known : AreAllFlat folders (files_of old) → (id : Id) (top : Name) (node : Loaded BugOp) → IsId id → head_at (files_of new) folder (side.RemoteBugs remote) id ≡ Head top
+          → IsNodeBelow bug_kind (objects_after new folder) (top ∷ []) node → IsTaken folders folder remote word.Bug id old new
           → IsTrackedPerson (files_of new) folder remote node.placed.pack.author
-      taken_known unlimited id top node is_id at below taken =
+      taken_known flat id top node is_id at below taken =
           let heads : Head taken.head ≡ Head top = sym taken.now ∙ at in
           let same : taken.head ≡ top = cc in
           let was : head_at (files_of old) taken.peer side.Bugs id ≡ Head top = subst (λ (name : Name). head_at (files_of old) taken.peer side.Bugs id ≡ Head name) same taken.was in
@@ -122,18 +123,18 @@ module _ (folders : List (List ℕ)) (apart : AreApart folders) where
           let authored = subst (IsAuthoredBug taken.peer (files_of old) id) was (sound taken.peer taken.is parts.Authors id is_id) in
           let local : IsLocal (files_of old) taken.peer node.placed.pack.author = subst (IsLocal (files_of old) taken.peer) there.2 (authored.1 there.0 there.1) in
           let reads = local_head taken.peer (files_of old) node.placed.pack.author (sound taken.peer taken.is) local in
-          tracked node.placed.pack.author reads.0 local.is_id (taken.people unlimited refl node.placed.pack.author reads.0 local.is_id reads.1)
+          tracked node.placed.pack.author reads.0 local.is_id (taken.people flat refl node.placed.pack.author reads.0 local.is_id reads.1)
 
       -- so they are known, if they were
-      pub authors_then : MeetsNoLimit folders old new run → TrackedAuthorsAreKnown (files_of old) folder remote → TrackedAuthorsAreKnown (files_of new) folder remote
-      authors_then unlimited known id top node is_id at below = elim (run_keeps folders apart folder is old new run from sound one_text remote word.Bug id is_id) [
+      pub authors_then : AreAllFlat folders (files_of old) → TrackedAuthorsAreKnown (files_of old) folder remote → TrackedAuthorsAreKnown (files_of new) folder remote
+      authors_then flat known id top node is_id at below = elim (run_keeps folders apart folder is old new run from sound one_text remote word.Bug id is_id) [
         | inl same ↦
             let was : head_at (files_of old) folder (side.RemoteBugs remote) id ≡ Head top = sym same ∙ at in
             let mine = author_back (objects_after old folder) (objects_after new folder) (sound folder is parts.Objects).whole (also folder is parts.Objects).whole (alike folder folder is is) top
             (head_held (files_of old) folder (side.RemoteBugs remote) id top (sound folder is) is_id was) (head_held (files_of new) folder (side.RemoteBugs remote) id top (also folder is) is_id at) node below in
             known_still node.placed.pack.author
             (subst (λ (person : Id). IsLocal (files_of old) folder person ⊎ IsTrackedPerson (files_of old) folder remote person) mine.2 (known id top mine.0 is_id was mine.1))
-        | inr taken ↦ inr (taken_known unlimited id top node is_id at below taken)
+        | inr taken ↦ inr (taken_known flat id top node is_id at below taken)
       ]
 
   -- ---- runs
@@ -164,8 +165,8 @@ module _ (folders : List (List ℕ)) (apart : AreApart folders) where
   all_people new (among.one_more mid end runs run takes) one_text =
       people_then mid end run takes (before_sound mid runs) one_text (all_people mid runs (before_text mid end run one_text))
 
-  pub all_authors : (new : History) (runs : RunsAmong folders [] new) → MeetNoLimit folders [] new runs → HaveOneTextEach (files_of new) folders → SeenAuthorsAreKnown (files_of new) folders
-  all_authors new among.nothing unlimited one_text = λ folder remote is id top node is_id at below. absurd (none_seen folder remote id top is_id (inr at))
-  all_authors new (among.one_more mid end runs run takes) unlimited one_text = λ folder remote is.
+  pub all_authors : (new : History) → RunsAmong folders [] new → HaveOneTextEach (files_of new) folders → SeenAuthorsAreKnown (files_of new) folders
+  all_authors new among.nothing one_text = λ folder remote is id top node is_id at below. absurd (none_seen folder remote id top is_id (inr at))
+  all_authors new (among.one_more mid end runs run takes) one_text = λ folder remote is.
       let text = before_text mid end run one_text in
-      authors_then mid end run takes (before_sound mid runs) one_text (all_people mid runs text) folder remote is unlimited.1 (all_authors mid runs unlimited.0 text folder remote is)
+      authors_then mid end run takes (before_sound mid runs) one_text (all_people mid runs text) folder remote is (runs_flat folders apart mid runs) (all_authors mid runs text folder remote is)

@@ -16,8 +16,6 @@ use Rattle.bug_run.proofs.UserStayLemmas.{last_moment}
 use Rattle.ref_store.specs.Refs.{Head}
 use Rattle.ref_store.specs.Setting.{ref_write}
 use Rattle.ref_store.proofs.FrameLemmas.{head_is_name}
-use Rattle.remote_copy.specs.Causes.{CauseHolds}
-use Rattle.remote_copy.specs.declared.fault.CopyFault.TheVariants as fault
 use Rattle.remote_name.specs.declared.remote.RemoteName.{RemoteName}
 use Rattle.remote_name.proofs.RemoteLemmas.{one_remote}
 use Rattle.repo_state.specs.Sides.{head_at, ref_place}
@@ -37,9 +35,8 @@ use Rattle.sync_writes.proofs.FetchKeptLemmas.{fetch-loses_nothing}
 use Rattle.sync_writes.proofs.PlaceLemmas.{fetch-place}
 use Rattle.full_exchanges.specs.Leaving.{IsUntouched}
 use Rattle.full_exchanges.proofs.HasLemmas.{same_heads, same_objects}
-use Rattle.copy_limits.specs.Flat.{HasFlatTrees}
-use Rattle.copy_limits.proofs.SoundLemmas.{sound_limit, sound_none}
-use Rattle.tracked_people.specs.Unlimited.{CopiesMeetNoLimit}
+use Rattle.copy_limits.specs.Flat.{HasFlatEntities, HasFlatTrees}
+use Rattle.copy_limits.proofs.SoundLemmas.{sound_none}
 use Rattle.tracked_people.proofs.RefLemmas.{kind_leaves, seen_at}
 
 -- what a fetch or a pull may write
@@ -160,24 +157,16 @@ module _ (folder peer : List ℕ) (other : RemoteName) (away : Overlap peer fold
           let same = peer_objects moment at ∙ sym (peer_objects new (last_moment Rule old new wrote)) in
           alike name text another (ap (λ (objects : Objects). text_at objects name) (sym same) ∙ there) (text_stays (objects_after moment folder) (objects_after new folder) (grew moment at) name another here)
 
-      -- so if nothing but a limit of trees could, and none did, nothing kept an identity from being copied
-      no_cause : CopiesMeetNoLimit folder peer old new → (now : History) → IsMoment old new now → (person : Id) (top : Name) → IsId person
+      -- so nothing kept an identity from being copied, if its trees are flat
+      no_cause : HasFlatEntities peer (files_of old) → (now : History) → IsMoment old new now → (person : Id) (top : Name) → IsId person
           → head_at (files_of now) peer side.Identities person ≡ Head top → HadCause folder peer old now top → ⊥
-      no_cause unlimited now at person top is_person reads had =
+      no_cause flat now at person top is_person reads had =
           let moment = had.moment in
           let at_it : IsMoment old new moment = IsMoment-of_first old now new moment had.is_moment (record { later = at.later; done = []; before = refl; after = at.after }) in
-          let theirs = (sound moment at_it).0 in
-          let there : head_at (files_of moment) peer side.Identities person ≡ Head top = peer_heads moment at_it word.Identity person ∙ sym (peer_heads now at word.Identity person) ∙ reads in
-          let limit = sound_limit peer (files_of moment) theirs person is_person true (objects_after moment folder) (sound moment at_it).1 (alike_at moment at_it) word.Identity top there (fault_of had.why) had.cause in
-          unlimited moment person top limit.0 at_it is_person there limit.2 (subst (CauseHolds true (objects_after moment peer) (objects_after moment folder) top) limit.1 had.cause)
-
-      -- nor does a limit, where the trees of the peer's identities are flat
-      pub flat_unlimited : ((person : Id) (top : Name) → IsId person → head_at (files_of old) peer side.Identities person ≡ Head top → HasFlatTrees (objects_after old peer) top)
-          → CopiesMeetNoLimit folder peer old new
-      flat_unlimited flat moment person top count at is_person reads limit cause =
-          let was : head_at (files_of old) peer side.Identities person ≡ Head top = sym (peer_heads moment at word.Identity person) ∙ reads in
-          sound_none peer (files_of moment) (sound moment at).0 person is_person true (objects_after moment folder) (sound moment at).1 (alike_at moment at) word.Identity top reads
-          (subst (λ (objects : Objects). HasFlatTrees objects top) (sym (peer_objects moment at)) (flat person top is_person was)) (fault.TooLarge count) cause
+          let was : head_at (files_of old) peer side.Identities person ≡ Head top = sym (peer_heads now at word.Identity person) ∙ reads in
+          sound_none peer (files_of moment) (sound moment at_it).0 person is_person true (objects_after moment folder) (sound moment at_it).1 (alike_at moment at_it) word.Identity top
+          (peer_heads moment at_it word.Identity person ∙ was) (subst (λ (objects : Objects). HasFlatTrees objects top) (sym (peer_objects moment at_it)) (flat word.Identity person top is_person was))
+          (fault_of had.why) had.cause
 
       -- the folder has last seen each identity of the peer as the peer had it
       abbrev pub ArePeopleSeen : RemoteName → Files → Type 0
@@ -189,7 +178,7 @@ module _ (folder peer : List ℕ) (other : RemoteName) (away : Overlap peer fold
         pub head : Name
         pub now : seen_at folder remote kind id files ≡ Head head
         pub was : head_at (files_of old) peer (local_side kind) id ≡ Head head
-        pub people : CopiesMeetNoLimit folder peer old new → kind ≡ word.Bug → ArePeopleSeen remote files
+        pub people : HasFlatEntities peer (files_of old) → kind ≡ word.Bug → ArePeopleSeen remote files
 
       abbrev pub IsKept : RemoteName → EntityWord → Id → Files → Type 0
       IsKept remote kind id files = (seen_at folder remote kind id files ≡ seen_at folder remote kind id (files_of old)) ⊎ WasSet remote kind id files
@@ -209,12 +198,12 @@ module _ (folder peer : List ℕ) (other : RemoteName) (away : Overlap peer fold
         ]
 
         -- and where a bug is set, they were
-        seen_first : CopiesMeetNoLimit folder peer old new → (remote : RemoteName) → ArePeopleTracked folder peer remote old (earlier ++ old) → ArePeopleSeen remote before
-        seen_first unlimited remote tracked person top is_person was =
+        seen_first : HasFlatEntities peer (files_of old) → (remote : RemoteName) → ArePeopleTracked folder peer remote old (earlier ++ old) → ArePeopleSeen remote before
+        seen_first flat remote tracked person top is_person was =
             let reads : head_at before peer side.Identities person ≡ Head top = peer_heads (earlier ++ old) at word.Identity person ∙ was in
             elim (tracked person top is_person reads) [
               | inl seen ↦ seen
-              | inr had ↦ absurd (no_cause unlimited (earlier ++ old) at person top is_person reads had)
+              | inr had ↦ absurd (no_cause flat (earlier ++ old) at person top is_person reads had)
             ]
 
         kept_on : (remote : RemoteName) (kind : EntityWord) (id : Id) → IsId id → IsKept remote kind id before → IsKept remote kind id after
@@ -226,13 +215,13 @@ module _ (folder peer : List ℕ) (other : RemoteName) (away : Overlap peer fold
               head = set.head;
               now = stays ∙ set.now;
               was = set.was;
-              people = λ unlimited bug. seen_still remote (set.people unlimited bug);
+              people = λ flat bug. seen_still remote (set.people flat bug);
             })
             by (inr set) so_far = inr (record {
               head = set.head;
               now = set.now;
               was = sym (peer_heads (earlier ++ old) at kind id) ∙ set.is_peers;
-              people = λ unlimited bug. seen_still remote (seen_first unlimited remote (set.people bug));
+              people = λ flat bug. seen_still remote (seen_first flat remote (set.people bug));
             })
 
       -- after the first writes

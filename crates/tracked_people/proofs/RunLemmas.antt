@@ -36,25 +36,25 @@ use Rattle.words.specs.declared.words.PeerCommand.{PeerCommand}
 use Rattle.words.specs.declared.words.PeerCommand.TheVariants.{Fetch, Pull, Push}
 use Rattle.words.proofs.PairLemmas.{apart_of}
 use Rattle.full_exchanges.specs.Having.{HaveOneTextEach}
-use Rattle.exchange_runs.specs.Takes.{TakesAmong, TakesFrom}
-use Rattle.tracked_people.specs.Unlimited.{ArePeopleFlat, AskedMeetsNoLimit, CommandMeetsNoLimit, CopiesMeetNoLimit, MeetsNoLimit}
-use Rattle.tracked_people.proofs.PullLemmas.{PullRule, flat_unlimited, pull_keeps}
+use Rattle.exchange_runs.specs.Takes.{TakesAmong}
+use Rattle.flat_trees.specs.Flat.{AreAllFlat}
+use Rattle.flat_trees.proofs.EntityLemmas.{entities_flat}
+use Rattle.tracked_people.proofs.PullLemmas.{PullRule, pull_keeps}
 use Rattle.tracked_people.proofs.RefLemmas.{IsLeft, IsThisOrApart, apart_leaves, kinds_leave, left_by, packs_leave, pushes_leave, seen_at}
 
 -- what is written for what is asked leaves what the folder has last seen, or takes from one of the folders
-data Moves (folders : List (List ℕ)) (folder : List ℕ) (asks : Asked) (old new : History) : Type 0 where
-  leaves : IsLeft folder (files_of old) (files_of new) → Moves folders folder asks old new
-  takes : (peer : List ℕ) (other : RemoteName) → Contains folders peer → (Overlap peer folder → ⊥) → WroteBy (PullRule folder peer other) old new
-      → (AskedMeetsNoLimit folders asks old new → CopiesMeetNoLimit folder peer old new) → Moves folders folder asks old new
+data Moves (folders : List (List ℕ)) (folder : List ℕ) (old new : History) : Type 0 where
+  leaves : IsLeft folder (files_of old) (files_of new) → Moves folders folder old new
+  takes : (peer : List ℕ) (other : RemoteName) → Contains folders peer → (Overlap peer folder → ⊥) → WroteBy (PullRule folder peer other) old new → Moves folders folder old new
 
--- what the folder has last seen of an entity is what one of the folders had; and of a bug, it has last seen each identity as that one had it
-pub record IsTaken (folders : List (List ℕ)) (folder : List ℕ) (asks : Asked) (remote : RemoteName) (kind : EntityWord) (id : Id) (old new : History) : Type 0 where
+-- what the folder has last seen of an entity is what one of the folders had; and of a bug, it has last seen each identity as that one had it, if the trees of the folders were flat
+pub record IsTaken (folders : List (List ℕ)) (folder : List ℕ) (remote : RemoteName) (kind : EntityWord) (id : Id) (old new : History) : Type 0 where
   pub peer : List ℕ
   pub is : Contains folders peer
   pub head : Name
   pub now : seen_at folder remote kind id (files_of new) ≡ Head head
   pub was : head_at (files_of old) peer (local_side kind) id ≡ Head head
-  pub people : AskedMeetsNoLimit folders asks old new → kind ≡ word.Bug → (person : Id) (top : Name) → IsId person
+  pub people : AreAllFlat folders (files_of old) → kind ≡ word.Bug → (person : Id) (top : Name) → IsId person
       → head_at (files_of old) peer side.Identities person ≡ Head top → seen_at folder remote word.Identity person (files_of new) ≡ Head top
 
 -- what a run writes up to where it stops
@@ -64,7 +64,7 @@ run_writes folders old new run =
     WroteBy-before (AskedWrites (asked_of run.words) run.moment) old run.end new (run_wrote call old run.end run.before run.after run.status refl run.answers) run.stop
 
 -- a run may stop at each moment
-abbrev pub stopped : (folders : List (List ℕ)) (old new moment : History) → IsRun folders old new → IsMoment old new moment → IsRun folders old moment
+abbrev stopped : (folders : List (List ℕ)) (old new moment : History) → IsRun folders old new → IsMoment old new moment → IsRun folders old moment
 stopped folders old new moment run at = record {
   words = run.words;
   place = run.place;
@@ -94,32 +94,28 @@ module _ (folders : List (List ℕ)) (apart : AreApart folders) (folder : List �
       by (inr differ) = inr (λ overlap. differ (sym (apart folder other is also overlap)))
 
   -- a fetch or a pull
-  pulled : (asks : Asked) (pair : FolderPair) (other : RemoteName) → IsThisOrApart folder pair.own → (Contains folders pair.own → Contains folders pair.peer) → (old new : History)
-      → (AskedMeetsNoLimit folders asks old new → Contains folders pair.own → CopiesMeetNoLimit pair.own pair.peer old new)
-      → WroteBy (PullRule pair.own pair.peer other) old new → Moves folders folder asks old new
-  pulled asks pair other (inr far) from old new unlimited wrote =
+  pulled : (pair : FolderPair) (other : RemoteName) → IsThisOrApart folder pair.own → (Contains folders pair.own → Contains folders pair.peer) → (old new : History)
+      → WroteBy (PullRule pair.own pair.peer other) old new → Moves folders folder old new
+  pulled pair other (inr far) from old new wrote =
       leaves (left_by folder (PullRule pair.own pair.peer other) old new (λ earlier change may. apart_leaves folder pair.own far (files_of (earlier ++ old)) change (place earlier change may)) wrote)
     where
       place : (earlier : List Change) (change : Change) → PullRule pair.own pair.peer other old earlier change → IsAtPlace pair.own change
       place earlier change (inl fetched) = fetch-place pair.own pair.peer other old earlier change fetched
       place earlier change (inr merged) = write-place pair.own (files_of (earlier ++ old)) change merged
-  pulled asks pair other (inl same) from old new unlimited wrote =
-      let here = subst (Contains folders) (sym same) is in
-      takes pair.peer other (from here)
+  pulled pair other (inl same) from old new wrote =
+      takes pair.peer other (from (subst (Contains folders) (sym same) is))
       (λ overlap. apart_of pair.own pair.peer pair.apart (subst (λ (f : List ℕ). Overlap f pair.peer) (sym same) (Overlap-mutual pair.peer folder overlap)))
       (subst (λ (f : List ℕ). WroteBy (PullRule f pair.peer other) old new) same wrote)
-      (λ met. subst (λ (f : List ℕ). CopiesMeetNoLimit f pair.peer old new) same (unlimited met here))
 
   exchanged : (command : PeerCommand) (pair : FolderPair) → StaysAmong folders (asked.Exchange (record { pair = pair; command = command })) → TakesAmong folders (asked.Exchange (record { pair = pair; command = command }))
-      → (old new : History) → WroteBy (ExchangeWrites command pair) old new → Moves folders folder (asked.Exchange (record { pair = pair; command = command })) old new
+      → (old new : History) → WroteBy (ExchangeWrites command pair) old new → Moves folders folder old new
   exchanged (Fetch other) pair place from old new wrote =
-      pulled (asked.Exchange (record { pair = pair; command = Fetch other })) pair other (this_or_apart pair.own place.0) from old new (λ met here. met here)
+      pulled pair other (this_or_apart pair.own place.0) from old new
       (WroteBy-wider (ExchangeWrites (Fetch other) pair) (PullRule pair.own pair.peer other) old new (λ (earlier : List Change) (change : Change) may. inl may) wrote)
-  exchanged (Pull other) pair place from old new wrote =
-      pulled (asked.Exchange (record { pair = pair; command = Pull other })) pair other (this_or_apart pair.own place.0) from old new (λ met here. met here) wrote
+  exchanged (Pull other) pair place from old new wrote = pulled pair other (this_or_apart pair.own place.0) from old new wrote
   exchanged Push pair place from old new wrote = leaves (pushes_leave folder pair.own pair.peer (this_or_apart pair.peer place.0) old new wrote)
 
-  asked_moves : (asks : Asked) (moment : Moment) → StaysAmong folders asks → TakesAmong folders asks → (old new : History) → WroteBy (AskedWrites asks moment) old new → Moves folders folder asks old new
+  asked_moves : (asks : Asked) (moment : Moment) → StaysAmong folders asks → TakesAmong folders asks → (old new : History) → WroteBy (AskedWrites asks moment) old new → Moves folders folder old new
   asked_moves asked.Nothing moment place from old new wrote = leaves (left_by folder (AskedWrites asked.Nothing moment) old new (λ earlier change may. absurd may) wrote)
   asked_moves (asked.Refused bad) moment place from old new wrote = leaves (left_by folder (AskedWrites (asked.Refused bad) moment) old new (λ earlier change may. absurd may) wrote)
   asked_moves (asked.Request request) moment place from old new wrote =
@@ -134,74 +130,20 @@ module _ (folders : List (List ℕ)) (apart : AreApart folders) (folder : List �
       leaves (kinds_leave folder request.folder (this_or_apart request.folder place) old new (of_rows request.folder old new wrote))
 
   module _ (old new : History) (run : IsRun folders old new) (from : TakesAmong folders (asked_of run.words)) (sound : AreAllSound folders (files_of old)) (one_text : HaveOneTextEach (files_of new) folders) where
-    run_moves : Moves folders folder (asked_of run.words) old new
+    run_moves : Moves folders folder old new
     run_moves = asked_moves (asked_of run.words) run.moment run.place from old new (run_writes folders old new run)
 
     -- so a tracking ref is as it was, or has the head that one of the folders had
     pub run_keeps : (remote : RemoteName) (kind : EntityWord) (id : Id) → IsId id
-        → (seen_at folder remote kind id (files_of new) ≡ seen_at folder remote kind id (files_of old)) ⊎ IsTaken folders folder (asked_of run.words) remote kind id old new
+        → (seen_at folder remote kind id (files_of new) ≡ seen_at folder remote kind id (files_of old)) ⊎ IsTaken folders folder remote kind id old new
     run_keeps remote kind id is_id = by run_moves
       where
-        by : Moves folders folder (asked_of run.words) old new
-            → (seen_at folder remote kind id (files_of new) ≡ seen_at folder remote kind id (files_of old)) ⊎ IsTaken folders folder (asked_of run.words) remote kind id old new
+        by : Moves folders folder old new
+            → (seen_at folder remote kind id (files_of new) ≡ seen_at folder remote kind id (files_of old)) ⊎ IsTaken folders folder remote kind id old new
         by (leaves left) = inl (left remote kind id)
-        by (takes peer other is_peer away wrote unlimited) =
+        by (takes peer other is_peer away wrote) =
             elim (pull_keeps folder peer other away old new wrote (λ moment at. (sound_at folders apart old new run sound moment at peer is_peer, sound_at folders apart old new run sound moment at folder is parts.Objects))
             (λ name text another here there. one_text peer folder name text another is_peer is here there) remote kind id is_id) [
               | inl stays ↦ inl stays
-              | inr set ↦ inr (record { peer = peer; is = is_peer; head = set.head; now = set.now; was = set.was; people = λ met bug. set.people (unlimited met) bug })
+              | inr set ↦ inr (record { peer = peer; is = is_peer; head = set.head; now = set.now; was = set.was; people = λ flat bug. set.people (entities_flat peer (files_of old) (sound peer is_peer) (flat peer is_peer)) bug })
             ]
-
--- ---- limits
-
--- where the trees of the identities of sound folders are flat, no copy of one meets a limit
-module _ (folders : List (List ℕ)) (old new : History) (sounds : (moment : History) → IsMoment old new moment → AreAllSound folders (files_of moment))
-    (one_text : HaveOneTextEach (files_of new) folders) (flat : ArePeopleFlat (files_of old) folders) where
-  pull_unlimited : (pair : FolderPair) (other : RemoteName) → (Contains folders pair.own → Contains folders pair.peer) → WroteBy (PullRule pair.own pair.peer other) old new
-      → Contains folders pair.own → CopiesMeetNoLimit pair.own pair.peer old new
-  pull_unlimited pair other from wrote here =
-      flat_unlimited pair.own pair.peer other (λ overlap. apart_of pair.own pair.peer pair.apart (Overlap-mutual pair.peer pair.own overlap)) old new wrote
-      (λ moment at. (sounds moment at pair.peer (from here), sounds moment at pair.own here parts.Objects))
-      (λ name text another there mine. one_text pair.peer pair.own name text another (from here) here there mine)
-      (λ person top is_person reads. flat pair.peer person top (from here) is_person reads)
-
-  command_unlimited : (command : PeerCommand) (pair : FolderPair) → TakesFrom folders command pair → WroteBy (ExchangeWrites command pair) old new → CommandMeetsNoLimit folders command pair old new
-  command_unlimited (Fetch other) pair from wrote =
-      pull_unlimited pair other from (WroteBy-wider (ExchangeWrites (Fetch other) pair) (PullRule pair.own pair.peer other) old new (λ (earlier : List Change) (change : Change) may. inl may) wrote)
-  command_unlimited (Pull other) pair from wrote = pull_unlimited pair other from wrote
-  command_unlimited Push pair from wrote = tt
-
-  asked_unlimited : (asks : Asked) (moment : Moment) → TakesAmong folders asks → WroteBy (AskedWrites asks moment) old new → AskedMeetsNoLimit folders asks old new
-  asked_unlimited asked.Nothing moment from wrote = tt
-  asked_unlimited (asked.Refused bad) moment from wrote = tt
-  asked_unlimited (asked.Request request) moment from wrote = tt
-  asked_unlimited (asked.Exchange request) moment from wrote = command_unlimited request.command request.pair from wrote
-  asked_unlimited (asked.Merge request) moment from wrote = tt
-  asked_unlimited (asked.List request) moment from wrote = tt
-
-pub run_unlimited : (folders : List (List ℕ)) → AreApart folders → (old new : History) (run : IsRun folders old new) → TakesAmong folders (asked_of run.words) → AreAllSound folders (files_of old)
-    → HaveOneTextEach (files_of new) folders → ArePeopleFlat (files_of old) folders → MeetsNoLimit folders old new run
-run_unlimited folders apart old new run from sound one_text flat =
-    asked_unlimited folders old new (sound_at folders apart old new run sound) one_text flat (asked_of run.words) run.moment from (run_writes folders old new run)
-
--- what meets no limit meets none where it is stopped
-module _ (folders : List (List ℕ)) (old new moment : History) (at : IsMoment old new moment) where
-  copies_then : (own peer : List ℕ) → CopiesMeetNoLimit own peer old new → CopiesMeetNoLimit own peer old moment
-  copies_then own peer met mid person head count at_mid =
-      met mid person head count (IsMoment-of_first old moment new mid at_mid (record { later = at.later; done = []; before = refl; after = at.after }))
-
-  command_then : (command : PeerCommand) (pair : FolderPair) → CommandMeetsNoLimit folders command pair old new → CommandMeetsNoLimit folders command pair old moment
-  command_then (Fetch other) pair met = λ here. copies_then pair.own pair.peer (met here)
-  command_then (Pull other) pair met = λ here. copies_then pair.own pair.peer (met here)
-  command_then Push pair met = tt
-
-  asked_then : (asks : Asked) → AskedMeetsNoLimit folders asks old new → AskedMeetsNoLimit folders asks old moment
-  asked_then asked.Nothing met = tt
-  asked_then (asked.Refused bad) met = tt
-  asked_then (asked.Request request) met = tt
-  asked_then (asked.Exchange request) met = command_then request.command request.pair met
-  asked_then (asked.Merge request) met = tt
-  asked_then (asked.List request) met = tt
-
-  pub stopped_unlimited : (run : IsRun folders old new) → MeetsNoLimit folders old new run → MeetsNoLimit folders old moment (stopped folders old new moment run at)
-  stopped_unlimited run met = asked_then (asked_of run.words) met

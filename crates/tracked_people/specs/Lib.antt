@@ -1,2 +1,1 @@
 pub mod People
-pub mod Unlimited

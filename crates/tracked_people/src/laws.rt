@@ -2,13 +2,12 @@
 //! of a function that does nothing.
 ghost use Rattle.std.specs.Prelude.{[], ℕ, List};
 ghost use Rattle.gb_store.specs.Files.{History, files_of};
-ghost use Rattle.gb_store.specs.Moments.{IsMoment};
 ghost use Rattle.words.specs.Words.{asked_of};
 ghost use Rattle.bug_run.specs.Runs.{AreAllSound, AreApart, IsRun};
 ghost use Rattle.full_exchanges.specs.Having.{HaveOneTextEach};
 ghost use Rattle.exchange_runs.specs.Takes.{RunsAmong, TakesAmong};
+ghost use Rattle.flat_trees.specs.Flat.{AreAllFlat};
 ghost use Rattle.tracked_people.specs.People.{SeenAuthorsAreKnown, SeenPeopleAreSound};
-ghost use Rattle.tracked_people.specs.Unlimited.{ArePeopleFlat, MeetNoLimit, MeetsNoLimit};
 
 /// Folders of which no two overlap take commits from each other alone, and have no two texts under
 /// one name. Then the chain of each identity that one of them has last seen at a remote has no
@@ -24,33 +23,18 @@ pub fn people_last_seen_have_no_fault()
         → SeenPeopleAreSound (files_of new) folders }
 {}
 
-/// If no limit of trees keeps the head of an identity from being copied at a moment of a fetch or
-/// of a pull, the author of each commit of a bug that one of the folders has last seen at a remote
-/// is known to it: a local identity, or one that it has last seen at that remote and whose chain
-/// has no fault. So it is at each moment of such a run.
+/// The author of each commit of a bug that one of such folders has last seen at a remote is known
+/// to it: a local identity, or one that it has last seen at that remote and whose chain has no
+/// fault. A run keeps that in sound folders whose trees are flat, wherever it stops; and so it is
+/// after any runs from no files at all, which leave flat trees.
 pub fn authors_of_tracked_bugs_are_known()
     ensures run { (folders : List (List ℕ)) (old new : History) → AreApart folders
         → (run : IsRun folders old new) → TakesAmong folders (asked_of run.words)
-        → MeetsNoLimit folders old new run
-        → AreAllSound folders (files_of old) → HaveOneTextEach (files_of new) folders
+        → AreAllFlat folders (files_of old) → AreAllSound folders (files_of old)
+        → HaveOneTextEach (files_of new) folders
         → SeenPeopleAreSound (files_of old) folders → SeenAuthorsAreKnown (files_of old) folders
         → SeenAuthorsAreKnown (files_of new) folders }
-    ensures moments { (folders : List (List ℕ)) (old new moment : History) → AreApart folders
-        → (run : IsRun folders old new) → TakesAmong folders (asked_of run.words)
-        → MeetsNoLimit folders old new run → IsMoment old new moment
-        → AreAllSound folders (files_of old) → HaveOneTextEach (files_of moment) folders
-        → SeenPeopleAreSound (files_of old) folders → SeenAuthorsAreKnown (files_of old) folders
-        → SeenAuthorsAreKnown (files_of moment) folders }
     ensures runs { (folders : List (List ℕ)) (new : History) → AreApart folders
-        → (runs : RunsAmong folders [] new) → MeetNoLimit folders [] new runs
-        → HaveOneTextEach (files_of new) folders → SeenAuthorsAreKnown (files_of new) folders }
-{}
-
-/// In a run over sound folders no such limit keeps an identity from being copied, if the trees of
-/// their identities are flat, as those that commands make are.
-pub fn flat_people_meet_no_limit()
-    ensures { (folders : List (List ℕ)) (old new : History) → AreApart folders
-        → (run : IsRun folders old new) → TakesAmong folders (asked_of run.words)
-        → AreAllSound folders (files_of old) → HaveOneTextEach (files_of new) folders
-        → ArePeopleFlat (files_of old) folders → MeetsNoLimit folders old new run }
+        → RunsAmong folders [] new → HaveOneTextEach (files_of new) folders
+        → SeenAuthorsAreKnown (files_of new) folders }
 {}

@@ -4,6 +4,4 @@
 
 mod laws;
 
-pub use laws::{
-    authors_of_tracked_bugs_are_known, flat_people_meet_no_limit, people_last_seen_have_no_fault,
-};
+pub use laws::{authors_of_tracked_bugs_are_known, people_last_seen_have_no_fault};

@@ -1,5 +1,5 @@
 use Rattle.clean_folders.proofs.FetchLemmas.{fetch_clean, pull_fetch_clean, push_clean}
-use Rattle.clean_folders.proofs.laws.clean_folders_fetch_all_but_for_a_limit.Goals as goal
+use Rattle.clean_folders.proofs.laws.clean_folders_refuse_no_copy.Goals as goal
 
 pub returns-clause-fetch : goal.returns-clause-fetch
 returns-clause-fetch c = λ folders old new pair remote apart runs run one_text asks own peer prints has.
