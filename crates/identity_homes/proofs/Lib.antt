@@ -1,0 +1,11 @@
+pub mod ChainLemmas
+pub mod EditLemmas
+pub mod HeadLemmas
+pub mod HomeLemmas
+pub mod LineLemmas
+pub mod MergeLemmas
+pub mod RunLemmas
+pub mod SeedLemmas
+pub mod TakenLemmas
+pub mod UserHomeLemmas
+pub mod UserLemmas
