@@ -1,0 +1,11 @@
+use Rattle.clean_worlds.proofs.StayLemmas.{exchange_each_clean, exchange_stays_clean, stays_clean}
+use Rattle.clean_worlds.proofs.laws.clean_worlds_stay_clean.Goals as goal
+
+pub returns-clause-events : goal.returns-clause-events
+returns-clause-events c = stays_clean
+
+pub returns-clause-exchange : goal.returns-clause-exchange
+returns-clause-exchange c = exchange_stays_clean
+
+pub returns-clause-each : goal.returns-clause-each
+returns-clause-each c = exchange_each_clean

@@ -1,0 +1,4 @@
+pub mod AskedLemmas
+pub mod LeftLemmas
+pub mod PersonLemmas
+pub mod ToldLemmas

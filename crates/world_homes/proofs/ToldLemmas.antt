@@ -1,0 +1,71 @@
+-- The events that a number makes have distinct seeds, also those that make identities; so the world that is asked for has clean people.
+use Rattle.std.proofs.Common.{◌≡◌, ◌≢◌, ◌≤◌, ◌<◌, ◌+◌, ◌^◌, ap, sym, ◌∙◌, ℕ, zero, suc, List, [], map, drop, get_or, arith}
+use Rattle.std.specs.Int.{w64, from_be_bytes}
+use Rattle.std.specs.List.{range_with_len}
+use Rattle.std.proofs.lemmas.List.Elements.{All-map, Contains-get_or}
+use Rattle.std.proofs.lemmas.Nat.{from_be_bytes-to_be_bytes_8}
+use Rattle.exchange_runs.proofs.MemberLemmas.{in_range}
+use Rattle.world.specs.Told.{IsWorld}
+use Rattle.world.specs.declared.world.World.{World}
+use Rattle.world_agreements.proofs.WithinLemmas.{events_within}
+use Rattle.world_events.specs.Events.{event_of, events_of, seed_of, seed_text}
+use Rattle.world_events.specs.declared.event.Event.{Event}
+use Rattle.world_texts.specs.Asked.{IsInBounds}
+use Rattle.world_texts.specs.declared.asked.Asked.{Asked}
+use Rattle.clean_worlds.specs.Hashes.{HashesDoNotCollide}
+use Rattle.clean_worlds.specs.Seeds.{SeedTextsDoNotCollide}
+use Rattle.clean_worlds.specs.Worlds.{IsCleanWorld}
+use Rattle.clean_worlds.proofs.GeneratedLemmas.{generated_distinct}
+use Rattle.world_homes.specs.People.{HasCleanPeople, HaveDistinctPeopleSeeds, MakesAPerson, PeopleHashesDoNotCollide}
+
+-- a place reads back from the text of a seed
+place_is_of_one : (number one two : ℕ) → one < 2 ^ 64 → two < 2 ^ 64 → seed_text number one ≡ seed_text number two → one ≡ two
+place_is_of_one number one two first second e =
+    sym (from_be_bytes-to_be_bytes_8 one first) ∙ ap (λ (text : List ℕ). from_be_bytes w64 (drop 8 text)) e ∙ from_be_bytes-to_be_bytes_8 two second
+
+module _ (number folders count : ℕ) (few : count ≤ 2 ^ 64) (none : SeedTextsDoNotCollide number count) where
+  -- so two places have two seeds
+  seeds_differ : (one two : ℕ) → one < count → two < count → one ≢ two → seed_of number one ≢ seed_of number two
+  seeds_differ one two first second differ same =
+      none one two first second (λ texts. differ (place_is_of_one number one two (omega (arith, first, few)) (omega (arith, second, few)) texts), same)
+
+  -- from a place on
+  distinct_from : (from more : ℕ) → from + more ≤ count → HaveDistinctPeopleSeeds (map (event_of number folders) (range_with_len from more))
+  distinct_from from zero below = tt
+  distinct_from from (suc more) below = (
+    λ makes.
+        let later = range_with_len (from + 1) more in
+        All-map (λ (other : Event). MakesAPerson other.act → other.seed ≢ seed_of number from) (event_of number folders) later
+        (λ k default within also.
+        let range = in_range (from + 1) more (get_or later k default) (Contains-get_or later k default within) in
+        seeds_differ (get_or later k default) from (omega (arith, range, below)) (omega (arith, below)) (λ same. omega (arith, range, same))),
+    distinct_from (from + 1) more (omega (arith, below)),
+  )
+
+  distinct_people : HaveDistinctPeopleSeeds (events_of number folders count)
+  distinct_people = distinct_from 0 count (omega arith)
+
+-- ---- the world that is asked for
+
+module _ (asked : Asked) (world : World) (bounds : IsInBounds asked) (made : IsWorld asked world) (none : SeedTextsDoNotCollide asked.number asked.events)
+    (no_collision : HashesDoNotCollide asked.folders (events_of asked.number asked.folders asked.events) made.ends [] made.mid made.played) where
+  abbrev told : IsCleanWorld asked.folders made.mid
+  told = record {
+    most = bounds.most;
+    events = events_of asked.number asked.folders asked.events;
+    within = events_within asked.folders bounds.some asked.number asked.events;
+    ends = made.ends;
+    played = made.played;
+    seeds = generated_distinct asked.number asked.folders asked.events (omega (arith, bounds.few)) none;
+    no_collision = no_collision;
+  }
+
+  pub told_people : PeopleHashesDoNotCollide asked.folders (events_of asked.number asked.folders asked.events) made.ends [] made.mid made.played
+      → (is : IsCleanWorld asked.folders made.mid) × HasCleanPeople asked.folders made.mid is
+  told_people none_of_people = (
+    told,
+    record {
+      seeds = distinct_people asked.number asked.folders asked.events (omega (arith, bounds.few)) none;
+      no_collision = none_of_people;
+    },
+  )
