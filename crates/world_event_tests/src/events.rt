@@ -2,7 +2,7 @@
 use gb_text::{Id, List};
 use std::alloc::Global;
 use std::test::Fail;
-use world_events::{Act, Event, event_words, exchange_events, folder_word, generate};
+use world_events::{Act, Event, are_within, event_words, exchange_events, folder_word, generate};
 
 // Sees that the event at a place is in this folder and does this.
 fn does(events: &List<Event>, place: usize, folder: u32, act: Act) -> Result<(), Fail> {
@@ -56,6 +56,68 @@ fn the_least_and_the_greatest_number_make_events(rt: HostRuntime) -> Result<(), 
     )
 }
 
+// The first command in a world of 4 folders, on both sides of each limit of the 100 numbers.
+#[test]
+fn commands_have_their_limits(rt: HostRuntime) -> Result<(), Fail> {
+    let rows = [
+        (16, 1, Act::NewBug),
+        (50, 3, Act::NewBug),
+        (102, 1, Act::Comment { pick: 2136751811 }),
+        (331, 0, Act::Comment { pick: 1825925750 }),
+        (41, 0, Act::Title { pick: 794144279 }),
+        (105, 1, Act::Title { pick: 266525941 }),
+        (43, 1, Act::Edit { pick: 978982798 }),
+        (23, 0, Act::Edit { pick: 1278081256 }),
+        (127, 3, Act::Close { pick: 152266002 }),
+        (97, 0, Act::Close { pick: 1674655513 }),
+        (35, 0, Act::Reopen { pick: 239628722 }),
+        (5, 0, Act::Reopen { pick: 1762018234 }),
+        (
+            436,
+            2,
+            Act::LabelAdd {
+                pick: 792529755,
+                label: 1,
+            },
+        ),
+        (
+            79,
+            0,
+            Act::LabelAdd {
+                pick: 11108843,
+                label: 1,
+            },
+        ),
+        (
+            17,
+            0,
+            Act::LabelRm {
+                pick: 723565700,
+                label: 1,
+            },
+        ),
+        (
+            205,
+            2,
+            Act::LabelRm {
+                pick: 918517297,
+                label: 4,
+            },
+        ),
+        (39, 2, Act::Noop { pick: 609305760 }),
+        (24, 3, Act::Noop { pick: 1370500516 }),
+        (579, 1, Act::Pull { peer: 3 }),
+        (643, 3, Act::Pull { peer: 1 }),
+        (145, 3, Act::Push { peer: 2 }),
+        (856, 3, Act::Push { peer: 2 }),
+    ];
+    for (number, folder, act) in rows {
+        let events = generate(rt.alloc(), number, 4, 5)?;
+        does(&events, 4, folder, act)?;
+    }
+    Ok(())
+}
+
 #[test]
 fn folders_gather_and_then_spread(rt: HostRuntime) -> Result<(), Fail> {
     let events = exchange_events(rt.alloc(), 3, 7)?;
@@ -68,17 +130,40 @@ fn folders_gather_and_then_spread(rt: HostRuntime) -> Result<(), Fail> {
     Ok(())
 }
 
-// The arguments of event 7 in folder 3, with a space between each two.
-fn line(alloc: Global, act: Act, bugs: &[Id]) -> Result<Option<String>, Fail> {
-    let event = Event {
-        folder: 3,
+// Event 7, in this folder.
+fn event_in(folder: u32, act: Act) -> Event {
+    Event {
+        folder,
         act,
         number: 7,
         now: 0,
         seed: [0; 32],
         stop: None,
-    };
-    let Some(words) = event_words(alloc, &event, bugs)? else {
+    }
+}
+
+#[test]
+fn events_are_within_their_world(rt: HostRuntime) -> Result<(), Fail> {
+    let rows = [
+        (2, Act::UserNew, true),
+        (3, Act::UserNew, false),
+        (1, Act::Pull { peer: 2 }, true),
+        (1, Act::Pull { peer: 3 }, false),
+        (1, Act::Pull { peer: 1 }, false),
+        (2, Act::Push { peer: 0 }, true),
+        (2, Act::Push { peer: 3 }, false),
+        (2, Act::Push { peer: 2 }, false),
+    ];
+    for (folder, act, wanted) in rows {
+        let events = [event_in(0, Act::NewBug), event_in(folder, act)];
+        assert_eq!(rt; are_within(3, &events), wanted);
+    }
+    Ok(())
+}
+
+// The arguments of event 7 in folder 3, with a space between each two.
+fn line(alloc: Global, act: Act, bugs: &[Id]) -> Result<Option<String>, Fail> {
+    let Some(words) = event_words(alloc, &event_in(3, act), bugs)? else {
         return Ok(None);
     };
     let mut line = String::new(alloc);
@@ -115,6 +200,7 @@ fn events_have_their_arguments(rt: HostRuntime) -> Result<(), Fail> {
         ),
         (Act::Pull { peer: 11 }, "w3 pull w11 w11"),
         (Act::Push { peer: 11 }, "w3 push w11"),
+        (Act::PackRefs, "w3 pack-refs"),
     ];
     for (act, wanted) in rows {
         let found = line(alloc, act, &bugs)?.ok_or("arguments")?;

@@ -47,12 +47,12 @@ fn three_numbers_ask_for_a_world(rt: HostRuntime) -> Result<(), Fail> {
 // The hash of no bytes.
 const EMPTY: &str = "e3b0c44298fc1c149afbf4c8996fb92427ae41e4649b934ca495991b7852b855";
 
-const EQUAL: &str = "events 2
+const EQUAL: &str = "events 9
 done 2
-refused 0
-skipped 0
-folder w0 bugs 0 digest e3b0c44298fc1c149afbf4c8996fb92427ae41e4649b934ca495991b7852b855
-folder w1 bugs 0 digest e3b0c44298fc1c149afbf4c8996fb92427ae41e4649b934ca495991b7852b855
+refused 3
+skipped 4
+folder w0 bugs 5 digest e3b0c44298fc1c149afbf4c8996fb92427ae41e4649b934ca495991b7852b855
+folder w1 bugs 6 digest e3b0c44298fc1c149afbf4c8996fb92427ae41e4649b934ca495991b7852b855
 equal
 ";
 
@@ -60,16 +60,17 @@ equal
 fn worlds_are_told(rt: HostRuntime) -> Result<(), Fail> {
     let hash = Id::read(EMPTY.as_bytes()).ok_or("an id")?;
     let tally = Tally {
-        events: 2,
+        events: 9,
         done: 2,
-        refused: 0,
-        skipped: 0,
+        refused: 3,
+        skipped: 4,
     };
-    let one = Digest { bugs: 0, hash };
-    let text = summary_text(rt.alloc(), &tally, &[one, one])?;
+    let one = Digest { bugs: 5, hash };
+    let two = Digest { bugs: 6, hash };
+    let text = summary_text(rt.alloc(), &tally, &[one, two])?;
     assert_eq!(rt; text.as_str(), EQUAL);
     let other = Digest {
-        bugs: 0,
+        bugs: 5,
         hash: Id::from_bytes([0; 32]),
     };
     let text = summary_text(rt.alloc(), &tally, &[one, one, other])?;

@@ -60,9 +60,14 @@ fn events_are_counted_as_they_end(rt: HostRuntime) -> Result<(), Fail> {
         event(1, 5, Act::Pull { peer: 0 }),
     ];
     assert!(rt; are_within(2, &events));
-    let world = play(rt.alloc(), 2, &events)?;
+    let mut world = play(rt.alloc(), 2, &events)?;
     assert_eq!(rt; (world.done, world.refused, world.skipped), (2, 2, 1));
     assert_eq!(rt; (world.folders, world.events), (2, 5));
+    let text = summary(rt.alloc(), &mut world)?;
+    assert!(rt;
+        text.as_str()
+            .starts_with("events 5\ndone 2\nrefused 2\nskipped 1\n")
+    );
     Ok(())
 }
 

@@ -1,7 +1,7 @@
 //! What the texts say.
-ghost use Rattle.std.specs.Prelude.{◌≡◌, ℕ, List, Some, Contains, true};
+ghost use Rattle.std.specs.Prelude.{◌≡◌, ℕ, List, Some, Contains, codes};
 ghost use Rattle.world_texts.specs.Asked.{asked_of, IsAskedBy};
-ghost use Rattle.world_texts.specs.Summary.{are_equal};
+ghost use Rattle.world_texts.specs.Summary.{verdict_of};
 ghost use Rattle.world_texts.specs.declared.asked.Asked.{Asked as AskedValue};
 ghost use Rattle.world_texts.specs.declared.tally.Digest.{Digest as DigestValue};
 
@@ -17,9 +17,9 @@ pub fn worlds_are_asked_for_by_three_numbers()
 /// `equal` is printed if and only if each two folders have the same hash.
 pub fn equal_digests_are_told()
     ensures same { (digests : List DigestValue) (one other : DigestValue)
-        → are_equal digests ≡ true → Contains digests one → Contains digests other
+        → verdict_of digests ≡ codes "equal\n" → Contains digests one → Contains digests other
         → one.hash ≡ other.hash }
     ensures each { (digests : List DigestValue)
         → ((one other : DigestValue) → Contains digests one → Contains digests other
-        → one.hash ≡ other.hash) → are_equal digests ≡ true }
+        → one.hash ≡ other.hash) → verdict_of digests ≡ codes "equal\n" }
 {}
