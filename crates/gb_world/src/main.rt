@@ -33,6 +33,12 @@ struct Progress<'a, R: Eprint> {
 }
 
 impl<'a, R: Eprint> Watch for Progress<'a, R> {
+    ghost use Rattle.std.specs.Prelude.{[], false};
+
+    ghost tells = { false };
+
+    ghost told = { λ _. [] };
+
     fn played(&mut self, count: u64, all: u64) {
         if self.is_seen && (count % STEP == 0 || count == all) {
             let end = if count == all { "\n" } else { "" };

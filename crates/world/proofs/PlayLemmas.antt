@@ -1,6 +1,7 @@
 -- Events that are played one after another.
-use Rattle.std.proofs.Common.{◌≡◌, ◌<◌, ◌+◌, ℕ, List, [], ◌∷◌, ◌++◌, length, take, get_or, refl, sym, ◌∙◌, ap, subst, arith, cond, length-append, IsTrue, None}
+use Rattle.std.proofs.Common.{◌≡◌, ◌<◌, ◌+◌, ℕ, List, [], ◌∷◌, ◌++◌, length, take, get_or, append_assoc, refl, sym, ◌∙◌, ap, subst, arith, cond, length-append, IsTrue, None}
 use Rattle.std.proofs.lemmas.List.{take_more}
+use Rattle.std.proofs.lemmas.List.FromFn.{map-range_with_len_more}
 use Rattle.std.proofs.lemmas.List.Sums.{sum_by_push}
 use Rattle.std.specs.Prelude.{pos}
 use Rattle.std.specs.List.{zip}
@@ -9,7 +10,7 @@ use Rattle.gb_store.specs.Turns.{InTurn}
 use Rattle.gb_store.specs.MemStore.{MemState, has_no_fails}
 use Rattle.world.specs.Counts.{IsCounted, counted, is_done, is_refused, is_skipped}
 use Rattle.world.specs.Plays.{ArePlayed, RunsEvent}
-use Rattle.world.specs.Worlds.{IsPlayed}
+use Rattle.world.specs.Worlds.{IsPlayed, told_of}
 use Rattle.world.specs.declared.world.Ended.{Ended}
 use Rattle.world.specs.declared.world.Ended.TheVariants.{Done, Refused, Skipped}
 use Rattle.world.specs.declared.world.World.{World}
@@ -111,3 +112,12 @@ pub after_next : (events : List Event) (folders i : ℕ) (ended : Ended) (world 
     → IsAfter events folders (i + 1) after
 after_next events folders i ended world after store within was runs calm is =
     subst (IsAfter events folders (i + 1)) (sym is) (after_more events folders i ended world store within was runs calm)
+
+-- ---- what is told of them
+
+-- once more
+pub told_more : (before was after : List (ℕ × ℕ)) (all i count of : ℕ) → was ≡ before ++ told_of all i → count ≡ i + 1 → of ≡ all
+    → after ≡ was ++ (count, of) ∷ [] → after ≡ before ++ told_of all (i + 1)
+told_more before was after all i count of told is of_all more =
+    let next : told_of all (i + 1) ≡ told_of all i ++ (i + 1, all) ∷ [] = map-range_with_len_more (λ (k : ℕ). (k, all)) 1 i (i + 1) (omega arith) in
+    rw (more, told, is, of_all, next) (append_assoc before (told_of all i) ((i + 1, all) ∷ []))

@@ -1,5 +1,6 @@
 -- The world that events leave.
-use Rattle.std.specs.Prelude.{List, []}
+use Rattle.std.specs.Prelude.{ℕ, List, [], map}
+use Rattle.std.specs.List.{range_with_len}
 use Rattle.world.specs.Counts.{IsCounted}
 use Rattle.world.specs.Plays.{ArePlayed}
 use Rattle.world.specs.declared.world.Ended.{Ended}
@@ -11,3 +12,7 @@ pub record IsPlayed (events : List Event) (world : World) : Type 0 where
   pub ends : List Ended
   pub are : ArePlayed events ends [] world.store.history
   pub counts : IsCounted ends world
+
+-- what is told of the first ones of all events: after each how many they are, and of how many
+abbrev pub told_of : ℕ → ℕ → List (ℕ × ℕ)
+told_of all count = map (λ k. (k, all)) (range_with_len 1 count)

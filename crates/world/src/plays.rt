@@ -1,8 +1,8 @@
 //! Playing events.
-ghost use Rattle.std.specs.Prelude.{◌≡◌, ◌≤◌, All, IfOk, IsTrue, length};
+ghost use Rattle.std.specs.Prelude.{◌≡◌, ◌≤◌, ◌++◌, All, IfOk, IsTrue, OnOk, length};
 ghost use Rattle.gb_store.specs.MemStore.{has_no_fails};
 ghost use Rattle.world.specs.Counts.{IsUnfilled, counted};
-ghost use Rattle.world.specs.Worlds.{IsPlayed};
+ghost use Rattle.world.specs.Worlds.{IsPlayed, told_of};
 ghost use Rattle.world_events.specs.Within.{IsWithin};
 
 use crate::runs::run_event;
@@ -40,6 +40,8 @@ pub fn play_watched<W: Watch>(
     ensures plays { IfOk result (IsPlayed events.now) }
     ensures numbers { IfOk result (λ world. (world.folders ≡ folders)
         × (world.events ≡ length events.now)) }
+    ensures told { IsTrue W.tells → OnOk result (W.told watch.new
+        ≡ W.told watch.old ++ told_of (length events.now) (length events.now)) }
     ensures calm { IfOk result (λ world. IsTrue (has_no_fails world.store)) }
 {
     let mut world = World {

@@ -211,3 +211,15 @@ fn events_have_their_arguments(rt: HostRuntime) -> Result<(), Fail> {
     assert_eq!(rt; folder_word(alloc, 15)?.as_str(), "w15");
     Ok(())
 }
+
+// The id of the first comment has digits of the bug's id twice.
+#[test]
+fn an_edit_names_the_first_comment(rt: HostRuntime) -> Result<(), Fail> {
+    let digits = "0123456789abcdef0123456789abcdef0123456789abcdef0123456789abcdef";
+    let bug = Id::read(digits.as_bytes()).ok_or("an id")?;
+    let found = line(rt.alloc(), Act::Edit { pick: 0 }, &[bug])?.ok_or("arguments")?;
+    let comment = "001122345367894abcd5ef0162345767898abcd9ef01a2345b6789cabcddef01";
+    let wanted = "w3 edit COMMENT message 7".replace(rt.alloc(), "COMMENT", comment)?;
+    assert_eq!(rt; found.as_str(), wanted.as_str());
+    Ok(())
+}

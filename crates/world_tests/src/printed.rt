@@ -37,6 +37,12 @@ fn other_arguments_print_the_usage(rt: HostRuntime) -> Result<(), Fail> {
 struct Last(u64, u64);
 
 impl Watch for Last {
+    ghost use Rattle.std.specs.Prelude.{[], false};
+
+    ghost tells = { false };
+
+    ghost told = { λ _. [] };
+
     fn played(&mut self, count: u64, all: u64) {
         self.0 = count;
         self.1 = all;
