@@ -1,5 +1,5 @@
 -- A clean world stays clean while no event edits a bug.
-use Rattle.std.proofs.Common.{◌≡◌, ◌-◌, inl, inr, refl, subst, ℕ, ℤ, List, [], ◌∷◌, ◌++◌, length, map, All, arith, length-append}
+use Rattle.std.proofs.Common.{◌≡◌, ◌⊎◌, ◌-◌, inl, inr, refl, subst, ℕ, ℤ, List, [], ◌∷◌, ◌++◌, length, map, All, arith, length-append}
 use Rattle.std.specs.List.{range_with_len, zip}
 use Rattle.std.proofs.lemmas.List.Elements.{All-append, All-cons, All-head, All-map, All-nil, All-tail, All-weaker}
 use Rattle.gb_store.specs.Files.{History}
@@ -8,6 +8,8 @@ use Rattle.world.specs.Plays.{ArePlayed, RunsEvent}
 use Rattle.world.specs.declared.world.Ended.{Ended}
 use Rattle.world_events.specs.Exchange.{exchange_of, pull_at}
 use Rattle.world_events.specs.Within.{IsWithin}
+use Rattle.world_events.specs.declared.act.Act.{Act}
+use Rattle.world_events.specs.declared.act.Act.TheVariants as act
 use Rattle.world_events.specs.declared.event.Event.{Event}
 use Rattle.world_agreements.proofs.WithinLemmas.{exchange_within}
 use Rattle.clean_worlds.specs.Hashes.{WorldHashes}
@@ -121,3 +123,14 @@ pub exchange_each_clean : (folders : ℕ) (now : ℤ) (pulls : List Ended) (old 
     → InTurn (RunsInClean folders) (zip (exchange_of folders now) pulls) old new
 exchange_each_clean folders now pulls old new clean played =
     each_clean folders (exchange_of folders now) pulls old new clean (exchange_within folders now) (exchange_quiet folders now) played.in_turn
+
+-- an act that makes a user, packs refs, pulls or pushes edits no bug
+quiet_act : (one : Act) (peer : ℕ) → (one ≡ act.UserNew) ⊎ ((one ≡ act.PackRefs) ⊎ ((one ≡ act.Pull peer) ⊎ (one ≡ act.Push peer))) → EditsABug one → ⊥
+quiet_act one peer (inl is) edits = subst EditsABug is edits
+quiet_act one peer (inr (inl is)) edits = subst EditsABug is edits
+quiet_act one peer (inr (inr (inl is))) edits = subst EditsABug is edits
+quiet_act one peer (inr (inr (inr is))) edits = subst EditsABug is edits
+
+pub others_edit_none : (event : Event) (peer : ℕ) → (event.act ≡ act.UserNew) ⊎ ((event.act ≡ act.PackRefs) ⊎ ((event.act ≡ act.Pull peer) ⊎ (event.act ≡ act.Push peer)))
+    → EditNoBug (event ∷ [])
+others_edit_none event peer is = All-cons EditsNone event [] (quiet_act event.act peer is) (All-nil EditsNone)

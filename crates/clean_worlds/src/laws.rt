@@ -1,5 +1,5 @@
 //! Laws of clean worlds, each the contract of a function that does nothing.
-ghost use Rattle.std.specs.Prelude.{◌≡◌, ◌≢◌, ◌≤◌, ◌^◌, [], ℕ, ℤ, true, All, Contains, List, Ok};
+ghost use Rattle.std.specs.Prelude.{◌≡◌, ◌≢◌, ◌⊎◌, ◌≤◌, ◌^◌, ◌∷◌, [], ℕ, ℤ, true, All, Contains, List, Ok};
 ghost use Rattle.std.specs.List.{zip};
 ghost use Rattle.gb_text.specs.declared.id.Name.{Name};
 ghost use Rattle.gb_store.specs.Files.{History, files_of};
@@ -51,8 +51,8 @@ pub fn worlds_of_distinct_seeds_are_clean()
 {}
 
 /// A clean world stays clean while events are played that edit no bug, however they end and
-/// wherever they are stopped. The pulls of a full exchange are such events. So the world is clean
-/// before each of them.
+/// wherever they are stopped. An event that makes a user, packs refs, pulls or pushes edits none.
+/// The pulls of a full exchange are such events. So the world is clean before each of them.
 pub fn clean_worlds_stay_clean()
     ensures events { (folders : ℕ) (events : List EventValue) (ends : List EndedValue)
         (old new : History) → IsCleanWorld folders old → All (IsWithin folders) events
@@ -63,6 +63,9 @@ pub fn clean_worlds_stay_clean()
     ensures each { (folders : ℕ) (now : ℤ) (ends : List EndedValue) (old new : History)
         → IsCleanWorld folders old → ArePlayed (exchange_of folders now) ends old new
         → InTurn (RunsInClean folders) (zip (exchange_of folders now) ends) old new }
+    ensures others { (event : EventValue) (peer : ℕ) → (event.act ≡ act.UserNew)
+        ⊎ ((event.act ≡ act.PackRefs) ⊎ ((event.act ≡ act.Pull peer)
+        ⊎ (event.act ≡ act.Push peer))) → EditNoBug (event ∷ []) }
 {}
 
 /// The events that a number makes have distinct seeds, unless two of the texts from which their

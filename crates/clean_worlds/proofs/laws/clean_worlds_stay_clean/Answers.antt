@@ -1,4 +1,4 @@
-use Rattle.clean_worlds.proofs.StayLemmas.{exchange_each_clean, exchange_stays_clean, stays_clean}
+use Rattle.clean_worlds.proofs.StayLemmas.{exchange_each_clean, exchange_stays_clean, others_edit_none, stays_clean}
 use Rattle.clean_worlds.proofs.laws.clean_worlds_stay_clean.Goals as goal
 
 pub returns-clause-events : goal.returns-clause-events
@@ -9,3 +9,6 @@ returns-clause-exchange c = exchange_stays_clean
 
 pub returns-clause-each : goal.returns-clause-each
 returns-clause-each c = exchange_each_clean
+
+pub returns-clause-others : goal.returns-clause-others
+returns-clause-others c = others_edit_none
