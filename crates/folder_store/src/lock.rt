@@ -32,7 +32,11 @@ impl<R: Files<File = File> + Clock + RandomSource> Locking for R {}
 pub struct Locks {
     held: Vec<Held>,
     made: Vec<String>,
+    // Whether all folders in which the run writes are held, and those that stood when they were locked.
+    is_begun: bool,
+    // Whether no folder was missing.
     is_complete: bool,
+    // Whether no file system lacks locks.
     is_locked: bool,
 }
 
@@ -49,6 +53,7 @@ impl Locks {
         Locks {
             held: Vec::new(alloc),
             made: Vec::new(alloc),
+            is_begun: false,
             is_complete: false,
             is_locked: false,
         }
@@ -56,11 +61,12 @@ impl Locks {
 
     /// Whether no other run is at work in the folders in which this one writes.
     pub fn are_alone(&self) -> bool {
-        self.is_complete && self.is_locked
+        self.is_begun && self.is_locked
     }
 
     /// Takes the lock of each folder that stands, and makes the folders in which the run writes. All locks are taken at once
-    /// or none, so that two runs over the same two folders don't wait for each other. Once all are held nothing is done.
+    /// or none, so that two runs over the same two folders don't wait for each other. Once all are held nothing is done. A
+    /// folder that is only read and was missing is looked for again by each later call; meanwhile the other locks are kept.
     pub fn take<R: Locking>(
         &mut self,
         rt: &R,
@@ -91,24 +97,44 @@ impl Locks {
         }
     }
 
-    // Takes all locks, or none where another run holds one, and gives the folder of that. Folders to be written come first,
-    // so that a folder that two words name is locked for both.
+    // Takes all locks, or none where another run holds one, and gives the folder of that. Once it has begun only folders that
+    // are read can be lacking: two runs that both hold one and lack the other cannot be, since each makes its own first.
     fn try_all<'a, R: Locking>(
         &mut self,
         rt: &R,
         alloc: Global,
         claims: &'a [Claim],
     ) -> Result<Option<&'a Claim>, Failure> {
-        self.held.clear();
         self.is_complete = true;
+        if self.is_begun {
+            return self.try_those(rt, alloc, claims, Purpose::Read);
+        }
         self.is_locked = true;
-        for purpose in [Purpose::Write, Purpose::Read] {
-            for claim in claims {
-                if claim.purpose == purpose && !self.try_one(rt, alloc, claim)? {
-                    self.held.clear();
-                    self.is_complete = false;
-                    return Ok(Some(claim));
-                }
+        self.held.clear();
+        let mut waited_for = self.try_those(rt, alloc, claims, Purpose::Write)?;
+        let are_written_held = self.is_complete;
+        if waited_for.is_none() {
+            waited_for = self.try_those(rt, alloc, claims, Purpose::Read)?;
+        }
+        if waited_for.is_some() {
+            self.held.clear();
+        }
+        self.is_begun = are_written_held && waited_for.is_none();
+        Ok(waited_for)
+    }
+
+    // Takes the locks of the folders that the run claims for this. If another run holds one, it gives the folder of that.
+    fn try_those<'a, R: Locking>(
+        &mut self,
+        rt: &R,
+        alloc: Global,
+        claims: &'a [Claim],
+        purpose: Purpose,
+    ) -> Result<Option<&'a Claim>, Failure> {
+        for claim in claims {
+            if claim.purpose == purpose && !self.try_one(rt, alloc, claim)? {
+                self.is_complete = false;
+                return Ok(Some(claim));
             }
         }
         Ok(None)

@@ -23,6 +23,7 @@ pub fn try_all<R: Testing>(rt: &R) -> Result<(), Fail> {
     locks_are_waited_for(rt)?;
     the_clock_and_random_bytes_are_used(rt)?;
     lists_store_rows(rt)?;
+    locks_are_kept_without_a_peer(rt)?;
     folders_are_synced_after_their_files(rt)?;
     objects_that_were_left_are_synced(rt)?;
     refs_that_an_exchange_finds_are_synced(rt)?;
@@ -271,6 +272,23 @@ fn lists_store_rows<R: Testing>(rt: &R) -> Result<(), Fail> {
         assert!(rt; !is_free(rt, row.as_str()));
     }
     Ok(())
+}
+
+// The lock of the own folder is kept where the peer is missing: the folder is opened as often as beside an empty peer.
+fn locks_are_kept_without_a_peer<R: Testing>(rt: &R) -> Result<(), Fail> {
+    make_dir(rt, "te")?;
+    let opened = own_opened(rt, "te")?;
+    assert_eq!(rt; own_opened(rt, "tm")?, opened);
+    Ok(())
+}
+
+// How often a pull from a peer opens its own folder.
+fn own_opened<R: Testing>(rt: &R, peer: &str) -> Result<usize, Fail> {
+    let ran = run_at(rt, &["t", "pull", "o", peer])?;
+    assert!(rt; matches!(ran.status, Ok(Status::Done)));
+    let calls = ran.notes.calls(rt.alloc())?;
+    let opened = calls.as_str().lines().filter(|line| *line == "open t/.");
+    Ok(opened.count())
 }
 
 // What was asked of the system, without the calls on temporary files.
