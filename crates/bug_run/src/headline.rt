@@ -13,8 +13,9 @@ ghost use Rattle.bug_run.specs.declared.status.Status.TheVariants as status;
 ghost use Rattle.words.specs.declared.words.Asked.TheVariants as asked;
 ghost use Rattle.words.specs.declared.words.Command.TheVariants as ask;
 
-/// Take any folders of which no two overlap, and any list of runs from no files at all, by any arguments,
-/// each repeated or stopped anywhere. In each of these folders `show` then prints the fields that the
+/// Take any folders of which no two overlap, and any list of runs from no files at all, each repeated or
+/// stopped anywhere. A run writes in one of these folders, or in one that overlaps none of them; and what
+/// is pushed into one of them is pushed from one of them. In each of these folders `show` then prints the fields that the
 /// operation commits below the bug's head give, in order of edit clock and pack id, and a `merge` or a
 /// `pull` leaves of each bug exactly both sides' operation commits. It refuses a bug only for a fault that
 /// both heads together have, and then the bug's local ref stays. `show` is refused only where its argument

@@ -1,4 +1,4 @@
-//! Small values that every crate above shares: ids, object names, owned texts and lists, folder words.
+//! Small values that the crates above share: ids, object names, owned texts and lists, folders.
 #![tactic(auto)]
 
 mod decimal;

@@ -1,4 +1,5 @@
-//! Several objects put in order, all or none if one is refused; and the commits that are written so.
+//! Several objects put in order: if one is refused, none is put. Also the text of the commits that
+//! are written.
 #![tactic(auto)]
 
 mod batch;

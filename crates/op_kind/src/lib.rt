@@ -1,4 +1,4 @@
-//! What every operation has, and what a kind of operations must keep.
+//! What every operation has, and which rules a kind of operations must satisfy.
 #![tactic(auto)]
 
 mod any_op;

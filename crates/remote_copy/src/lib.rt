@@ -1,4 +1,4 @@
-//! The closure of a head copied into another folder, children first.
+//! The closure of a head copied into another folder, each object after all that it names.
 #![tactic(auto)]
 
 mod closure;

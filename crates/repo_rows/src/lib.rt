@@ -1,5 +1,5 @@
-//! The rows of a folder's bugs: what lists show of each, from its stored row or from all of its
-//! commits.
+//! The rows of a folder's bugs: what lists show of each, from its stored row, from an older row and
+//! the commits above it, or from all commits.
 #![tactic(auto)]
 
 mod bugs;

@@ -225,8 +225,8 @@ pub fn refusals_are_told_in_order()
         → rank_of told ≡ Some first → rank_of other ≡ Some later → first ≤ later }
 {}
 
-/// In a sound folder no command is refused for damage. So there it is done wherever no other reason to
-/// refuse it holds, unless the store fails or memory runs out.
+/// In a sound folder no command that edits is refused for damage. So there it is done wherever no other
+/// reason to refuse it holds, unless the store fails or memory runs out.
 pub fn sound_folders_are_not_damaged()
     ensures { (env : EnvValue) (command : EditValue) (old : History) (path : List ℕ)
         → IsSound env.folder (files_of old) → Refused env command old (refusal.Damaged path) → ⊥ }
