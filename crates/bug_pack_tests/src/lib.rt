@@ -1,5 +1,5 @@
-//! Bugs in packs: what holds of every kind of operations, proved of bugs by the laws alone, and
-//! tests, of packs of any kind too. They stand apart, where the crates of both meet.
+//! Bugs in packs: what holds of every kind of operations, proved for bugs by the laws alone. Also
+//! tests of packs of any kind.
 #![tactic(auto)]
 
 #[cfg(test)]

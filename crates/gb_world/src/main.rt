@@ -1,4 +1,5 @@
-//! The program: a world of folders that a number makes, and what they show after an exchange.
+//! The program: a world of folders that three numbers ask for, and what they show after an
+//! exchange.
 #![tactic(auto)]
 
 use gb_store::WriteSink;

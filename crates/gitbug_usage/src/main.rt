@@ -1,4 +1,4 @@
-//! The program again, run without words, so that the gate sees it end with another status than 0.
+//! The program again, run without arguments, so that the gate sees an exit status other than 0.
 #![tactic(auto)]
 
 use gitbug_edge::{exit_code, run_words};

@@ -1,4 +1,4 @@
-//! Tests of pulls from a peer of which one entity has a fault: its line, and that all else stays.
+//! Tests of pulls from a peer with one faulty entity: its line, and that nothing else changes.
 #![tactic(auto)]
 
 #[cfg(test)]

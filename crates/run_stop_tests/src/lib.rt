@@ -1,4 +1,5 @@
-//! Tests of runs that stop after any write, or of which any call of the store or the sink fails.
+//! Tests of runs that stop after any write, and of runs in which a call of the store or the sink
+//! fails.
 #![tactic(auto)]
 
 #[cfg(test)]

@@ -1,5 +1,5 @@
-//! The benchmark's program: it goes over the operations in the lines of a file so many times, or makes
-//! bugs in memory and copies them, and prints what it counted there.
+//! The benchmark's program: it reads the operations in the lines of a file a given number of times,
+//! or makes bugs in memory and copies them, and prints counts.
 #![tactic(auto)]
 
 mod copies;
