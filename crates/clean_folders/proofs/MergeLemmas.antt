@@ -19,11 +19,11 @@ use Rattle.bug_run.specs.Runs.{IsRun}
 use Rattle.full_exchanges.specs.Having.{HaveOneTextEach}
 use Rattle.exchange_runs.specs.Takes.{TakesAmong}
 use Rattle.operation_origins.proofs.OnceLemmas.{before_sound}
-use Rattle.merge_limits.specs.Limits.{IsLimit}
-use Rattle.merge_limits.specs.Tracked.{TrackedAuthorsAreKnown}
+use Rattle.operation_origins.specs.Limits.{IsLimit}
+use Rattle.operation_origins.specs.Tracked.{TrackedAuthorsAreKnown}
 use Rattle.flat_trees.proofs.RunLemmas.{runs_flat}
-use Rattle.tracked_people.proofs.PeopleLemmas.{all_authors, all_people, authors_then}
-use Rattle.clean_runs.proofs.CleanLemmas.{merge_clean, pull_clean, stopped, takes, text_before, text_then}
+use Rattle.identity_runs.proofs.PeopleLemmas.{all_authors, all_people, authors_then}
+use Rattle.clean_folders.proofs.RunCleanLemmas.{merge_clean, pull_clean, stopped, takes, text_before, text_then}
 use Rattle.clean_folders.specs.Clean.{AreClean}
 
 module _ (folders : List (List ℕ)) (old : History) (clean : AreClean folders old) (new : History) (run : IsRun folders old new) (prints : IsTrue run.sink_tells) (has : HasLines run.status) where

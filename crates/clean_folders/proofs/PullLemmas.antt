@@ -25,7 +25,7 @@ use Rattle.bug_run.specs.Printed.{HasLines}
 use Rattle.bug_run.specs.Runs.{IsRun}
 use Rattle.full_exchanges.specs.Having.{HaveOneTextEach}
 use Rattle.full_exchanges.specs.Pulls.{RefusesNoBug}
-use Rattle.merge_limits.specs.Limits.{IsLimit}
+use Rattle.operation_origins.specs.Limits.{IsLimit}
 use Rattle.clean_folders.specs.Clean.{AreClean, TellsNoLimit}
 use Rattle.clean_folders.proofs.FetchLemmas.{fetched_clean}
 use Rattle.clean_folders.proofs.MergeLemmas.{pull_refuses}

@@ -7,8 +7,8 @@ use Rattle.merge_steps.specs.declared.line.MergeOutcome.TheVariants.{InvalidBug}
 use Rattle.merge_steps.specs.declared.line.Pulled.{Pulled}
 use Rattle.bug_run.specs.Runs.{AreApart}
 use Rattle.exchange_runs.specs.Takes.{RunsAmong}
-use Rattle.merge_limits.specs.Limits.{IsLimit}
-use Rattle.clean_runs.specs.Seeds.{HaveNoCollision, HaveUnlikeSeeds}
+use Rattle.operation_origins.specs.Limits.{IsLimit}
+use Rattle.clean_folders.specs.Seeds.{HaveNoCollision, HaveUnlikeSeeds}
 
 -- folders of which no two overlap, after runs from no files that take commits into them from them alone: with unlike seeds and no collision
 pub record AreClean (folders : List (List ℕ)) (files : History) : Type 0 where

@@ -1,4 +1,5 @@
-//! Limits of copies: between sound folders nothing but a limit keeps a head from being copied.
+//! Limits of copies: between sound folders that have no two texts under one name, nothing but a
+//! limit keeps a head from being copied.
 #![tactic(auto)]
 
 mod exchange_laws;

@@ -1,4 +1,4 @@
--- Events of a full exchange that were done are pulls that refused no bug.
+-- Events of a full exchange that were done are pulls that refused nothing.
 use Rattle.std.proofs.Common.{◌≡◌, ◌<◌, ◌≤◌, ◌-◌, ◌^◌, inl, inr, ℕ, ℤ, zero, suc, Bool, true, false, All, List, [], ◌∷◌, ◌++◌, map, Contains, length, filter, codes, Option, Some, None, Ok, refl, sym, ◌∙◌, ap, ap₂, subst, arith, get_or}
 use Rattle.std.specs.List.{range_with_len, zip}
 use Rattle.std.specs.Option.{option_map}
@@ -38,7 +38,7 @@ use Rattle.words.proofs.ArgumentLemmas.{all_plain}
 use Rattle.words.proofs.AskLemmas.{asked_with}
 use Rattle.words.proofs.PairLemmas.{of_folders}
 use Rattle.full_exchanges.specs.Exchanges.{Member, exchange_among, pull_of}
-use Rattle.full_exchanges.specs.Pulls.{Pull as PullValue, RefusesNoBug, WasPulled}
+use Rattle.full_exchanges.specs.Pulls.{Pull as PullValue, WasPulled}
 use Rattle.world.specs.Plays.{IsDone, RunsEvent, RunsWhole, call_with}
 use Rattle.world.specs.declared.world.Ended.{Ended}
 use Rattle.world.specs.declared.world.Ended.TheVariants.{Done}
@@ -51,6 +51,16 @@ use Rattle.exchange_runs.proofs.MemberLemmas.{in_range, member_at, name_text, ot
 
 -- ---- no line is a refusal
 
+-- no line of a pull is a refusal
+pub record RefusesNone (pulled : Pulled) : Type 0 where
+  pub fetched : (line : Line) → Contains pulled.fetched line → is_refused line.outcome ≡ false
+  pub merged : (line : MergeLine) → Contains pulled.merged line → merge_is_refused line.outcome ≡ false
+
+-- a pull was done, and refused nothing
+pub record WasWhole (pull : PullValue) (old new : History) : Type 0 where
+  pub was : WasPulled pull old new
+  pub refuses : RefusesNone was.pulled
+
 -- where none of a list passes a test, each of it fails it
 none_pass : {X : Type 0} (test : X → Bool) (xs : List X) → length (filter test xs) ≡ 0 → (x : X) → Contains xs x → test x ≡ false
 none_pass test xs none x c = by (test x) refl
@@ -59,14 +69,13 @@ none_pass test xs none x c = by (test x) refl
     by false is = is
     by true is = let at = Contains-filter test xs x c is in absurd (omega (arith, none, at.1))
 
--- a pull with no line that is a refusal refuses no bug
-refuses_none : (pulled : Pulled) → (answer_of_pull pulled).refused ≡ 0 → RefusesNoBug pulled
+refuses_none : (pulled : Pulled) → (answer_of_pull pulled).refused ≡ 0 → RefusesNone pulled
 refuses_none pulled none =
     let first : refused_in pulled.fetched ≡ 0 = omega (arith, none) in
     let second : merge_refused_in pulled.merged ≡ 0 = omega (arith, none) in
     record {
-      fetched = λ line c bug. none_pass (λ (l : Line). is_refused l.outcome) pulled.fetched first line c;
-      merged = λ line c bug. none_pass (λ (l : MergeLine). merge_is_refused l.outcome) pulled.merged second line c;
+      fetched = none_pass (λ (l : Line). is_refused l.outcome) pulled.fetched first;
+      merged = none_pass (λ (l : MergeLine). merge_is_refused l.outcome) pulled.merged second;
     }
 
 -- a run that is done refused no line
@@ -113,7 +122,7 @@ module _ (folder peer : ℕ) (now : ℤ) (first : folder < 2 ^ 64) (second : pee
   ]
 
   abbrev Was : Type 0
-  Was = WasPulled (pull_of (member_at folder) (member_at peer) (seconds_of now)) old new
+  Was = WasWhole (pull_of (member_at folder) (member_at peer) (seconds_of now)) old new
 
   -- so it exchanged with its peer
   exchanged : (own there : List ℕ) (pair : FolderPair) → folder_of (folder_word folder) ≡ Some own → folder_of (folder_word peer) ≡ Some there → pair_of own there ≡ Some pair
@@ -123,18 +132,22 @@ module _ (folder peer : ℕ) (now : ℤ) (first : folder < 2 ^ 64) (second : pee
       let folders = of_folders own there pair is_pair in
       let mine : pair.own ≡ folder_word folder = folders.0 ∙ word_is_folder folder own first is_own in
       let its : pair.peer ≡ folder_word peer = folders.1 ∙ word_is_folder peer there second is_there in
+      let refuses = refuses_none told.0 (done_none (answer_of_pull told.0).refused told.3) in
       record {
-        in_time = subst (λ (time : ℕ). time < 2 ^ 64) is.at.now (in_time is.moment);
-        pulled = told.0;
-        answers =
-            subst (λ (f : List ℕ). PullAnswers f (folder_word peer) (member_at peer).name (seconds_of now) old new (Ok told.0)) mine
-            (subst (λ (f : List ℕ). PullAnswers pair.own f (member_at peer).name (seconds_of now) old new (Ok told.0)) its
-            (subst (λ (time : ℕ). PullAnswers pair.own pair.peer (member_at peer).name time old new (Ok told.0)) is.at.now told.1));
-        refuses_none = refuses_none told.0 (done_none (answer_of_pull told.0).refused told.3);
+        was = record {
+          in_time = subst (λ (time : ℕ). time < 2 ^ 64) is.at.now (in_time is.moment);
+          pulled = told.0;
+          answers =
+              subst (λ (f : List ℕ). PullAnswers f (folder_word peer) (member_at peer).name (seconds_of now) old new (Ok told.0)) mine
+              (subst (λ (f : List ℕ). PullAnswers pair.own f (member_at peer).name (seconds_of now) old new (Ok told.0)) its
+              (subst (λ (time : ℕ). PullAnswers pair.own pair.peer (member_at peer).name time old new (Ok told.0)) is.at.now told.1));
+          refuses_none = record { fetched = λ line c bug. refuses.fetched line c; merged = λ line c bug. refuses.merged line c };
+        };
+        refuses = refuses;
       }
 
-  pulled : Was
-  pulled = by (folder_of (folder_word folder)) (folder_of (folder_word peer)) refl refl
+  whole : Was
+  whole = by (folder_of (folder_word folder)) (folder_of (folder_word peer)) refl refl
     where
       paired : (own there : List ℕ) → folder_of (folder_word folder) ≡ Some own → folder_of (folder_word peer) ≡ Some there
           → asked_of (pull_words folder peer) ≡ exchange_of (pair_of own there) (Some (Pull (member_at peer).name)) → (pair : Option FolderPair) → pair_of own there ≡ pair → Was
@@ -164,26 +177,26 @@ event_for now pair = pull_at pair.0 pair.1 now
 abbrev pull_for : ℤ → Pair → PullValue
 pull_for now pair = pull_of (member_at pair.0) (member_at pair.1) (seconds_of now)
 
-abbrev pub AreSmall : Pair → Type 0
+abbrev AreSmall : Pair → Type 0
 AreSmall pair = (pair.0 < 2 ^ 64) × (pair.1 < 2 ^ 64)
 
--- an event that ended done is a pull; nothing stops it
-one_pulled : (now : ℤ) (pair : Pair) (ended : Ended) (old new : History) → AreSmall pair → ended ≡ Done → RunsEvent (event_for now pair, ended) old new → WasPulled (pull_for now pair) old new
-one_pulled now pair ended old new small done event = subst (λ (h : History). WasPulled (pull_for now pair) old h) (sym event.stopped) (whole event.end event.runs)
+-- an event that ended done is such a pull; nothing stops it
+one_whole : (now : ℤ) (pair : Pair) (ended : Ended) (old new : History) → AreSmall pair → ended ≡ Done → RunsEvent (event_for now pair, ended) old new → WasWhole (pull_for now pair) old new
+one_whole now pair ended old new small done event = subst (λ (h : History). WasWhole (pull_for now pair) old h) (sym event.stopped) (at_end event.end event.runs)
   where
-    whole : (end : History) → RunsWhole (event_for now pair, ended) old end → WasPulled (pull_for now pair) old end
-    whole end (inl skipped) = absurd (cc (sym skipped.0 ∙ done))
-    whole end (inr runs) = pulled pair.0 pair.1 now small.0 small.1 old end (subst (λ (e : Ended). IsDone (event_for now pair) e old end) done runs)
+    at_end : (end : History) → RunsWhole (event_for now pair, ended) old end → WasWhole (pull_for now pair) old end
+    at_end end (inl skipped) = absurd (cc (sym skipped.0 ∙ done))
+    at_end end (inr runs) = whole pair.0 pair.1 now small.0 small.1 old end (subst (λ (e : Ended). IsDone (event_for now pair) e old end) done runs)
 
-all_pulled : (now : ℤ) (pairs : List Pair) (ends : List Ended) (old new : History) → All AreSmall pairs → All (λ (ended : Ended). ended ≡ Done) ends → length ends ≡ length pairs
-    → InTurn RunsEvent (zip (map (event_for now) pairs) ends) old new → InTurn WasPulled (map (pull_for now) pairs) old new
-all_pulled now [] [] old new small done same turns = turns
-all_pulled now [] (e ∷ ends) old new small done same turns = absurd (omega (arith, same))
-all_pulled now (pair ∷ pairs) [] old new small done same turns = absurd (omega (arith, same))
-all_pulled now (pair ∷ pairs) (e ∷ ends) old new small done same (mid, step, later) = (
+all_whole : (now : ℤ) (pairs : List Pair) (ends : List Ended) (old new : History) → All AreSmall pairs → All (λ (ended : Ended). ended ≡ Done) ends → length ends ≡ length pairs
+    → InTurn RunsEvent (zip (map (event_for now) pairs) ends) old new → InTurn WasWhole (map (pull_for now) pairs) old new
+all_whole now [] [] old new small done same turns = turns
+all_whole now [] (e ∷ ends) old new small done same turns = absurd (omega (arith, same))
+all_whole now (pair ∷ pairs) [] old new small done same turns = absurd (omega (arith, same))
+all_whole now (pair ∷ pairs) (e ∷ ends) old new small done same (mid, step, later) = (
   mid,
-  one_pulled now pair e old mid (All-head AreSmall pair pairs small) (All-head (λ (ended : Ended). ended ≡ Done) e ends done) step,
-  all_pulled now pairs ends mid new (All-tail AreSmall pair pairs small) (All-tail (λ (ended : Ended). ended ≡ Done) e ends done) (omega (arith, same)) later,
+  one_whole now pair e old mid (All-head AreSmall pair pairs small) (All-head (λ (ended : Ended). ended ≡ Done) e ends done) step,
+  all_whole now pairs ends mid new (All-tail AreSmall pair pairs small) (All-tail (λ (ended : Ended). ended ≡ Done) e ends done) (omega (arith, same)) later,
 )
 
 -- ---- an exchange
@@ -215,7 +228,7 @@ pulls_are more now =
     (map-map (pull_for now) into range ∙ sym (map-map (λ (other : Member). pull_of first other time) member_at range))
     (map-map (pull_for now) from range ∙ sym (map-map (λ (other : Member). pull_of other first time) member_at range))
 
-pub all_small : (more : ℕ) → suc more ≤ 2 ^ 32 → All AreSmall (pairs_of more)
+all_small : (more : ℕ) → suc more ≤ 2 ^ 32 → All AreSmall (pairs_of more)
 all_small more few = All-append AreSmall (map into (range_with_len 1 more)) (map from (range_with_len 1 more)) (go_into (range_with_len 1 more) within) (go_from (range_with_len 1 more) within)
   where
     within : (n : ℕ) → Contains (range_with_len 1 more) n → n < 2 ^ 64
@@ -229,11 +242,21 @@ all_small more few = All-append AreSmall (map into (range_with_len 1 more)) (map
     go_from [] each = All-nil AreSmall
     go_from (n ∷ ns) each = All-cons AreSmall (from n) (map from ns) (each n (0, omega arith, refl), omega arith) (go_from ns (λ m c. each m (suc c.0, omega (arith, c.1), c.2)))
 
-pub exchange_pulled : (more : ℕ) (now : ℤ) (old new : History) → suc more ≤ 2 ^ 32 → Exchanged (suc more) now old new
-    → InTurn WasPulled (exchange_among (member_at 0) (others_of more) (seconds_of now)) old new
-exchange_pulled more now old new few exchange =
+pub exchange_whole : (more : ℕ) (now : ℤ) (old new : History) → suc more ≤ 2 ^ 32 → Exchanged (suc more) now old new
+    → InTurn WasWhole (exchange_among (member_at 0) (others_of more) (seconds_of now)) old new
+exchange_whole more now old new few exchange =
     let events = events_are more now in
     let turns = subst (λ (es : List Event). InTurn RunsEvent (zip es exchange.ends) old new) events exchange.played.in_turn in
     let same : length exchange.ends ≡ length (pairs_of more) = exchange.played.each ∙ ap length events ∙ length-map (pairs_of more) (event_for now) in
-    subst (λ (pulls : List PullValue). InTurn WasPulled pulls old new) (pulls_are more now)
-    (all_pulled now (pairs_of more) exchange.ends old new (all_small more few) exchange.done same turns)
+    subst (λ (pulls : List PullValue). InTurn WasWhole pulls old new) (pulls_are more now)
+    (all_whole now (pairs_of more) exchange.ends old new (all_small more few) exchange.done same turns)
+
+-- so they are pulls that refused no bug
+pub turns_pulled : (pulls : List PullValue) (old new : History) → InTurn WasWhole pulls old new → InTurn WasPulled pulls old new
+turns_pulled [] old new same = same
+turns_pulled (pull ∷ pulls) old new (mid, step, later) = (mid, step.was, turns_pulled pulls mid new later)
+
+pub exchange_pulled : (more : ℕ) (now : ℤ) (old new : History) → suc more ≤ 2 ^ 32 → Exchanged (suc more) now old new
+    → InTurn WasPulled (exchange_among (member_at 0) (others_of more) (seconds_of now)) old new
+exchange_pulled more now old new few exchange =
+    turns_pulled (exchange_among (member_at 0) (others_of more) (seconds_of now)) old new (exchange_whole more now old new few exchange)

@@ -1,4 +1,5 @@
-//! Full exchanges in a world: where each pull is done, all folders have the same bugs and digests.
+//! Full exchanges in a world: where each pull is done, all folders have the same bugs, and the same
+//! operation commits of each; their digests are equal if the authors have the same names.
 #![tactic(auto)]
 
 mod laws;

@@ -17,7 +17,9 @@ use Rattle.repo_state.specs.declared.side.Side.TheVariants as side
 use Rattle.repo_state.proofs.ListingLemmas.{Contains-from_map, Contains-map}
 use Rattle.sync_steps.specs.Fetching.{FetchAnswers, FetchOutcome, Fetches}
 use Rattle.sync_steps.specs.Lines.{is_refused}
+use Rattle.sync_steps.specs.Places.{local_side, tracking_side}
 use Rattle.sync_steps.specs.Turns.{Turn, line_of, lines_of}
+use Rattle.sync_steps.specs.declared.line.EntityWord.{EntityWord}
 use Rattle.sync_steps.specs.declared.line.EntityWord.TheVariants as word
 use Rattle.sync_steps.specs.declared.line.Exchange.TheVariants as verb
 use Rattle.sync_steps.specs.declared.line.Line.{Line}
@@ -83,10 +85,33 @@ module _ (own peer : List ℕ) (remote : RemoteName) (old new : History) (lines 
       differ : (turn : Turn) → Contains done.bug_turns turn → id_of turn ≢ id
       differ turn c same = with_none turn.entity.head (sym none ∙ ap (λ (one : Id). head_at (files_of old) peer side.Bugs one) (sym same) ∙ (listed turn c).1)
 
-  -- that of a bug that the peer has, and whose line is no refusal, has the peer's head
+  -- the tracking ref of an entity that the peer has, and whose line is no refusal, has the peer's head
+  pub turn_brings : (word : EntityWord) (turns : List Turn) (before after : History) → InTurn (Fetches own peer (tracking_side remote word)) turns before after
+      → (turn : Turn) → Contains turns turn → (id : Id) (head : Name) → turn.entity ≡ record { id = id; head = Some head }
+      → Contains lines (line_of verb.Fetch word turn) → is_refused turn.outcome ≡ false
+      → head_at (files_of old) peer (local_side word) id ≡ Head head → head_at (files_of new) own (tracking_side remote word) id ≡ Head head
+  turn_brings word turns before after went turn c id head is in_lines passes at = by ((not_refused turn.outcome).0 passes)
+    where
+      set : (turn.outcome ≡ outcome.Fetched) ⊎ (turn.outcome ≡ outcome.Same) → head_at (files_of new) own (tracking_side remote word) id ≡ Head head
+      set brought =
+          let stands = fetched_stands own peer remote old new lines done (line_of verb.Fetch word turn) in_lines brought in
+          let same : turn.entity.id ≡ id = ap (λ (e : EntityRef). e.id) is in
+          let there : head_at (files_of old) peer (local_side word) id ≡ Head stands.0 = subst (λ (one : Id). head_at (files_of old) peer (local_side word) one ≡ Head stands.0) same stands.1 in
+          let here : head_at (files_of new) own (tracking_side remote word) id ≡ Head stands.0 = subst (λ (one : Id). head_at (files_of new) own (tracking_side remote word) one ≡ Head stands.0) same stands.2 in
+          here ∙ sym there ∙ at
+
+      by : (turn.outcome ≡ outcome.Fetched) ⊎ (turn.outcome ≡ outcome.Pushed) ⊎ (turn.outcome ≡ outcome.Same) → head_at (files_of new) own (tracking_side remote word) id ≡ Head head
+      by (inl fetched) = set (inl fetched)
+      by (inr (inl pushed)) =
+          let step = step_of (Fetches own peer (tracking_side remote word)) turns turn c before after went in
+          absurd (never_pushed own peer (tracking_side remote word) turn.entity.id turn.entity.head turn.outcome step.0 step.1 pushed step.2)
+      by (inr (inr same)) = set (inr same)
+
+  -- so that of a bug has
   pub fetch_brings : ((line : Line) → Contains lines line → line.word ≡ word.Bug → is_refused line.outcome ≡ false) → (id : Id) (head : Name) → IsId id
       → head_at (files_of old) peer side.Bugs id ≡ Head head → head_at (files_of new) own (side.RemoteBugs remote) id ≡ Head head
-  fetch_brings refuses id head is at = by ((not_refused turn.outcome).0 (refuses line in_lines refl))
+  fetch_brings refuses id head is at =
+      turn_brings word.Bug done.bug_turns done.mid new done.then.each from.0 from.1 id head from.2 in_lines (refuses (line_of verb.Fetch word.Bug from.0) in_lines refl) at
     where
       entity : EntityRef
       entity = record { id = id; head = Some head }
@@ -95,28 +120,7 @@ module _ (own peer : List ℕ) (remote : RemoteName) (old new : History) (lines 
       from = Contains-from_map (λ (t : Turn). t.entity) done.bug_turns entity
           (subst (λ (es : List EntityRef). Contains es entity) (sym done.then.are) ((done.are.are_bugs.members entity).1 (is, at)))
 
-      turn : Turn
-      turn = from.0
-
-      line : Line
-      line = line_of verb.Fetch word.Bug turn
-
-      in_lines : Contains lines line
-      in_lines = subst (λ (ls : List Line). Contains ls line) (sym done.are_lines)
-          (Contains-append_right (lines_of verb.Fetch word.Identity done.person_turns) (lines_of verb.Fetch word.Bug done.bug_turns) line
-          (Contains-map (line_of verb.Fetch word.Bug) done.bug_turns turn from.1))
-
-      set : (turn.outcome ≡ outcome.Fetched) ⊎ (turn.outcome ≡ outcome.Same) → head_at (files_of new) own (side.RemoteBugs remote) id ≡ Head head
-      set is =
-          let stands = fetched_stands own peer remote old new lines done line in_lines is in
-          let same : turn.entity.id ≡ id = ap (λ (e : EntityRef). e.id) from.2 in
-          let there : head_at (files_of old) peer side.Bugs id ≡ Head stands.0 = subst (λ (one : Id). head_at (files_of old) peer side.Bugs one ≡ Head stands.0) same stands.1 in
-          let here : head_at (files_of new) own (side.RemoteBugs remote) id ≡ Head stands.0 = subst (λ (one : Id). head_at (files_of new) own (side.RemoteBugs remote) one ≡ Head stands.0) same stands.2 in
-          here ∙ sym there ∙ at
-
-      by : (turn.outcome ≡ outcome.Fetched) ⊎ (turn.outcome ≡ outcome.Pushed) ⊎ (turn.outcome ≡ outcome.Same) → head_at (files_of new) own (side.RemoteBugs remote) id ≡ Head head
-      by (inl fetched) = set (inl fetched)
-      by (inr (inl pushed)) =
-          let step = step_of (Fetches own peer (side.RemoteBugs remote)) done.bug_turns turn from.1 done.mid new done.then.each in
-          absurd (never_pushed own peer (side.RemoteBugs remote) turn.entity.id turn.entity.head turn.outcome step.0 step.1 pushed step.2)
-      by (inr (inr same)) = set (inr same)
+      in_lines : Contains lines (line_of verb.Fetch word.Bug from.0)
+      in_lines = subst (λ (ls : List Line). Contains ls (line_of verb.Fetch word.Bug from.0)) (sym done.are_lines)
+          (Contains-append_right (lines_of verb.Fetch word.Identity done.person_turns) (lines_of verb.Fetch word.Bug done.bug_turns) (line_of verb.Fetch word.Bug from.0)
+          (Contains-map (line_of verb.Fetch word.Bug) done.bug_turns from.0 from.1))

@@ -1,7 +1,11 @@
 pub mod AddedLemmas
 pub mod ApartLemmas
+pub mod AuthorLemmas
 pub mod EditLemmas
 pub mod HoldLemmas
+pub mod JoinLemmas
+pub mod LimitMergeLemmas
+pub mod LimitPullLemmas
 pub mod MergeLemmas
 pub mod OnceLemmas
 pub mod PullLemmas

@@ -1,4 +1,5 @@
-//! Worlds agree: whatever was done in them, after a full exchange in which nothing was refused.
+//! The folders of a world have the same bugs after a full exchange in which each pull was done,
+//! whatever was played before.
 #![tactic(auto)]
 
 mod laws;

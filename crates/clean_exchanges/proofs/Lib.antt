@@ -1,5 +1,0 @@
-pub mod CleanLemmas
-pub mod UserLemmas
-pub mod DoneLemmas
-pub mod ExchangeLemmas
-pub mod WorldLemmas

@@ -1,5 +1,0 @@
-use Rattle.clean_exchanges.proofs.ExchangeLemmas.{unlimited_done}
-use Rattle.clean_exchanges.proofs.laws.full_exchanges_of_clean_folders_are_done.Goals as goal
-
-pub returns : goal.returns
-returns c = unlimited_done

@@ -1,5 +1,0 @@
-pub mod CleanLemmas
-pub mod FreshLemmas
-pub mod MadeLemmas
-pub mod NameLemmas
-pub mod OnceLemmas

@@ -1,5 +1,0 @@
-use Rattle.clean_worlds.proofs.GeneratedLemmas.{generated_distinct}
-use Rattle.clean_worlds.proofs.laws.generated_events_have_distinct_seeds.Goals as goal
-
-pub returns : goal.returns
-returns c = generated_distinct

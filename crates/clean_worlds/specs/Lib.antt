@@ -1,3 +1,0 @@
-pub mod Hashes
-pub mod Seeds
-pub mod Worlds

@@ -1,4 +1,0 @@
-pub mod AuthorLemmas
-pub mod JoinLemmas
-pub mod MergeLemmas
-pub mod PullLemmas

@@ -1,4 +1,0 @@
-pub mod AskedLemmas
-pub mod LeftLemmas
-pub mod PersonLemmas
-pub mod ToldLemmas
