@@ -133,6 +133,7 @@ class Scene:
         self.stood = {it: edge.standing_in(before.top / it) for it in self.read}
         self.refs = edge.refs_in(edge.files_in(self.after.top / (self.written or "f")))
         self.shown, self.shown_then = comments_of(before), texts_of(self.after)
+        self.faults = {}
 
     def counts(self):
         room = self.before.copied()
@@ -222,7 +223,17 @@ def check_again(scene, room, was_done=None):
     left = [it for it in edge.temporaries_in(room.top / (scene.written or "f")) if is_again_written(scene, it)]
     # (a refused run writes nothing, and so removes nothing)
     if left and not refused:
+        check_removed(scene, room, left)
+
+
+def check_removed(scene, room, left):
+    """What was merged is not merged again, so the next merge may write no clock. Then an edit removes the temporary file of one."""
+    if scene.name not in ("merge", "pull") or any("/clocks/" not in str(it) for it in left):
         raise Unsound(f"the next run leaves {left}")
+    edge.made(room, ["f", "comment", scene.said["BUG"], "Later"])
+    kept = [it for it in edge.temporaries_in(room.top / "f") if it in left]
+    if kept:
+        raise Unsound(f"the next edit leaves {kept}")
 
 
 def is_again_written(scene, path):
@@ -233,12 +244,26 @@ def is_again_written(scene, path):
 
 
 def fault_after(scene, room, status, text, may=(0, 3, 5, 6)):
-    """What is wrong after a run that was hurt, and after the next one; None if nothing is."""
+    """What is wrong after a run that was hurt, and after the next one; None if nothing is. It follows from the answer and from
+    what stands in the room, so it is found once for each of these."""
+    if status is not None and status not in (*may, scene.status):
+        return "it waits" if status == WAITS else f"it ends with {status}"
+    acknowledged = status == scene.status or (bool(text) and not text.startswith("refused"))
+    state = acknowledged, frozenset(standing(room.top))
+    if state not in scene.faults:
+        scene.faults[state] = fault_in(scene, room, acknowledged)
+    return scene.faults[state]
+
+
+def standing(top):
+    """All that stands in a room; the names of temporary files are random."""
+    for path, (mode, held) in edge.standing_in(top).items():
+        yield re.sub(r"\.gitbug-\w+$", ".gitbug-", path), mode, held
+
+
+def fault_in(scene, room, acknowledged):
     try:
-        if status is not None and status not in (*may, scene.status):
-            raise Unsound("it waits" if status == WAITS else f"it ends with {status}")
         check_kept(scene, room)
-        acknowledged = status == scene.status or (bool(text) and not text.startswith("refused"))
         done = scene.is_done(room)
         if acknowledged and not done:
             raise Unsound("what was acknowledged does not stand")
