@@ -555,6 +555,7 @@ def at_once(program, above, rounds):
         "two pushes, an edit": [["f", "push", "p"], ["p", "push", "f"], ["f", "comment", bug, "At once"]],
         "a pull, a push, an edit": [["f", "pull", "o", "p"], ["p", "push", "f"], ["p", "comment", bug, "At once"]],
         "a pack, two pushes": [["f", "pack-refs"], ["f", "push", "p"], ["p", "push", "f"]],
+        "a pull from a missing folder, an edit": [["f", "pull", "o", "none"], ["f", "comment", bug, "At once"]],
     }
     for what, commands in groups.items():
         faults = []
