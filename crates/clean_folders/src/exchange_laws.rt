@@ -5,6 +5,7 @@ ghost use Rattle.std.specs.List.{zip};
 ghost use Rattle.gb_store.specs.Files.{History, files_of};
 ghost use Rattle.gb_store.specs.Turns.{InTurn};
 ghost use Rattle.full_exchanges.specs.Having.{HaveOneTextEach, HaveTheSame};
+ghost use Rattle.full_exchanges.specs.Pulls.{Pull as PullValue};
 ghost use Rattle.world.specs.Digests.{IsDigest};
 ghost use Rattle.world.specs.Folders.{world_folders};
 ghost use Rattle.world.specs.Told.{IsSummary, IsWorld, tally_of};
@@ -12,6 +13,7 @@ ghost use Rattle.world.specs.declared.world.World.{World as WorldValue};
 ghost use Rattle.world_events.specs.Events.{events_of};
 ghost use Rattle.world_events.specs.Exchange.{exchange_of};
 ghost use Rattle.world_events.specs.Words.{folder_word};
+ghost use Rattle.world_events.specs.declared.event.Event.{Event as EventValue};
 ghost use Rattle.world_texts.specs.Asked.{IsInBounds};
 ghost use Rattle.world_texts.specs.Summary.{count_lines, folder_lines};
 ghost use Rattle.world_texts.specs.declared.asked.Asked.{Asked as AskedValue};
@@ -23,7 +25,14 @@ ghost use Rattle.clean_folders.specs.Hashes.{HashesDoNotCollide};
 ghost use Rattle.clean_folders.specs.WorldSeeds.{SeedTextsDoNotCollide};
 ghost use Rattle.clean_folders.specs.Worlds.{IsCleanWorld};
 ghost use Rattle.clean_folders.specs.WorldPeople.{HasCleanPeople, PeopleHashesDoNotCollide};
-ghost use Rattle.clean_folders.specs.Unlimited.{HaveUsers, IsUnlimited, RunsWithoutLimit};
+ghost use Rattle.clean_folders.specs.Unlimited.{HaveUsers, IsPullOf, IsUnlimited};
+ghost use Rattle.clean_folders.specs.Unlimited.{RunsWithoutLimit};
+
+/// An event is one pull at most, at one time.
+pub fn events_are_one_pull()
+    ensures { (event : EventValue) (one two : PullValue) → IsPullOf event one
+        → IsPullOf event two → one ≡ two }
+{}
 
 /// The folders of a world are clean, each has a user, and each identity was made once and edited
 /// only in the folder where it was made. Then each pull of a full exchange among them is done, if

@@ -1,10 +1,12 @@
 //! Laws of the identities of clean worlds, each the contract of a function that does nothing.
-ghost use Rattle.std.specs.Prelude.{[], ℕ};
+ghost use Rattle.std.specs.Prelude.{◌≡◌, [], ℕ};
 ghost use Rattle.gb_store.specs.Files.{History};
 ghost use Rattle.world.specs.Folders.{world_folders};
 ghost use Rattle.world.specs.Told.{IsWorld};
 ghost use Rattle.world.specs.declared.world.World.{World as WorldValue};
 ghost use Rattle.world_events.specs.Events.{events_of};
+ghost use Rattle.world_events.specs.declared.act.Act.{Act as ActValue};
+ghost use Rattle.world_events.specs.declared.act.Act.TheVariants as act;
 ghost use Rattle.world_texts.specs.Asked.{IsInBounds};
 ghost use Rattle.world_texts.specs.declared.asked.Asked.{Asked as AskedValue};
 ghost use Rattle.identity_runs.specs.Homes.{AreEditedAtHome, AreMadeOnce};
@@ -12,7 +14,13 @@ ghost use Rattle.clean_folders.specs.Clean.{AreClean};
 ghost use Rattle.clean_folders.specs.Hashes.{HashesDoNotCollide};
 ghost use Rattle.clean_folders.specs.WorldSeeds.{SeedTextsDoNotCollide};
 ghost use Rattle.clean_folders.specs.Worlds.{IsCleanWorld};
-ghost use Rattle.clean_folders.specs.WorldPeople.{HasCleanPeople, PeopleHashesDoNotCollide};
+ghost use Rattle.clean_folders.specs.WorldPeople.{HasCleanPeople, MakesAPerson};
+ghost use Rattle.clean_folders.specs.WorldPeople.{PeopleHashesDoNotCollide};
+
+/// The events that make identities are those that run `user-new`.
+pub fn new_users_alone_make_identities()
+    ensures { (one : ActValue) → MakesAPerson one → one ≡ act.UserNew }
+{}
 
 /// The folders of a clean world are clean after runs that make each identity once, and that edit
 /// one only in the folder where it was made. This needs that no two events that make an identity

@@ -11,13 +11,17 @@ mod world_laws;
 
 pub use exchange_laws::{
     clean_folders_agree_after_a_full_exchange, clean_worlds_agree_after_a_full_exchange,
-    full_exchanges_of_clean_folders_are_done, told_worlds_are_equal_unless_a_limit_is_met,
+    events_are_one_pull, full_exchanges_of_clean_folders_are_done,
+    told_worlds_are_equal_unless_a_limit_is_met,
 };
 pub use folder_laws::{
     clean_folders_refuse_no_bug_but_for_a_limit, clean_folders_refuse_no_copy,
     clean_pulls_without_a_limit_refuse_no_bug,
 };
-pub use home_laws::{people_of_clean_worlds_have_homes, told_worlds_have_clean_people};
+pub use home_laws::{
+    new_users_alone_make_identities, people_of_clean_worlds_have_homes,
+    told_worlds_have_clean_people,
+};
 pub use run_laws::{
     clean_runs_are_refused_for_no_taken_name, clean_runs_refuse_bugs_by_a_limit_alone,
     operations_of_unlike_seeds_stand_once, runs_of_unlike_seeds_are_fresh,
