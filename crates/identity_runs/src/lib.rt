@@ -1,5 +1,5 @@
-//! Identities over any number of runs: one that is made once and edited only where it was made is
-//! never refused, and full exchanges in which each pull is done leave all folders the same
+//! Identities over any number of runs: no merge refuses one that is made once and edited only where
+//! it was made, and full exchanges in which each pull is done leave all folders the same
 //! identities. No call of a law does anything.
 #![tactic(auto)]
 
