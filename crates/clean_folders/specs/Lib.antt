@@ -1,8 +1,13 @@
 pub mod Clean
+pub mod ExchangeLaws
+pub mod FolderLaws
 pub mod Hashes
+pub mod HomeLaws
 pub mod Names
+pub mod RunLaws
 pub mod Seeds
 pub mod Unlimited
+pub mod WorldLaws
 pub mod WorldPeople
 pub mod WorldSeeds
 pub mod Worlds
