@@ -2,16 +2,8 @@
 #![tactic(auto)]
 
 #[cfg(test)]
-mod batches;
-#[cfg(test)]
-mod callers;
-#[cfg(test)]
 mod objects;
 #[cfg(test)]
 mod refs;
 #[cfg(test)]
-mod store_callers;
-#[cfg(test)]
 mod stores;
-#[cfg(test)]
-mod views;
