@@ -2,10 +2,6 @@
 #![tactic(auto)]
 
 #[cfg(test)]
-mod chains;
-#[cfg(test)]
 mod graphs;
-#[cfg(test)]
-mod searches;
 #[cfg(test)]
 mod walks;
