@@ -1,8 +1,7 @@
 //! What the first digits of comments' ids find.
-use crate::calls::{find_comment, set_head, the_name};
 use fixtures::{CREATE, Disk, id, put_commit, put_files, put_pack};
 use gb_text::Id;
-use repo_state::{FindStop, Missed, Side};
+use repo_state::{Side, find_comment, set_head};
 use std::test::Fail;
 
 const AUTHOR: &[u8] = b"0a0a0a0a0a0a0a0a0a0a0a0a0a0a0a0a0a0a0a0a0a0a0a0a0a0a0a0a0a0a0a0a";
@@ -24,12 +23,6 @@ const FIRST: &str = "3399112f322747fd1e73d3152d89c7d5504e61a78063d83421c85ee80fe
 
 const SECOND: &str = "3399112f3a2747bd1e73d3156d89c6d550fe61ab806318342cc85ee80febc8f8";
 
-// The id of a damaged bug, five digits of which are the bug's, and the path of its ref.
-const DAMAGED: &str = "3912f00000000000000000000000000000000000000000000000000000000000";
-
-const DAMAGED_PATH: &str =
-    "f/refs/bugs/3912f00000000000000000000000000000000000000000000000000000000000";
-
 // Makes the bug with both comments.
 fn make_bug(disk: &mut Disk) -> Result<(), Fail> {
     disk.put(AUTHOR_PATH, b"x")?;
@@ -37,81 +30,40 @@ fn make_bug(disk: &mut Disk) -> Result<(), Fail> {
     let files = ["create-clock-1", "edit-clock-1", "ops", "version-4"];
     let tree = put_files(disk, &files, &ops)?;
     let head = put_commit(disk, &tree, &[])?;
-    set_head(disk, &Side::Bugs, &id(BUG)?, &head)?;
+    let (store, folder) = (&mut disk.store, &disk.folder);
+    set_head(disk.alloc, store, folder, &Side::Bugs, &id(BUG)?, &head)?;
     Ok(())
 }
 
-// Whether an answer is that both comments fit.
-fn are_both(answer: Result<Id, FindStop>) -> Result<bool, Fail> {
-    let (first, second) = (id(FIRST)?, id(SECOND)?);
-    Ok(match answer {
-        Err(FindStop::Missed(Missed::Ambiguous(least, next))) => least == first && next == second,
-        _ => false,
-    })
-}
-
-// Whether an answer is that no comment fits.
-fn is_none(answer: Result<Id, FindStop>) -> bool {
-    matches!(answer, Err(FindStop::Missed(Missed::NotFound)))
-}
-
-// Whether an answer is that the damaged bug is.
-fn is_damaged(answer: Result<Id, FindStop>) -> bool {
-    match answer {
-        Err(FindStop::Missed(Missed::Damaged(path))) => path.as_str() == DAMAGED_PATH,
-        _ => false,
+// The operation that made the only comment that an argument finds.
+fn found(disk: &mut Disk, word: &str) -> Option<Id> {
+    match find_comment(disk.alloc, &mut disk.store, &disk.folder, word) {
+        Ok(found) => Some(found.entry.comment),
+        Err(_) => None,
     }
 }
+
+// Arguments, and the operations that made the only comments that they fit.
+const FOUND: &[(&str, &str)] = &[
+    ("3399112f32", BUG),
+    (FIRST, BUG),
+    ("3399112f3a", COMMENT_ID),
+    (SECOND, COMMENT_ID),
+    ("3399112f3", ""),
+    ("3399112f3b", ""),
+    (BUG, ""),
+];
 
 #[test]
 fn a_comment_is_found_by_the_digits_that_it_has_alone(rt: HostRuntime) -> Result<(), Fail> {
     let mut disk = Disk::new(rt.alloc())?;
     make_bug(&mut disk)?;
-    for word in ["3", "3399112f3"] {
-        assert!(rt; are_both(find_comment(&mut disk, word))?, "{word}");
+    for (word, made_by) in FOUND {
+        assert_eq!(rt;
+            found(&mut disk, word),
+            Id::read(made_by.as_bytes()),
+            "{word}"
+        );
     }
-    for word in ["3399112f32", FIRST] {
-        assert_eq!(rt; find_comment(&mut disk, word)?, id(BUG)?);
-    }
-    for word in ["3399112f3a", SECOND] {
-        assert_eq!(rt; find_comment(&mut disk, word)?, id(COMMENT_ID)?);
-    }
-    Ok(())
-}
-
-// Arguments that fit no comment: the last four fit the bug.
-const OTHERS: &[&str] = &[
-    "",
-    "3399112F32",
-    "3399112f322747fd1e73d3152d89c7d5504e61a78063d83421c85ee80fe7c8f80",
-    "4",
-    BUG,
-    "30",
-    "39",
-    "339912",
-    "3399112f3b",
-];
-
-#[test]
-fn other_digits_find_no_comment(rt: HostRuntime) -> Result<(), Fail> {
-    let mut disk = Disk::new(rt.alloc())?;
-    make_bug(&mut disk)?;
-    for word in OTHERS {
-        assert!(rt; is_none(find_comment(&mut disk, word)), "{word}");
-    }
-    Ok(())
-}
-
-#[test]
-fn a_damaged_bug_is_told_if_its_digits_fit(rt: HostRuntime) -> Result<(), Fail> {
-    let mut disk = Disk::new(rt.alloc())?;
-    make_bug(&mut disk)?;
-    set_head(&mut disk, &Side::Bugs, &id(DAMAGED)?, &the_name()?)?;
-    for word in ["3", "3b", "3399112f"] {
-        assert!(rt; is_damaged(find_comment(&mut disk, word)), "{word}");
-    }
-    assert!(rt; is_none(find_comment(&mut disk, "4")));
-    assert!(rt; are_both(find_comment(&mut disk, "3399112f3"))?);
-    assert_eq!(rt; find_comment(&mut disk, SECOND)?, id(COMMENT_ID)?);
     Ok(())
 }

@@ -2,13 +2,9 @@
 #![tactic(auto)]
 
 #[cfg(test)]
-mod calls;
-#[cfg(test)]
 mod clocks;
 #[cfg(test)]
 mod comments;
-#[cfg(test)]
-mod finding;
 #[cfg(test)]
 mod people;
 #[cfg(test)]

@@ -1,151 +1,114 @@
-//! Refs that are set, read and listed, damaged ones, and stores that fail.
-use crate::calls::{
-    BUG_PATH, all_refs, has_failed, head, heads, ids, is_damaged, is_disk, remote, set_head,
-    stands, the_id, the_name,
-};
-use fixtures::{Disk, id};
-use gb_store::Store;
+//! Where the refs of each side stand, and that each call on them can succeed.
+use fixtures::{Disk, EMPTY, text_at};
+use gb_store::StoreFault;
+use gb_text::{Id, Name};
 use remote_name::RemoteName;
-use repo_state::{EntityRef, HeadEntry, Side};
+use repo_state::{HeadEntry, Side};
+use std::alloc::Global;
 use std::test::Fail;
 
+const BUG: Id = Id { bytes: [10; 32] };
+
+fn set_head(disk: &mut Disk, side: &Side) -> Result<(), StoreFault> {
+    repo_state::set_head(
+        disk.alloc,
+        &mut disk.store,
+        &disk.folder,
+        side,
+        &BUG,
+        &EMPTY,
+    )
+}
+
+// The head of the bug, if it is read.
+fn head(disk: &mut Disk) -> Option<Name> {
+    let read = repo_state::head(disk.alloc, &mut disk.store, &disk.folder, &Side::Bugs, &BUG);
+    read.ok().flatten()
+}
+
+fn stands(disk: &mut Disk) -> Result<bool, StoreFault> {
+    repo_state::stands(disk.alloc, &mut disk.store, &disk.folder, &Side::Bugs, &BUG)
+}
+
+// The bug that digits find.
+fn find(disk: &mut Disk, digits: &str) -> Option<Id> {
+    repo_state::find(
+        disk.alloc,
+        &mut disk.store,
+        &disk.folder,
+        &Side::Bugs,
+        digits,
+    )
+    .ok()
+}
+
+// Whether the bug and its head are listed alone.
+fn lists_heads(disk: &mut Disk) -> bool {
+    match repo_state::heads(disk.alloc, &mut disk.store, &disk.folder, &Side::Bugs) {
+        Ok(heads) => heads.as_slice()
+            == &[HeadEntry {
+                id: BUG,
+                name: EMPTY,
+            }][..],
+        Err(_) => false,
+    }
+}
+
+// How many refs of bugs stand, and how many of them have a head.
+fn count_refs(disk: &mut Disk) -> Result<usize, StoreFault> {
+    let refs = repo_state::all_refs(disk.alloc, &mut disk.store, &disk.folder, &Side::Bugs)?;
+    Ok(refs.len())
+}
+
+// How many ids of bugs are listed.
+fn count_ids(disk: &mut Disk) -> Result<usize, StoreFault> {
+    let ids = repo_state::ids(disk.alloc, &mut disk.store, &disk.folder, &Side::Bugs)?;
+    Ok(ids.len())
+}
+
 #[test]
-fn a_head_that_is_set_is_read(rt: HostRuntime) -> Result<(), Fail> {
+fn a_head_that_is_set_is_found(rt: HostRuntime) -> Result<(), Fail> {
     let mut disk = Disk::new(rt.alloc())?;
-    let (id, name) = (the_id()?, the_name()?);
-    assert_eq!(rt; head(&mut disk, &Side::Bugs, &id)?, None);
-    set_head(&mut disk, &Side::Bugs, &id, &name)?;
-    assert_eq!(rt; disk.store.writes(), 1);
-    assert_eq!(rt; head(&mut disk, &Side::Bugs, &id)?, Some(name));
+    assert_eq!(rt; set_head(&mut disk, &Side::Bugs), Ok(()));
+    assert_eq!(rt; head(&mut disk), Some(EMPTY));
+    assert_eq!(rt; stands(&mut disk), Ok(true));
+    assert_eq!(rt; find(&mut disk, "0a0"), Some(BUG));
     Ok(())
 }
 
 #[test]
 fn a_head_that_is_set_is_listed(rt: HostRuntime) -> Result<(), Fail> {
     let mut disk = Disk::new(rt.alloc())?;
-    let (id, name) = (the_id()?, the_name()?);
-    set_head(&mut disk, &Side::Bugs, &id, &name)?;
-    let heads = heads(&mut disk, &Side::Bugs)?;
-    assert_eq!(rt; heads.as_slice(), &[HeadEntry { id, name }][..]);
-    let ids = ids(&mut disk, &Side::Bugs)?;
-    assert_eq!(rt; ids.as_slice(), &[id][..]);
-    assert_eq!(rt; disk.store.reads(), 0);
+    assert_eq!(rt; set_head(&mut disk, &Side::Bugs), Ok(()));
+    assert!(rt; lists_heads(&mut disk));
+    assert_eq!(rt; count_refs(&mut disk), Ok(1));
+    assert_eq!(rt; count_ids(&mut disk), Ok(1));
     Ok(())
 }
 
-// Whether no ref of a side stands before it is set, and then it does.
-fn begins_to_stand(disk: &mut Disk, side: &Side) -> Result<bool, Fail> {
-    let id = the_id()?;
-    let before = stands(disk, side, &id)?;
-    set_head(disk, side, &id, &the_name()?)?;
-    Ok(!before && stands(disk, side, &id)?)
+// The remote of the tests.
+fn origin(alloc: Global) -> Result<RemoteName, Fail> {
+    Ok(RemoteName::read(alloc, "origin")?.ok_or("a remote")?)
+}
+
+// Whether a ref that is set on a side stands in the directory.
+fn is_set_in(disk: &mut Disk, side: Side, dir: &str) -> Result<bool, Fail> {
+    set_head(disk, &side)?;
+    let path = format!(in disk.alloc;
+        "f/{dir}/0a0a0a0a0a0a0a0a0a0a0a0a0a0a0a0a0a0a0a0a0a0a0a0a0a0a0a0a0a0a0a0a"
+    )?;
+    let text = text_at(disk, &path)?;
+    Ok(text.is_some_and(|text| text.as_str() == "e69de29bb2d1d6434b8b29ae775ad8c2e48c5391\n"))
 }
 
 #[test]
-fn the_refs_of_each_side_stand_apart(rt: HostRuntime) -> Result<(), Fail> {
-    let alloc = rt.alloc();
-    let mut disk = Disk::new(alloc)?;
-    let sides = [
-        Side::Bugs,
-        Side::Identities,
-        Side::RemoteBugs(remote(alloc, "origin")?),
-        Side::RemoteIdentities(remote(alloc, "origin")?),
-        Side::RemoteBugs(remote(alloc, "other")?),
-    ];
-    for side in &sides {
-        assert!(rt; begins_to_stand(&mut disk, side)?, "{side:?}");
-    }
-    Ok(())
-}
-
-const REMOTE_PATH: &str =
-    "f/refs/remotes/origin/identities/000000000000000000000000000000000000000000000000000000000000000a";
-
-#[test]
-fn the_place_of_a_remote_names_it(rt: HostRuntime) -> Result<(), Fail> {
+fn each_side_has_a_directory(rt: HostRuntime) -> Result<(), Fail> {
     let mut disk = Disk::new(rt.alloc())?;
-    disk.put(REMOTE_PATH, b"x")?;
-    let side = Side::RemoteIdentities(remote(rt.alloc(), "origin")?);
-    assert!(rt; is_damaged(head(&mut disk, &side, &the_id()?), REMOTE_PATH));
-    Ok(())
-}
-
-#[test]
-fn names_of_remotes_are_read(rt: HostRuntime) -> Result<(), Fail> {
-    for name in ["a", "origin", "Az_-09"] {
-        assert_eq!(rt; remote(rt.alloc(), name)?.as_str(), name);
-    }
-    Ok(())
-}
-
-#[test]
-fn texts_that_name_no_remote_are_none(rt: HostRuntime) -> Result<(), Fail> {
-    for text in ["", "..", "a/b", "a b", "a\n", "\u{e9}"] {
-        assert!(rt; RemoteName::read(rt.alloc(), text)?.is_none(), "{text:?}");
-    }
-    Ok(())
-}
-
-const LONGEST: &str = "0123456789012345678901234567890123456789012345678901234567890123";
-
-const LONGER: &str = "01234567890123456789012345678901234567890123456789012345678901234";
-
-#[test]
-fn names_of_remotes_have_at_most_64_bytes(rt: HostRuntime) -> Result<(), Fail> {
-    assert_eq!(rt; remote(rt.alloc(), LONGEST)?.as_str(), LONGEST);
-    assert!(rt; RemoteName::read(rt.alloc(), LONGER)?.is_none());
-    Ok(())
-}
-
-#[test]
-fn a_bad_ref_is_damaged(rt: HostRuntime) -> Result<(), Fail> {
-    let mut disk = Disk::new(rt.alloc())?;
-    disk.put(BUG_PATH, b"x")?;
-    assert!(rt; is_damaged(head(&mut disk, &Side::Bugs, &the_id()?), BUG_PATH));
-    assert!(rt; is_damaged(heads(&mut disk, &Side::Bugs), BUG_PATH));
-    Ok(())
-}
-
-#[test]
-fn a_bad_ref_counts(rt: HostRuntime) -> Result<(), Fail> {
-    let mut disk = Disk::new(rt.alloc())?;
-    disk.put(BUG_PATH, b"x")?;
-    let id = the_id()?;
-    let ids = ids(&mut disk, &Side::Bugs)?;
-    assert_eq!(rt; ids.as_slice(), &[id][..]);
-    assert!(rt; stands(&mut disk, &Side::Bugs, &id)?);
-    Ok(())
-}
-
-#[test]
-fn reads_of_refs_that_fail_are_told(rt: HostRuntime) -> Result<(), Fail> {
-    let calls = [(0, true), (1, true), (2, true), (3, true)];
-    let mut disk = Disk::failing(rt.alloc(), &calls)?;
-    let id = the_id()?;
-    assert!(rt; has_failed(ids(&mut disk, &Side::Bugs)));
-    assert!(rt; has_failed(stands(&mut disk, &Side::Bugs, &id)));
-    assert!(rt; is_disk(head(&mut disk, &Side::Bugs, &id)));
-    assert!(rt; is_disk(heads(&mut disk, &Side::Bugs)));
-    Ok(())
-}
-
-#[test]
-fn bad_refs_are_listed_without_a_head(rt: HostRuntime) -> Result<(), Fail> {
-    let mut disk = Disk::new(rt.alloc())?;
-    let before = id("0000000000000000000000000000000000000000000000000000000000000009")?;
-    assert_eq!(rt; all_refs(&mut disk, &Side::Bugs)?.as_slice(), &[][..]);
-    disk.put(BUG_PATH, b"x")?;
-    set_head(&mut disk, &Side::Bugs, &before, &the_name()?)?;
-    let good = EntityRef {
-        id: before,
-        head: Some(the_name()?),
-    };
-    let bad = EntityRef {
-        id: the_id()?,
-        head: None,
-    };
-    let refs = all_refs(&mut disk, &Side::Bugs)?;
-    assert_eq!(rt; refs.as_slice(), &[good, bad][..]);
-    assert_eq!(rt; disk.store.reads(), 0);
+    let bugs = Side::RemoteBugs(origin(rt.alloc())?);
+    let identities = Side::RemoteIdentities(origin(rt.alloc())?);
+    assert!(rt; is_set_in(&mut disk, Side::Bugs, "refs/bugs")?);
+    assert!(rt; is_set_in(&mut disk, Side::Identities, "refs/identities")?);
+    assert!(rt; is_set_in(&mut disk, bugs, "refs/remotes/origin/bugs")?);
+    assert!(rt; is_set_in(&mut disk, identities, "refs/remotes/origin/identities")?);
     Ok(())
 }
