@@ -2,12 +2,8 @@
 #![tactic(auto)]
 
 #[cfg(test)]
-mod copies;
-#[cfg(test)]
 mod limits;
-#[cfg(test)]
-mod parts;
 #[cfg(test)]
 mod sides;
 #[cfg(test)]
-mod wide;
+mod trees;

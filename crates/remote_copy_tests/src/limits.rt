@@ -1,6 +1,6 @@
 //! The limits of a copy.
 use crate::sides::Sides;
-use fixtures::{filled, put_commit, put_object, put_under};
+use fixtures::{filled, put_object};
 use gb_text::Name;
 use git_object::Kind;
 use remote_copy::CopyFault;
@@ -9,74 +9,70 @@ use std::test::Fail;
 // A commit whose tree has so many trees below it, one below the other.
 fn put_deep(sides: &mut Sides, depth: usize) -> Result<Name, Fail> {
     let mut tree = sides.tree(&[])?;
-    for _ in 0..depth {
+    for _ in 1..depth {
         tree = sides.tree(&[("40000", "in", tree)])?;
     }
-    put_commit(&mut sides.disk, &tree, &[])
+    sides.commit(&[("40000", "in", tree)], &[])
 }
 
-// So many commits, one below the other.
-fn put_chain(sides: &mut Sides, count: usize) -> Result<Name, Fail> {
-    let tree = sides.tree(&[])?;
-    let mut head = put_commit(&mut sides.disk, &tree, &[])?;
-    for _ in 1..count {
-        head = put_commit(&mut sides.disk, &tree, &[head])?;
-    }
-    Ok(head)
+// Whether so many trees may lie below a commit's tree, and not one more.
+fn is_deepest(sides: &mut Sides, depth: usize) -> Result<bool, Fail> {
+    let deepest = put_deep(sides, depth)?;
+    let deeper = put_deep(sides, depth.saturating_add(1))?;
+    let is_copied = sides.copy(&deepest, true) == Ok(18);
+    Ok(is_copied && sides.copy(&deeper, true) == Err(CopyFault::TooLarge(17)))
 }
 
 #[test]
 fn a_tree_lies_at_most_16_trees_deep(rt: HostRuntime) -> Result<(), Fail> {
-    let mut sides = Sides::new(rt.alloc())?;
-    let deepest = put_deep(&mut sides, 16)?;
-    sides.answers(&deepest, true, Ok(18))?;
-    let deeper = put_deep(&mut sides, 17)?;
-    sides.answers(&deeper, true, Err(CopyFault::TooLarge(17)))?;
+    let is_deepest = is_deepest(&mut Sides::new(rt.alloc())?, 16);
+    assert!(rt; is_deepest?);
     Ok(())
 }
 
-#[test]
-fn a_tree_that_was_copied_is_judged_where_it_lies_deeper(rt: HostRuntime) -> Result<(), Fail> {
-    let mut sides = Sides::new(rt.alloc())?;
-    let mut tree = sides.tree(&[])?;
-    for _ in 0..9 {
-        tree = sides.tree(&[("40000", "in", tree)])?;
+// So many commits, one below the other.
+fn put_chain(sides: &mut Sides, count: usize) -> Result<Name, Fail> {
+    let mut head = sides.commit(&[], &[])?;
+    for _ in 1..count {
+        head = sides.commit(&[], &[head])?;
     }
-    let low = put_commit(&mut sides.disk, &tree, &[])?;
-    for _ in 0..8 {
-        tree = sides.tree(&[("40000", "in", tree)])?;
-    }
-    let high = put_commit(&mut sides.disk, &tree, &[low])?;
-    sides.answers(&low, true, Ok(11))?;
-    sides.answers(&high, true, Err(CopyFault::TooLarge(17)))?;
-    Ok(())
+    Ok(head)
+}
+
+// Whether a copy follows so many commits, and not one more.
+fn is_most(sides: &mut Sides, count: usize) -> Result<bool, Fail> {
+    let head = put_chain(sides, count)?;
+    let next = sides.commit(&[], &[head])?;
+    let is_copied = sides.copy(&head, false) == Ok(65_537);
+    let is_refused = sides.copy(&next, false) == Err(CopyFault::TooLarge(65_537));
+    Ok(is_copied && is_refused && sides.copy(&next, true) == Ok(1))
 }
 
 #[test]
 fn a_copy_follows_at_most_65536_commits(rt: HostRuntime) -> Result<(), Fail> {
-    let mut sides = Sides::new(rt.alloc())?;
-    let head = put_chain(&mut sides, 65_536)?;
-    let tree = sides.tree(&[])?;
-    let next = put_commit(&mut sides.disk, &tree, &[head])?;
-    sides.answers(&head, false, Ok(65_537))?;
-    sides.answers(&next, false, Err(CopyFault::TooLarge(65_537)))?;
-    sides.answers(&next, true, Ok(1))?;
+    let is_most = is_most(&mut Sides::new(rt.alloc())?, 65_536);
+    assert!(rt; is_most?);
     Ok(())
+}
+
+// A commit whose tree has one blob, of so many bytes.
+fn put_long(sides: &mut Sides, count: usize) -> Result<Name, Fail> {
+    let content = filled(sides.disk.alloc, b'x', count)?;
+    let blob = put_object(&mut sides.disk, Kind::Blob, &content)?;
+    sides.commit(&[("100644", "long", blob)], &[])
+}
+
+// Whether a blob of so many bytes is copied, and not one with one more.
+fn is_longest(sides: &mut Sides, count: usize) -> Result<bool, Fail> {
+    let whole = put_long(sides, count)?;
+    let longer = put_long(sides, count.saturating_add(1))?;
+    let is_copied = sides.copy(&whole, true) == Ok(3);
+    Ok(is_copied && sides.copy(&longer, true) == Err(CopyFault::TooLarge(4_194_305)))
 }
 
 #[test]
 fn an_object_has_at_most_4194304_bytes(rt: HostRuntime) -> Result<(), Fail> {
-    let mut sides = Sides::new(rt.alloc())?;
-    let whole = filled(rt.alloc(), b'x', 4_194_291)?;
-    let blob = put_object(&mut sides.disk, Kind::Blob, &whole)?;
-    let tree = sides.tree(&[("100644", "large", blob)])?;
-    let head = put_commit(&mut sides.disk, &tree, &[])?;
-    sides.answers(&head, false, Ok(3))?;
-    put_under(
-        &mut sides.disk,
-        &blob,
-        &filled(rt.alloc(), b'x', 4_194_305)?,
-    )?;
-    sides.answers(&head, false, Err(CopyFault::TooLarge(4_194_305)))?;
+    let is_longest = is_longest(&mut Sides::new(rt.alloc())?, 4_194_291);
+    assert!(rt; is_longest?);
     Ok(())
 }
