@@ -1,7 +1,8 @@
 //! Packs of operations of any type: worked texts, and that calls succeed.
+use fixtures::id;
 use gb_text::{Bytes, Id, List, Memory, Name};
 use lamport::Clock;
-use op_kind::{AnyOp, OpFault, OpKind, Place};
+use op_kind::{AnyOp, OpKind, Place};
 use op_pack::{Pack, PackFault, TreeHead};
 use std::alloc::Global;
 use std::test::Fail;
@@ -57,15 +58,8 @@ fn first_place<K: OpKind>(pack: &Pack<K>) -> Option<Place> {
     pack.ops.as_slice().first().map(|op| op.common().place)
 }
 
-/// Writes a pack and reads it again.
-fn carry<K: OpKind>(alloc: Global, pack: &Pack<K>) -> Result<Pack<K>, PackFault> {
-    let written = pack.write(alloc)?;
-    Pack::read(alloc, &head(), written.text.as_slice())
-}
-
-#[test]
-fn a_pack_without_operations_is_written_and_read(rt: HostRuntime) -> Result<(), Fail> {
-    let alloc = rt.alloc();
+/// The text of a pack without operations.
+fn empty_text(alloc: Global) -> Result<Bytes, Memory> {
     let pack: Pack<AnyOp> = Pack {
         id: AUTHOR,
         version: 4,
@@ -74,103 +68,70 @@ fn a_pack_without_operations_is_written_and_read(rt: HostRuntime) -> Result<(), 
         author: AUTHOR,
         ops: List::new(alloc),
     };
-    let wanted = joined(alloc, &[FRONT, BACK])?;
-    assert_eq!(rt; written(alloc, &pack)?.as_slice(), wanted.as_slice());
-    let again = carry(alloc, &pack)?;
-    assert_eq!(rt; (again.author, again.ops.len()), (AUTHOR, 0));
-    assert_eq!(rt;
-        (again.version, again.edit, again.create),
-        (4, head().edit, head().create)
-    );
+    written(alloc, &pack)
+}
+
+#[test]
+fn a_pack_without_operations_is_written(rt: HostRuntime) -> Result<(), Fail> {
+    let wanted = joined(rt.alloc(), &[FRONT, BACK])?;
+    let text = empty_text(rt.alloc())?;
+    assert!(rt; text.as_slice() == wanted.as_slice());
     Ok(())
+}
+
+/// The author of a text's pack, how many operations it has, its id, and the place of its first operation.
+fn numbers(alloc: Global, text: &[u8]) -> Result<(Id, usize, Id, Option<Place>), PackFault> {
+    let pack = read(alloc, text)?;
+    Ok((pack.author, pack.ops.len(), pack.id, first_place(&pack)))
 }
 
 #[test]
 fn unknown_members_and_white_space_are_accepted(rt: HostRuntime) -> Result<(), Fail> {
-    let alloc = rt.alloc();
     let text =
         b"{ \"ops\" : null , \"x\":[1.5,{\"y\":null}], \"author\":{\"name\":\"n\",\"id\":\"0101010101010101010101010101010101010101010101010101010101010101\"} }";
-    let pack = read(alloc, text)?;
-    assert_eq!(rt; (pack.author, pack.ops.len()), (AUTHOR, 0));
-    assert_eq!(rt;
-        pack.id.text().as_slice(),
-        b"d7807d2f68bf4e484bbb556f83546789f1710953e4f097a3f053a1d034e354fb".as_slice()
-    );
+    let wanted = id("d7807d2f68bf4e484bbb556f83546789f1710953e4f097a3f053a1d034e354fb")?;
+    assert_eq!(rt; numbers(rt.alloc(), text), Ok((AUTHOR, 0, wanted, None)));
     Ok(())
+}
+
+/// The place of the only operation of a pack, with white space beside it.
+fn place_of(alloc: Global, operation: &[u8]) -> Result<Option<Place>, Fail> {
+    let text = joined(alloc, &[FRONT, b" ", operation, b"\n", BACK])?;
+    Ok(numbers(alloc, &text)?.3)
 }
 
 #[test]
 fn an_operation_is_named_by_its_text_as_it_stands(rt: HostRuntime) -> Result<(), Fail> {
-    let alloc = rt.alloc();
-    let text = joined(alloc, &[FRONT, b" ", OPERATION, b"\n", BACK])?;
-    let pack = read(alloc, &text)?;
-    assert_eq!(rt; pack.ops.len(), 1);
-    let place = first_place(&pack).ok_or("an operation")?;
-    assert_eq!(rt;
-        place.id.text().as_slice(),
-        b"ab9a0be2162978b694c642ad66c46cc56bca4342943eefe0fa10a08ba54db890".as_slice()
-    );
-    assert_eq!(rt;
-        (place.author, place.edit, place.create),
-        (AUTHOR, 7, Some(3))
-    );
-    let again = carry(alloc, &pack)?;
-    assert_eq!(rt; first_place(&again), Some(place));
+    let place = place_of(rt.alloc(), OPERATION)?;
+    let wanted = Place {
+        id: id("ab9a0be2162978b694c642ad66c46cc56bca4342943eefe0fa10a08ba54db890")?,
+        author: AUTHOR,
+        edit: 7,
+        create: Some(3),
+    };
+    assert_eq!(rt; place, Some(wanted));
     Ok(())
 }
 
-#[test]
-fn a_bad_operation_is_told_by_its_index(rt: HostRuntime) -> Result<(), Fail> {
-    let alloc = rt.alloc();
-    let text = joined(alloc, &[FRONT, OPERATION, b",[]", BACK])?;
-    assert!(rt;
-        matches!(
-            read(alloc, &text),
-            Err(PackFault::BadOperation(1, OpFault::NotObject))
-        )
-    );
-    Ok(())
-}
-
-#[test]
-fn other_texts_are_no_packs(rt: HostRuntime) -> Result<(), Fail> {
-    let alloc = rt.alloc();
-    let author: &[u8] =
-        b"\"author\":{\"id\":\"0101010101010101010101010101010101010101010101010101010101010101\"}";
-    let refused: [&[&[u8]]; 10] = [
-        &[b"[]"],
-        &[b"{}"],
-        &[b"{\"author\":null}"],
-        &[b"{\"author\":{}}"],
-        &[b"{\"author\":{\"id\":\"01\"}}"],
-        &[b"{", author, b",", author, b"}"],
-        &[b"{", author, b",\"ops\":null,\"\\u006fps\":[]}"],
-        &[
-            b"{\"author\":{\"id\":\"0101010101010101010101010101010101010101010101010101010101010101\",\"id\":\"0101010101010101010101010101010101010101010101010101010101010101\"}}",
-        ],
-        &[b"{", author, b",\"ops\":{}}"],
-        &[b"{", author, b",\"x\":\"\xff\"}"],
-    ];
-    for texts in refused {
-        let text = joined(alloc, texts)?;
-        assert!(rt; matches!(read(alloc, &text), Err(PackFault::BadPack)));
-    }
-    let text = joined(alloc, &[b"{", author, b"}"])?;
-    assert_eq!(rt; read(alloc, &text)?.ops.len(), 0);
-    Ok(())
-}
-
-#[test]
-fn a_pack_has_at_most_4096_operations(rt: HostRuntime) -> Result<(), Fail> {
-    let alloc = rt.alloc();
+/// The text of a pack of so many operations.
+fn many(alloc: Global, count: usize) -> Result<Vec<u8>, Memory> {
     let mut text = joined(alloc, &[FRONT, OPERATION])?;
-    for _ in 1..4096 {
+    for _ in 1..count {
         text.push(b',')?;
         text.extend_from_slice(OPERATION)?;
     }
-    let most = joined(alloc, &[&text, BACK])?;
-    assert_eq!(rt; read(alloc, &most)?.ops.len(), 4096);
-    let more = joined(alloc, &[&text, b",", OPERATION, BACK])?;
-    assert!(rt; matches!(read(alloc, &more), Err(PackFault::TooLarge(4097))));
-    Ok(())
+    text.extend_from_slice(BACK)?;
+    Ok(text)
+}
+
+/// How many operations such a text has, or its fault.
+fn counted(alloc: Global, count: usize) -> Result<usize, PackFault> {
+    let text = many(alloc, count)?;
+    Ok(numbers(alloc, &text)?.1)
+}
+
+#[test]
+fn a_pack_has_at_most_4096_operations(rt: HostRuntime) {
+    assert_eq!(rt; counted(rt.alloc(), 4096), Ok(4096));
+    assert_eq!(rt; counted(rt.alloc(), 4097), Err(PackFault::TooLarge(4097)));
 }

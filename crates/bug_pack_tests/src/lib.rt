@@ -8,8 +8,6 @@ mod callers;
 #[cfg(test)]
 mod heads;
 #[cfg(test)]
-mod kinds;
-#[cfg(test)]
 mod tests;
 
 pub use callers::{bug_of_packs, bugs_read_what_they_write, fold_both};

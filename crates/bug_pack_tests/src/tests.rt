@@ -4,7 +4,7 @@ use bug_ops::BugOp;
 use fixtures::{id, pack_text};
 use gb_text::{Id, Memory, Name};
 use lamport::Clock;
-use op_kind::{OpFault, OpKind, Place};
+use op_kind::OpKind;
 use op_pack::{Pack, PackFault, TreeHead};
 use std::alloc::Global;
 use std::test::Fail;
@@ -55,14 +55,6 @@ fn first_id<K: OpKind>(pack: &Pack<K>) -> Option<Id> {
     pack.ops.as_slice().first().map(|op| op.common().place.id)
 }
 
-/// The place of the first operation of a pack, once that is written and read there.
-fn first_at<K: OpKind>(alloc: Global, pack: &Pack<K>, there: Place) -> Result<Place, Fail> {
-    let op = pack.ops.as_slice().first().ok_or("an operation")?;
-    let text = op.write_op(alloc)?;
-    let again = K::read_op(alloc, there, text.as_slice())?;
-    Ok(again.common().place)
-}
-
 /// The title with which the first operation of a pack begins a bug.
 fn first_title(pack: &Pack<BugOp>) -> &str {
     match pack.ops.as_slice().first() {
@@ -101,21 +93,6 @@ fn operations_that_are_null_are_none(rt: HostRuntime) -> Result<(), Fail> {
     Ok(())
 }
 
-/// The fault of a text that is no pack.
-fn fault_of<K: OpKind>(alloc: Global, text: &[u8]) -> Option<PackFault> {
-    read::<K>(alloc, text).err()
-}
-
-#[test]
-fn a_bad_operation_of_a_bug_is_told_by_its_index(rt: HostRuntime) -> Result<(), Fail> {
-    let alloc = rt.alloc();
-    let unknown = b"{\"nonce\":\"AAAAAAAAAAAAAAAAAAAAAAAAAAA=\",\"timestamp\":0,\"type\":9}";
-    let text = pack_text(alloc, AUTHOR_DIGITS, &[CREATION, unknown])?;
-    let wanted = PackFault::BadOperation(1, OpFault::UnknownType(9));
-    assert_eq!(rt; fault_of::<BugOp>(alloc, &text), Some(wanted));
-    Ok(())
-}
-
 fn two_packs<K: OpKind>(alloc: Global) -> Result<Vec<Pack<K>>, Fail> {
     let first = pack_of::<K>(alloc, &[CREATION, COMMENT])?;
     let second = pack_of::<K>(alloc, &[COMMENT])?;
@@ -147,19 +124,5 @@ fn a_bug_and_its_row_go_along(rt: HostRuntime) -> Result<(), Fail> {
     let pack = pack_of::<BugOp>(rt.alloc(), &[CREATION, COMMENT])?;
     let comments = comments_of_both(rt.alloc(), pack.ops.as_slice());
     assert_eq!(rt; comments?, (2, 2));
-    Ok(())
-}
-
-#[test]
-fn an_operation_is_carried_to_another_place(rt: HostRuntime) -> Result<(), Fail> {
-    let pack = pack_of::<BugOp>(rt.alloc(), &[CREATION])?;
-    let there = Place {
-        id: AUTHOR,
-        author: AUTHOR,
-        edit: 9,
-        create: None,
-    };
-    let place = first_at(rt.alloc(), &pack, there);
-    assert_eq!(rt; place?, there);
     Ok(())
 }
