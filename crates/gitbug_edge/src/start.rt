@@ -4,8 +4,8 @@ ghost use Rattle.std.specs.Duration.{as_nanos};
 
 use crate::claims::claims_of;
 use crate::guard::look_at;
-use crate::note::noted;
-use crate::usage::explain_usage;
+use crate::outcome::{explain, explain_made, explain_memory, missing_folder};
+use crate::say::noted;
 use crate::writer::SteadyWriter;
 use bug_run::{Status, moment_of, run};
 use folder_store::{Claim, FolderStore, Locking, again};
@@ -17,7 +17,7 @@ use std::{env, io};
 use words::{Asked, read_words};
 
 /// Does what the words of the command line ask, over real folders and standard output. An error says that it was not begun.
-/// Standard error says, for people, why a run was not begun, and why it ended with another status than done or refused.
+/// Standard error says, for people, why a run was not begun, and why it ended with another status than done.
 pub fn run_words<R: Runtime + AllocGlobal + Locking>(rt: &R) -> io::Result<Status> {
     let words = noted(rt, "the arguments cannot be read", words(rt))?;
     let mut out = WriteSink::new(SteadyWriter::new(rt, io::writer(rt)));
@@ -33,14 +33,16 @@ pub fn run_over_folders<R: Runtime + AllocGlobal + Locking, K: Sink>(
     let now = noted(rt, "the clock cannot be read", seconds(rt))?;
     let seed = noted(rt, "random bytes cannot be had", random_bytes(rt))?;
     let Ok(asked) = read_words(rt.alloc(), words) else {
-        let _ = explain_memory(rt);
+        explain_memory(rt);
         return Ok(Status::Memory);
     };
     let mut disk = FolderStore::new(rt.clone()?, claims_looked_at(rt, &asked)?);
+    let missing = missing_folder(rt, words);
     let moment = moment_of(now, seed);
     let status = run(rt.alloc(), words, asked, &mut disk, out, moment);
-    explain(rt, words, &status, &disk);
     disk.leave();
+    explain(rt, words, &status, &disk);
+    explain_made(rt, missing);
     Ok(status)
 }
 
@@ -52,30 +54,8 @@ fn claims_looked_at<R: Runtime + AllocGlobal>(rt: &R, asked: &Asked) -> io::Resu
         "the folder cannot be read",
         claims_of(alloc, asked).map_err(|_| io::Error::from(AllocError)),
     )?;
-    look_at(rt, alloc, &claims)?;
+    look_at(rt, alloc, &claims, matches!(asked, Asked::List(_)))?;
     Ok(claims)
-}
-
-// Says why a run ended so, where neither its text nor the line of a refusal does.
-fn explain<R: Runtime + AllocGlobal + Locking>(
-    rt: &R,
-    words: &[String],
-    status: &Status,
-    disk: &FolderStore<R>,
-) {
-    let _ = match status {
-        Status::Usage => explain_usage(rt, words),
-        Status::Memory => explain_memory(rt),
-        Status::DiskFault => match disk.failure() {
-            Some(failure) => eprintln!(rt; "gitbug: {failure}"),
-            None => Ok(()),
-        },
-        Status::Done | Status::Refused(_) | Status::OutFault => Ok(()),
-    };
-}
-
-fn explain_memory<R: Eprint>(rt: &R) -> io::Result<()> {
-    eprintln!(rt; "gitbug: out of memory")
 }
 
 // The words after the program's name.

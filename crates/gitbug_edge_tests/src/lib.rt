@@ -2,8 +2,6 @@
 #![tactic(auto)]
 
 #[cfg(test)]
-mod exchanges;
-#[cfg(test)]
 mod explained;
 #[cfg(test)]
 mod fake;
