@@ -22,8 +22,6 @@ another person nothing is tried as `read-only`.
 """
 import argparse
 import collections
-import importlib.machinery
-import importlib.util
 import os
 import pathlib
 import re
@@ -37,17 +35,9 @@ import time
 
 sys.dont_write_bytecode = True
 BENCH = pathlib.Path(__file__).resolve().parent
+sys.path.insert(0, str(BENCH))
+import edge_parts as edge
 
-
-def imported(name):
-    """A script of this folder that has no suffix."""
-    loader = importlib.machinery.SourceFileLoader(f"gitbug_{name}", str(BENCH / name))
-    module = importlib.util.module_from_spec(importlib.util.spec_from_loader(loader.name, loader))
-    loader.exec_module(module)
-    return module
-
-
-edge = imported("edge")
 Unsound = edge.Unsound
 ERRORS = ("EIO", "ENOSPC", "EINTR", "EACCES", "ENOMEM")
 NOBODY, WAITS = 65_534, "waits"
