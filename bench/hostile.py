@@ -14,8 +14,6 @@ import argparse
 import base64
 import collections
 import hashlib
-import importlib.machinery
-import importlib.util
 import json
 import os
 import pathlib
@@ -28,23 +26,15 @@ import tempfile
 
 sys.dont_write_bytecode = True
 BENCH = pathlib.Path(__file__).resolve().parent
+sys.path.insert(0, str(BENCH))
+import run_parts as bench
+
 ROUNDS = 5
 MOST_GROWTH = 2.6
 # Below these a run's growth says little: the start of the program, and the noise of the machine.
 LEAST_MS, LEAST_MB = 40, 16
 WAIT = 600
 MOST_BYTES, MOST_PACKED, MOST_COMMITS, MOST_OPS = 4_194_304, 16_777_216, 65_536, 4_096
-
-
-def imported(name):
-    """A script of this folder that has no suffix."""
-    loader = importlib.machinery.SourceFileLoader(f"gitbug_{name}", str(BENCH / name))
-    module = importlib.util.module_from_spec(importlib.util.spec_from_loader(loader.name, loader))
-    loader.exec_module(module)
-    return module
-
-
-bench = imported("run")
 
 
 # ---- folders by hand
